@@ -212,12 +212,11 @@ fn put_outgoing(told: &mut Told, node: u16, bytes: &[u8]) {
 fn incoming(told: &mut Told, channel: &mut Chat, bytes: &[u8], from: Address) {
     told.begin(channel.address().node().number(), "incoming");
     match channel.incoming(bytes) {
-        Ok(source) => {
+        Ok(heard) => {
             told.put_number(0);
-            told.put(if source == Some(from) {
-                " source"
-            } else {
-                " none"
+            told.put(match heard {
+                Some(heard) if heard.source == from => " source",
+                _ => " none",
             });
         }
         Err(error) => told.put_number(u64::from(error.number())),

@@ -68,6 +68,7 @@ impl<N: Net> CountingNode<N> {
     /// By the clock, once a tick: a round, and sometimes a search for members outside of its view.
     pub fn round(&mut self, round: u64) -> io::Result<()> {
         let mut answer = self.runner.round();
+        self.runner.meet();
         if answer.is_ok() && round % SEEK == 0 {
             answer = self.runner.seek();
         }

@@ -207,7 +207,7 @@ impl Cases {
         bytes: &[u8],
     ) -> Result<(), AllocError> {
         match channel.incoming(bytes) {
-            Ok(Some(source)) => self.put_number(asked, u64::from(source.node().number()))?,
+            Ok(Some(heard)) => self.put_number(asked, u64::from(heard.source.node().number()))?,
             Ok(None) => self.put(asked, "of nobody")?,
             Err(error) => self.put_number("refused", u64::from(error.number()))?,
         }

@@ -4,7 +4,7 @@ use crate::next::{next_of, number};
 use crate::stands::{Chat, Stand, channel_at, drain, is_silent};
 use crate::tally::{ENDED, IGNORED, TAKEN, Tally};
 use address::Address;
-use channel::Error;
+use channel::{Error, Heard};
 use std::alloc::{AllocError, Global};
 use wire::{decode, encode};
 use wire_values::Packet;
@@ -29,7 +29,7 @@ pub struct Judge {
 }
 
 /// What a channel answered, as a number.
-fn outcome_of(answer: &Result<Option<Address>, Error>) -> u8 {
+fn outcome_of(answer: &Result<Option<Heard>, Error>) -> u8 {
     match answer {
         Ok(None) => IGNORED,
         Ok(Some(_)) => TAKEN,
@@ -101,21 +101,22 @@ impl Judge {
     // Whether the busy one's answer to a packet from a source is right.
     fn is_right(
         &mut self,
-        answer: &Result<Option<Address>, Error>,
+        answer: &Result<Option<Heard>, Error>,
         source: Address,
+        kind: u8,
         bytes: &[u8],
     ) -> bool {
         match answer {
-            Ok(Some(from)) => *from == source,
+            Ok(Some(heard)) => heard.source == source && heard.kind == kind,
             Ok(None) => is_silent(&mut self.busy) && self.hand_quietly(bytes) == (IGNORED, true),
             Err(error) => error.number() == ENDED && has_ended(&mut self.busy),
         }
     }
 
-    // Hands a packet to the busy one: the outcome, and whether it is right.
-    fn hand(&mut self, source: Address, bytes: &[u8]) -> Result<(u8, bool), AllocError> {
+    // Hands a packet of a source and a kind to the busy one: the outcome, and whether it is right.
+    fn hand(&mut self, source: Address, kind: u8, bytes: &[u8]) -> Result<(u8, bool), AllocError> {
         let answer = self.busy.incoming(bytes);
-        let is_right = self.is_right(&answer, source, bytes);
+        let is_right = self.is_right(&answer, source, kind, bytes);
         let outcome = outcome_of(&answer);
         if outcome > TAKEN || (outcome == TAKEN && self.is_renewed) {
             self.busy = channel_at(self.alloc, self.stand)?;
@@ -134,7 +135,7 @@ impl Judge {
             }
             Ok(packet) => {
                 let is_spelled = is_spelled(&packet, bytes, &mut self.written)?;
-                let (outcome, is_right) = self.hand(packet.source, bytes)?;
+                let (outcome, is_right) = self.hand(packet.source, packet.body.kind(), bytes)?;
                 (outcome, is_spelled && is_right)
             }
         };

@@ -19,9 +19,10 @@ use Rattle.udp_net.specs.Logs.{Log, Lists, NetEvent, Answered, receiving}
 use Rattle.udp_net.specs.declared.net.Received.{Received}
 use Rattle.udp_net.specs.declared.net.Received.TheVariants as received
 use Rattle.udp_member.specs.Offers.{Offers}
-use Rattle.udp_member.specs.Turns.{Handed, Datagram, Suspect, Tick, Hint, CallsBy, Driven, Comes, Takes, TakesAll, goes_on}
+use Rattle.udp_member.specs.Turns.{Handed, Datagram, Suspect, Tick, Hint, CallsBy, Driven, Comes, Takes, TakesAll, goes_on, watched_at}
 use Rattle.udp_member.specs.Turns.TakesAll.{Nothing, Next}
-use Rattle.udp_member.specs.Rounds.{PassesOver, Asks, ComesNone, Cuts, Hears, Suspects, Ticks, SuspectsAndTicks, Listens, Rounds}
+use Rattle.udp_member.specs.Notes.{Notes}
+use Rattle.udp_member.specs.Rounds.{PassesOver, Asks, ComesNone, Cuts, Hears, counting, silent_of, after_suspicions, SuspectsAll, Suspects, Ticks, SuspectsAndTicks, Listens, Rounds}
 use Rattle.udp_member.specs.Seeking.{Hints, Seeks, sought, turned}
 use Rattle.deployment.specs.Deployments.{Step, IsNew, bytes_of, happens_by}
 use Rattle.deployment.specs.Processes.{all_told}
@@ -328,12 +329,35 @@ module _ {N S : Type 0} (log : N → Option Log) (meaning : Meaning S) (group : 
         subst (λ (r : Driven N S). On old (falls old.channel.stage failure) r) (sym stops.1)
         (subst (λ (o : Option Error). On old (falls old.channel.stage o) mid) (sym stops.0) x)
 
+    -- notes alone are others
+    notes-goes : (old : Driven N S) (notes : Notes) → Ready old → Goes old (record old { notes = notes })
+    notes-goes old notes ready = record { adds = still old (record old { notes = notes }) refl (lists-self (log old.net)) ready; same = refl }
+
+    anew-goes : (suspects : List Address) (old : Driven N S) → Ready old → Goes old (after_suspicions suspects old)
+    anew-goes [] old ready = same-goes old old refl ready
+    anew-goes (p ∷ ps) old ready = notes-goes old _ ready
+
+    silent-goes : (watched : List Address) (old new : Driven N S) → SuspectsAll log failed meaning watched old new → Ready old → Goes old new
+    silent-goes watched old new s ready =
+        let suspects = silent_of watched old in
+        let a = takes-all-goes Suspect _ old suspects s.mid s.takes ready in
+        let b = anew-goes suspects s.mid a.adds.ready in
+        then-goes old s.mid new a (then-goes s.mid (after_suspicions suspects s.mid) new b (same-goes (after_suspicions suspects s.mid) new s.after b.adds.ready))
+
     both-by : (old mid new : Driven N S) (cut failure : Option Error) → Suspects log failed meaning old cut mid → (cut ≡ None → Ticks log failed meaning mid failure new)
         → ((e : Error) → cut ≡ Some e → (failure ≡ Some e) × (new ≡ mid)) → Ready old → On old (falls old.channel.stage failure) new
-    both-by old mid new None failure s ticks stops ready =
-        let a = takes-all-goes Suspect _ old s.suspects mid s.takes ready in
+    both-by old mid new None failure (inl s) ticks stops ready =
+        let watched = watched_at old.channel.stage in
+        let counted = counting watched old in
+        let a = then-goes old counted mid (notes-goes old counted.notes ready) (silent-goes watched counted mid s ready) in
         then-on old mid new failure a (ticks-on mid new failure (ticks refl) a.adds.ready)
-    both-by old mid new (Some e) failure s ticks stops ready = stops-on old mid new e failure (cuts-on Suspect _ old e mid s ready) (stops e refl)
+    both-by old mid new None failure (inr s) ticks stops ready =
+        let a = same-goes old mid s.1 ready in
+        then-on old mid new failure a (ticks-on mid new failure (ticks refl) a.adds.ready)
+    both-by old mid new (Some e) failure (inl s) ticks stops ready =
+        let counted = counting (watched_at old.channel.stage) old in
+        stops-on old mid new e failure (then-on old counted mid (Some e) (notes-goes old counted.notes ready) (cuts-on Suspect _ counted e mid s ready)) (stops e refl)
+    both-by old mid new (Some e) failure (inr s) ticks stops ready = absurd (let n : Some e ≡ None = s.0 in cc)
 
     both-on : (old new : Driven N S) (failure : Option Error) → SuspectsAndTicks log failed meaning old failure new → Ready old → On old (falls old.channel.stage failure) new
     both-on old new failure s ready = both-by old s.mid new s.cut failure s.suspects s.ticks s.stops ready

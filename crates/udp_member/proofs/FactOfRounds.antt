@@ -1,13 +1,16 @@
 -- How the parts of a round go on, and come together.
-use Rattle.std.proofs.Common.{◌≡◌, ℕ, ◌+◌, ◌<◌, ◌≤◌, ◌++◌, Bool, true, false, length, take, List, [], ◌∷◌, Option, Some, None, Result, Ok, Err, inl, inr, refl, sym, ap, ◌∙◌, subst, arith, length-append}
+use Rattle.std.proofs.Common.{◌≡◌, ℕ, ◌+◌, ◌<◌, ◌≤◌, ◌++◌, Bool, true, false, cond, length, take, filter, slice_index_or, take_all, List, [], ◌∷◌, Option, Some, None, Result, Ok, Err, inl, inr, refl, sym, ap, ◌∙◌, subst, arith, length-append, append-nil}
+use Rattle.std.proofs.lemmas.List.Elements.{filter_more}
 use Rattle.address.specs.Ids.{Address}
 use Rattle.state_transfer.specs.Meanings.{Meaning}
 use Rattle.member.specs.declared.error.Error.{Error}
 use Rattle.udp_net.specs.Logs.{Log, Lists, receiving, answer_of}
 use Rattle.udp_member.specs.declared.runner.TheConstants.{RECEIVES}
 use Rattle.udp_member.specs.Offers.{Offers}
-use Rattle.udp_member.specs.Turns.{Handed, Datagram, Suspect, Tick, Hint, Driven, Takes, TakesAll, Nothing, Next, Any, IsWatched}
-use Rattle.udp_member.specs.Rounds.{PassesOver, HandsIn, HearsOne, Receives, Cuts, Hears, SuspectsAll, Suspects, Listens, Rounds}
+use Rattle.udp_member.specs.Turns.{Handed, Datagram, Suspect, Tick, Hint, Driven, Takes, TakesAll, Nothing, Next, Any}
+use Rattle.udp_member.specs.Rounds.{PassesOver, HandsIn, HearsOne, Receives, Cuts, Hears, IsSilent, silent_of, after_suspicions, SuspectsOf, Suspects, Listens, Rounds}
+use Rattle.udp_member.specs.Silences.{begun_anew, is_silent}
+use Rattle.udp_member.specs.Notes.{Notes}
 use Rattle.udp_member.specs.Seeking.{Hints}
 
 module _ {N S : Type 0} (log : N → Option Log) (failed : N → ℕ) (meaning : Meaning S) where
@@ -76,20 +79,79 @@ module _ {N S : Type 0} (log : N → Option Log) (failed : N → ℕ) (meaning :
 
   -- ---- suspicions
 
-  pub none-suspected : (old : Driven N S) → SuspectsAll log failed meaning old old
-  none-suspected old = record { suspects = []; takes = Nothing }
+  abbrev pub is_empty : List Address → Bool
+  is_empty [] = true
+  is_empty (x ∷ xs) = false
 
-  pub suspected-one : (old mid new : Driven N S) (p : Address) → SuspectsAll log failed meaning old mid → IsWatched old.channel.stage p
-      → HandsIn log failed meaning (Suspect p) mid.net mid.channel mid.notes None new.net new.channel new.notes → new.faults ≡ mid.faults → SuspectsAll log failed meaning old new
-  suspected-one old mid new p so m h same = record {
-    suspects = so.suspects ++ p ∷ [];
-    takes = Next so.suspects mid p h.answer new so.takes m (record { net = mid.net; comes = refl; turn = h.turn; faults = same; notes = h.noted }) h.why;
-  }
+  -- those of the first addresses that are silent were suspected
+  pub record SuspectedSoFar (watched : List Address) (count : ℕ) (old : Driven N S) (is_heard : Bool) (new : Driven N S) : Type 0 where
+    pub takes : TakesAll log failed meaning Suspect (IsSilent old) old (silent_of (take count watched) old) new
+    pub heard : is_heard ≡ is_empty (silent_of (take count watched) old)
+    pub notes : new.notes ≡ old.notes
 
-  pub suspected-cut : (old mid new : Driven N S) (p : Address) (e : Error) → SuspectsAll log failed meaning old mid → IsWatched old.channel.stage p
-      → HandsIn log failed meaning (Suspect p) mid.net mid.channel mid.notes (Some e) new.net new.channel new.notes → new.faults ≡ mid.faults → Suspects log failed meaning old (Some e) new
-  suspected-cut old mid new p e so m h same =
-      cut-by Suspect (IsWatched old.channel.stage) old mid new so.suspects p h.answer e so.takes m (record { net = mid.net; comes = refl; turn = h.turn; faults = same; notes = h.noted }) h.why
+  pub none-suspected : (watched : List Address) (old : Driven N S) → SuspectedSoFar watched 0 old true old
+  none-suspected watched old = record { takes = Nothing; heard = refl; notes = refl }
+
+  one-more : (f : Address → Bool) (xs : List Address) (k : ℕ) (p : Address) → k < length xs → p ≡ slice_index_or xs k p
+      → filter f (take (k + 1) xs) ≡ filter f (take k xs) ++ cond (f p) (p ∷ []) []
+  one-more f xs k p few at = filter_more f xs k p few ∙ ap (λ (q : Address). filter f (take k xs) ++ cond (f q) (q ∷ []) []) (sym at)
+
+  never-empty : (xs : List Address) (x : Address) → is_empty (xs ++ x ∷ []) ≡ false
+  never-empty [] x = refl
+  never-empty (y ∷ ys) x = refl
+
+  pub suspected-one : (watched : List Address) (k : ℕ) (old mid new : Driven N S) (is_heard : Bool) (p : Address) → k < length watched → p ≡ slice_index_or watched k p
+      → SuspectedSoFar watched k old is_heard mid → is_silent mid.notes.silence p ≡ true
+      → HandsIn log failed meaning (Suspect p) mid.net mid.channel mid.notes None new.net new.channel new.notes → new.faults ≡ mid.faults
+      → SuspectedSoFar watched (k + 1) old false new
+  suspected-one watched k old mid new is_heard p few at so silent h same =
+      let is : is_silent old.notes.silence p ≡ true = subst (λ (n : Notes). is_silent n.silence p ≡ true) so.notes silent in
+      let more : silent_of (take (k + 1) watched) old ≡ silent_of (take k watched) old ++ p ∷ [] =
+      one-more (is_silent old.notes.silence) watched k p few at ∙ ap (λ (b : Bool). silent_of (take k watched) old ++ cond b (p ∷ []) []) is in
+      record {
+        takes = subst (λ (xs : List Address). TakesAll log failed meaning Suspect (IsSilent old) old xs new) (sym more)
+            (Next (silent_of (take k watched) old) mid p h.answer new so.takes is (record { net = mid.net; comes = refl; turn = h.turn; faults = same; notes = h.noted }) h.why);
+        heard = sym (ap is_empty more ∙ never-empty (silent_of (take k watched) old) p);
+        notes = h.noted ∙ so.notes;
+      }
+
+  pub heard-one-more : (watched : List Address) (k : ℕ) (old mid : Driven N S) (is_heard : Bool) (p : Address) → k < length watched → p ≡ slice_index_or watched k p
+      → SuspectedSoFar watched k old is_heard mid → is_silent mid.notes.silence p ≡ false → SuspectedSoFar watched (k + 1) old is_heard mid
+  heard-one-more watched k old mid is_heard p few at so silent =
+      let is : is_silent old.notes.silence p ≡ false = subst (λ (n : Notes). is_silent n.silence p ≡ false) so.notes silent in
+      let same : silent_of (take (k + 1) watched) old ≡ silent_of (take k watched) old =
+      one-more (is_silent old.notes.silence) watched k p few at ∙ ap (λ (b : Bool). silent_of (take k watched) old ++ cond b (p ∷ []) []) is ∙ append-nil (silent_of (take k watched) old) in
+      record {
+        takes = subst (λ (xs : List Address). TakesAll log failed meaning Suspect (IsSilent old) old xs mid) (sym same) so.takes;
+        heard = so.heard ∙ ap is_empty (sym same);
+        notes = so.notes;
+      }
+
+  pub suspected-cut : (watched : List Address) (k : ℕ) (old mid new : Driven N S) (is_heard : Bool) (p : Address) (e : Error) → SuspectedSoFar watched k old is_heard mid
+      → is_silent mid.notes.silence p ≡ true → HandsIn log failed meaning (Suspect p) mid.net mid.channel mid.notes (Some e) new.net new.channel new.notes → new.faults ≡ mid.faults
+      → SuspectsOf log failed meaning watched old (Some e) new
+  suspected-cut watched k old mid new is_heard p e so silent h same =
+      cut-by Suspect (IsSilent old) old mid new (silent_of (take k watched) old) p h.answer e so.takes (subst (λ (n : Notes). is_silent n.silence p ≡ true) so.notes silent)
+      (record { net = mid.net; comes = refl; turn = h.turn; faults = same; notes = h.noted }) h.why
+
+  -- all of them were, and the counts begin anew where there was one
+  ends-so : (xs : List Address) (is_heard : Bool) (r : Driven N S) → is_heard ≡ is_empty xs
+      → cond is_heard r (record r { notes = record r.notes { silence = begun_anew r.notes.silence } }) ≡ after_suspicions xs r
+  ends-so [] is_heard r e = rw e refl
+  ends-so (x ∷ xs) is_heard r e = rw e refl
+
+  whole : (watched : List Address) (k : ℕ) → k ≡ length watched → take k watched ≡ watched
+  whole watched k e = ap (λ n. take n watched) e ∙ take_all (length watched) watched (omega arith)
+
+  pub all-suspected : (watched : List Address) (k : ℕ) (old mid new : Driven N S) (is_heard : Bool) → SuspectedSoFar watched k old is_heard mid → k ≡ length watched
+      → new ≡ cond is_heard mid (record mid { notes = record mid.notes { silence = begun_anew mid.notes.silence } }) → SuspectsOf log failed meaning watched old None new
+  all-suspected watched k old mid new is_heard so all is =
+      let e = whole watched k all in
+      record {
+        mid = mid;
+        takes = subst (λ (xs : List Address). TakesAll log failed meaning Suspect (IsSilent old) old (silent_of xs old) mid) e so.takes;
+        after = is ∙ ends-so (silent_of watched old) is_heard mid (so.heard ∙ ap (λ (xs : List Address). is_empty (silent_of xs old)) e);
+      }
 
   -- ---- a whole round
 

@@ -1,5 +1,6 @@
 pub mod Offers
 pub mod Peers
+pub mod Silences
 pub mod Notes
 pub mod Turns
 pub mod Rounds

@@ -1,5 +1,5 @@
 -- The nodes at which members may be sought, and who was heard there.
-use Rattle.std.specs.Prelude.{ℕ, ◌+◌, Bool, false, not, ◌&&◌, nat_eq, nat_le, List, ◌++◌, drop, take, position, slice_get, Option, None, Some, if◌then◌else◌}
+use Rattle.std.specs.Prelude.{ℕ, ◌+◌, Bool, false, not, ◌&&◌, nat_eq, nat_le, List, ◌++◌, map, fold, drop, take, position, slice_get, Option, None, Some, if◌then◌else◌}
 use Rattle.std.specs.List.{list_any}
 use Rattle.std.specs.Option.{option_and_then, option_map_or, is_some}
 use Rattle.address.specs.Ids.{Address}
@@ -20,6 +20,10 @@ is_known a p = option_map_or (λ last. nat_le a.incarnation last.incarnation) p.
 -- a packet came from an address
 abbrev pub hearing : Address → Peer → Peer
 hearing a p = if nat_eq p.node a.node && not (is_known a p) then record p { heard = Some a } else p
+
+-- these stand in a view
+abbrev pub met : List Address → List Peer → List Peer
+met members peers = fold (λ known p. map (hearing p) known) peers members
 
 -- whether one of these is of a node
 abbrev pub has_node : ℕ → List Address → Bool

@@ -1,5 +1,5 @@
 -- A round of a runner.
-use Rattle.std.specs.Prelude.{◌≡◌, ℕ, ◌<◌, Bool, true, false, length, List, Option, None, Some, Result, Ok, Err, ◌⊎◌}
+use Rattle.std.specs.Prelude.{◌≡◌, ℕ, ◌<◌, Bool, true, false, length, filter, List, [], ◌∷◌, Option, None, Some, Result, Ok, Err, ◌⊎◌}
 use Rattle.address.specs.Ids.{Address}
 use Rattle.state_transfer.specs.Meanings.{Meaning}
 use Rattle.member.specs.declared.error.Error.{Error}
@@ -10,8 +10,9 @@ use Rattle.udp_net.specs.declared.net.Received.TheVariants as received
 use Rattle.udp_net.specs.Logs.{Log, Lists, receiving, one_more}
 use Rattle.udp_member.specs.declared.runner.TheConstants.{RECEIVES}
 use Rattle.udp_member.specs.Offers.{Offers}
+use Rattle.udp_member.specs.Silences.{after_round, begun_anew, is_silent, standing_of}
 use Rattle.udp_member.specs.Notes.{Notes}
-use Rattle.udp_member.specs.Turns.{Handed, Datagram, Suspect, Tick, Turn, Driven, Takes, TakesAll, Any, IsWatched, goes_on, noted_of}
+use Rattle.udp_member.specs.Turns.{Handed, Datagram, Suspect, Tick, Turn, Driven, Takes, TakesAll, Any, watched_at, goes_on, noted_of}
 
 -- the answers 6 and 7 of the channel cut a round short, and nothing else does
 abbrev pub PassesOver : Option Error → Option Error → Type 0
@@ -82,14 +83,38 @@ abbrev pub Hears : {N S : Type 0} → (N → Option Log) → (N → ℕ) → Mea
 Hears log failed meaning old (Ok count) new = HearsAll log failed meaning old count new
 Hears log failed meaning old (Err e) new = Cuts log failed meaning Datagram Any old e new
 
--- then suspicions of addresses that the channel watches, before the first of them
-pub record SuspectsAll {N S : Type 0} (log : N → Option Log) (failed : N → ℕ) (meaning : Meaning S) (old new : Driven N S) : Type 0 where
-  pub suspects : List Address
-  pub takes : TakesAll log failed meaning Suspect (IsWatched old.channel.stage) old suspects new
+-- the round is counted for those that the channel watches
+abbrev pub counting : {N S : Type 0} → List Address → Driven N S → Driven N S
+counting watched r = record r { notes = record r.notes { silence = after_round (standing_of r.channel) watched r.notes.silence } }
 
+-- an address is silent for too long
+abbrev pub IsSilent : {N S : Type 0} → Driven N S → Address → Type 0
+IsSilent r p = is_silent r.notes.silence p ≡ true
+
+-- those of them that are
+abbrev pub silent_of : {N S : Type 0} → List Address → Driven N S → List Address
+silent_of watched r = filter (is_silent r.notes.silence) watched
+
+-- where there was one, all counts begin anew
+abbrev pub after_suspicions : {N S : Type 0} → List Address → Driven N S → Driven N S
+after_suspicions [] r = r
+after_suspicions (p ∷ ps) r = record r { notes = record r.notes { silence = begun_anew r.notes.silence } }
+
+-- each of the silent is suspected, in order
+pub record SuspectsAll {N S : Type 0} (log : N → Option Log) (failed : N → ℕ) (meaning : Meaning S) (watched : List Address) (old new : Driven N S) : Type 0 where
+  pub mid : Driven N S
+  pub takes : TakesAll log failed meaning Suspect (IsSilent old) old (silent_of watched old) mid
+  pub after : new ≡ after_suspicions (silent_of watched old) mid
+
+-- the silent are suspected, or one of the suspicions cuts it short
+abbrev pub SuspectsOf : {N S : Type 0} → (N → Option Log) → (N → ℕ) → Meaning S → List Address → Driven N S → Option Error → Driven N S → Type 0
+SuspectsOf log failed meaning watched old None new = SuspectsAll log failed meaning watched old new
+SuspectsOf log failed meaning watched old (Some e) new = Cuts log failed meaning Suspect (IsSilent old) old e new
+
+-- then the round is counted for those that the channel watches, and the silent are suspected; for want of memory nothing is counted and nobody suspected
 abbrev pub Suspects : {N S : Type 0} → (N → Option Log) → (N → ℕ) → Meaning S → Driven N S → Option Error → Driven N S → Type 0
-Suspects log failed meaning old None new = SuspectsAll log failed meaning old new
-Suspects log failed meaning old (Some e) new = Cuts log failed meaning Suspect (IsWatched old.channel.stage) old e new
+Suspects log failed meaning old failure new =
+    SuspectsOf log failed meaning (watched_at old.channel.stage) (counting (watched_at old.channel.stage) old) failure new ⊎ ((failure ≡ None) × (new ≡ old))
 
 -- last a tick
 pub record Ticks {N S : Type 0} (log : N → Option Log) (failed : N → ℕ) (meaning : Meaning S) (old : Driven N S) (failure : Option Error) (new : Driven N S) : Type 0 where

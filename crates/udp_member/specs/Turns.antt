@@ -1,5 +1,5 @@
 -- What a runner hands to its channel, and what the channel does by it.
-use Rattle.std.specs.Prelude.{◌≡◌, ⊤, ℕ, Bool, true, not, List, [], ◌∷◌, ◌++◌, Contains, Option, None, Some, Ok, Err, IfSome}
+use Rattle.std.specs.Prelude.{◌≡◌, ⊤, ℕ, Bool, true, not, List, [], ◌∷◌, ◌++◌, Option, None, Some, Ok, Err, IfSome}
 use Rattle.std.specs.Option.{option_map_or}
 use Rattle.address.specs.Ids.{Address}
 use Rattle.state_transfer.specs.Meanings.{Meaning}
@@ -8,7 +8,7 @@ use Rattle.member.specs.declared.input.Input.TheVariants as input
 use Rattle.channel.specs.Errors.{is_end}
 use Rattle.member.specs.Watching.{watched}
 use Rattle.channel.specs.declared.stage.Stage.{Stage}
-use Rattle.channel.specs.Channels.{ChannelModel, left_by, member_in, source_at}
+use Rattle.channel.specs.Channels.{ChannelModel, left_by, member_in, heard_at}
 use Rattle.channel.specs.Calls.{Calls, CallsLent}
 use Rattle.udp_net.specs.declared.net.Received.TheVariants as received
 use Rattle.udp_net.specs.Logs.{Log, Lists, receiving}
@@ -42,9 +42,9 @@ abbrev pub goes_on : Option Error → Bool
 goes_on None = true
 goes_on (Some e) = not (is_end e)
 
--- what is noted of it, by the answer to it: of a datagram, from whom it came or that it was of no use; of all else nothing
+-- what is noted of it, by the answer to it: of a datagram, what it was or that it was of no use; of all else nothing
 abbrev pub noted_of : {S : Type 0} → Handed → ChannelModel S → Option Error → Notes → Notes
-noted_of (Datagram bytes) channel None notes = noted (Ok (source_at bytes channel)) notes
+noted_of (Datagram bytes) channel None notes = noted (Ok (heard_at bytes channel)) notes
 noted_of (Datagram bytes) channel (Some e) notes = noted (Err e) notes
 noted_of (Suspect p) channel answer notes = notes
 noted_of Tick channel answer notes = notes
@@ -88,11 +88,8 @@ pub data TakesAll {N S X : Type 0} (log : N → Option Log) (failed : N → ℕ)
 abbrev pub Any : List ℕ → Type 0
 Any bytes = ⊤
 
--- ---- who may be suspected
+-- ---- who is watched
 
 -- whom the channel watches; nobody before a connect and after its end
 abbrev pub watched_at : {S : Type 0} → Stage S → List Address
 watched_at stage = option_map_or watched (member_in stage) []
-
-abbrev pub IsWatched : {S : Type 0} → Stage S → Address → Type 0
-IsWatched stage p = Contains (watched_at stage) p

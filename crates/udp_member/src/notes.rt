@@ -1,20 +1,25 @@
-ghost use Rattle.std.specs.Prelude.{◌≡◌, IfOk};
-ghost use Rattle.udp_member.specs.Peers.{first_heard, is_outside, served};
+ghost use Rattle.std.specs.Prelude.{◌≡◌, IfOk, OnOk, IfErr};
+ghost use Rattle.udp_member.specs.Peers.{first_heard, is_outside, met, served};
 ghost use Rattle.udp_member.specs.Notes.{Notes, noted, nothing_noted};
+ghost use Rattle.udp_member.specs.Silences.{after_round, begun_anew, is_silent};
 
 use crate::peers::Peers;
+use crate::silence::{Silence, Standing};
 use address::{Address, Node};
-use channel::Error;
+use channel::{Error, Heard};
 use std::alloc::{AllocError, Global};
 use std::marker::Model;
 use view::View;
 
-/// What a runner notes of the datagrams that came: who was heard at the nodes where members may be sought, and how many were of no use.
+/// What a runner notes of the datagrams that came: who was heard at the nodes where members may be sought, how many were of no use, and whom it
+/// has not heard for how long.
 #[derive(Drop)]
 pub(crate) struct Notes {
+    alloc: Global,
     peers: Peers,
     garbled: u64,
     foreign: u64,
+    silence: Silence,
 }
 
 impl Model for Notes {
@@ -22,31 +27,69 @@ impl Model for Notes {
 
     ghost Value = { Notes };
 
-    ghost view = { λ n. record { peers = n.peers; garbled = n.garbled; foreign = n.foreign } };
+    ghost view = { λ n. record { peers = n.peers; garbled = n.garbled; foreign = n.foreign; silence = n.silence } };
 }
 
 impl Notes {
-    // Nothing came yet; members may be sought at these nodes.
-    pub(crate) fn new(alloc: Global, nodes: &[Node]) -> Result<Notes, AllocError>
-        ensures { IfOk result (λ notes. notes ≡ nothing_noted nodes.now) }
+    // Nothing came yet; members may be sought at these nodes, and `silent` rounds without a sign of life are too many.
+    pub(crate) fn new(alloc: Global, nodes: &[Node], silent: u32) -> Result<Notes, AllocError>
+        ensures { IfOk result (λ notes. notes ≡ nothing_noted nodes.now silent) }
     {
         Ok(Notes {
+            alloc,
             peers: Peers::new(alloc, nodes)?,
             garbled: 0,
             foreign: 0,
+            silence: Silence::new(alloc, silent),
         })
     }
 
     // The channel answered this to a datagram. Takes no memory.
-    pub(crate) fn note(&mut self, answer: &Result<Option<Address>, Error>)
+    pub(crate) fn note(&mut self, answer: &Result<Option<Heard>, Error>)
         ensures { self.new ≡ noted answer.now self.old }
     {
         match answer {
-            Ok(Some(source)) => self.peers.hear(*source),
+            Ok(Some(heard)) => {
+                self.peers.hear(heard.source);
+                self.silence.hear(heard);
+            }
             Ok(None) => self.foreign = self.foreign.saturating_add(1),
             Err(Error::Wire(_)) => self.garbled = self.garbled.saturating_add(1),
             Err(Error::Refused(_)) => (),
         }
+    }
+
+    // These are in its view: each may be sought, once it is outside of one. Takes no memory.
+    pub(crate) fn meet(&mut self, members: &[Address])
+        ensures { self.new ≡ record self.old { peers = met members.now self.old.peers } }
+    {
+        self.peers.meet(members);
+    }
+
+    // A round is over, where the member stands so, with these addresses watched. An error for want of memory changes nothing.
+    pub(crate) fn pass(
+        &mut self,
+        standing: &Standing,
+        watched: &[Address],
+    ) -> Result<(), AllocError>
+        ensures passed { OnOk result (self.new ≡ record self.old { silence = after_round standing.now watched.now self.old.silence }) }
+        ensures memory { IfErr result (λ e. self.new ≡ self.old) }
+    {
+        self.silence.pass(self.alloc, standing, watched)
+    }
+
+    // Whether an address was silent for too long when the round was over.
+    pub(crate) fn is_silent(&self, address: &Address) -> bool
+        ensures { result ≡ is_silent self.now.silence address.now }
+    {
+        self.silence.is_silent(address)
+    }
+
+    // All counts of silence begin anew. Takes no memory.
+    pub(crate) fn begin_anew(&mut self)
+        ensures { self.new ≡ record self.old { silence = begun_anew self.old.silence } }
+    {
+        self.silence.begin_anew();
     }
 
     // Whom to seek outside of a view, if anybody. Takes no memory.

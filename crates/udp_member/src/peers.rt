@@ -1,6 +1,6 @@
 ghost use Rattle.std.specs.Prelude.{◌≡◌, ◌<◌, length, map, position, slice_get, IfOk, IfSome};
 ghost use Rattle.std.specs.Option.{option_and_then};
-ghost use Rattle.udp_member.specs.Peers.{first_heard, has_node, hearing, heard_at, is_known, is_outside, served, unheard};
+ghost use Rattle.udp_member.specs.Peers.{first_heard, has_node, hearing, heard_at, is_known, is_outside, met, served, unheard};
 
 use address::{Address, Node};
 use std::alloc::{AllocError, Global};
@@ -12,7 +12,7 @@ use view::View;
 pub struct Peer {
     /// The node.
     pub node: Node,
-    /// The latest address there from which a packet came; `None` before the first.
+    /// The latest address there from which a packet came, or that stood in a view; `None` before the first.
     pub heard: Option<Address>,
 }
 
@@ -114,6 +114,15 @@ impl Peers {
         ensures { self.new ≡ map (hearing source) self.old }
     {
         hear_all(self.peers.as_mut_slice(), source);
+    }
+
+    // These stand in a view. Takes no memory.
+    pub(crate) fn meet(&mut self, members: &[Address])
+        ensures { self.new ≡ met members.now self.old }
+    {
+        for member in members {
+            self.hear(*member);
+        }
     }
 
     // Whom to seek outside of a view, if anybody; then it is the turn of the nodes behind. Takes no memory.

@@ -3,18 +3,19 @@ ghost use Rattle.std.specs.Result.{result_err};
 ghost use Rattle.std.specs.Borrow.{sem};
 ghost use Rattle.udp_member.specs.Offers.{Offers};
 ghost use Rattle.udp_net.specs.Logs.{Lists};
-ghost use Rattle.udp_member.specs.Notes.{nothing_noted};
+ghost use Rattle.channel.specs.Channels.{view_in};
+ghost use Rattle.udp_member.specs.Notes.{having_met, nothing_noted};
 ghost use Rattle.udp_member.specs.Turns.{Datagram, Hint, Suspect, Tick, driven};
-ghost use Rattle.udp_member.specs.Rounds.{HandsIn, Receives, Hears, Suspects, Listens, Rounds};
+ghost use Rattle.udp_member.specs.Rounds.{HandsIn, Receives, Hears, Suspects, SuspectsOf, Listens, Rounds};
 ghost use Rattle.udp_member.specs.Seeking.{Seeks, sought, turned};
 ghost use Rattle.udp_member.specs.Lends.{lends_channel, lends_net};
 
 use crate::notes::Notes;
 use crate::offering::offer_all;
 use crate::pace::Pace;
-use crate::silence::Silence;
+use crate::silence::standing_of;
 use crate::turns::{hint, passed_over, suspect, take_in, tick};
-use address::{Address, Node, ViewId};
+use address::{Address, Node};
 use channel::{Channel, Error};
 use limits::DATAGRAM;
 use state_transfer::Receiver;
@@ -31,7 +32,6 @@ pub const RECEIVES: usize = 64;
 pub struct Runner<N: Net, R: Receiver> {
     net: N,
     channel: Channel<R>,
-    silence: Silence,
     notes: Notes,
     pace: Pace,
     buffer: Vec<u8>,
@@ -46,11 +46,10 @@ impl<N: Net, R: Receiver> Model for Runner<N, R> {
     ghost view = { λ r. driven r.net r.channel r.faults r.notes };
 }
 
-// Hands in a datagram, and notes what came of it; whoever sent it is not silent.
+// Hands in a datagram, and notes what came of it.
 fn hand_in<N: Net, R: Receiver>(
     net: &mut N,
     channel: &mut Channel<R>,
-    silence: &mut Silence,
     notes: &mut Notes,
     bytes: &[u8],
 ) -> Result<(), Error>
@@ -58,14 +57,12 @@ fn hand_in<N: Net, R: Receiver>(
 {
     let answer = take_in(net, channel, bytes);
     notes.note(&answer);
-    if let Some(Some(source)) = passed_over(answer)? {
-        silence.hear(source, bytes, channel.view());
-    }
+    passed_over(answer)?;
     Ok(())
 }
 
 impl<N: Net, R: Receiver> Runner<N, R> {
-    /// The runner of a channel over a net. It suspects whom it watches after `silent` rounds without a packet, and seeks members of its group at these nodes.
+    /// The runner of a channel over a net. It suspects whom it watches after `silent` rounds without a sign of life, and seeks members of its group at these nodes.
     /// Its buffer is longer by one byte than the longest datagram, so that a longer one is not taken for a packet.
     pub fn new(
         alloc: Global,
@@ -74,14 +71,13 @@ impl<N: Net, R: Receiver> Runner<N, R> {
         nodes: &[Node],
         silent: u32,
     ) -> Result<Runner<N, R>, AllocError>
-        ensures { IfOk result (λ runner. runner ≡ driven net channel 0 (nothing_noted nodes.now)) }
+        ensures { IfOk result (λ runner. runner ≡ driven net channel 0 (nothing_noted nodes.now silent)) }
     {
         let buffer = vec![in alloc; 0; DATAGRAM + 1]?;
         Ok(Runner {
             net,
             channel,
-            silence: Silence::new(silent),
-            notes: Notes::new(alloc, nodes)?,
+            notes: Notes::new(alloc, nodes, silent)?,
             pace: Pace::new(),
             buffer,
             faults: 0,
@@ -89,12 +85,13 @@ impl<N: Net, R: Receiver> Runner<N, R> {
     }
 
     /// One round. What waited in the channel is offered to the net. Then datagrams are received, at most `RECEIVES`, until none waits or a receive fails, and each
-    /// is handed to the channel. Then the round counts for each address that the channel watches and from which no packet came: after `silent` such rounds, and
-    /// twice as many while the channel is blocked, the address is handed in as suspected. Last comes a tick of the channel. What the channel puts out by
+    /// is handed to the channel. Then the round counts for each address that the channel watches and from which no sign of life came: after `silent` such rounds, and
+    /// twice as many while it waits for another's view, the address is handed in as suspected. Last comes a tick of the channel. What the channel puts out by
     /// each of these steps is offered to the net at once, in order.
     ///
-    /// Counts begin anew with each view and after each suspicion. A JOIN or a MERGE of a member of the view counts as no packet from it. They take no memory; where the channel
-    /// is refused memory for the list of whom it watches, nothing is counted and nobody suspected in this round.
+    /// What is a sign of life depends on where the member stands (docs/PROTOCOL.md, "Silence"): in an open view the packets of that view, in a flush of its own the answers
+    /// to it, and else what belongs to the promise. Counts begin anew where it stands elsewhere, and after each suspicion. Where memory is refused for the list of whom it
+    /// watches, or for their counts, nothing is counted and nobody suspected in this round.
     ///
     /// The round is cut short exactly where the channel answers 6 or 7 to what is handed in, with that answer: the channel has ended then. All that the channel
     /// refuses else is passed over.
@@ -129,8 +126,26 @@ impl<N: Net, R: Receiver> Runner<N, R> {
         }
     }
 
+    /// Tells the net that a round is over, and in which view its member is; and notes who is in that view, who may be sought from then on. Nothing is handed in by it. To be
+    /// called after each round.
+    pub fn meet(&mut self)
+        ensures lists { Lists (N.log self.old.net) (λ l. l) (N.log self.new.net) }
+        ensures failed { N.failed self.new.net ≡ N.failed self.old.net }
+        ensures channel { self.new.channel ≡ self.old.channel }
+        ensures faults { self.new.faults ≡ self.old.faults }
+        ensures notes { self.new.notes ≡ having_met (view_in self.old.channel.stage) self.old.notes }
+    {
+        match self.channel.view() {
+            Some(view) => {
+                self.notes.meet(view.members().as_slice());
+                self.net.pass(Some(view.id()), view.members().as_slice());
+            }
+            None => self.net.pass(None, &[]),
+        }
+    }
+
     /// Looks for members of its group that are not in its view, as after a wrong suspicion or while a network was parted: where the channel is the coordinator of
-    /// its view, a node of those of `new` is chosen at which a packet of the group came from and of which nobody is in the view, and the channel is given its
+    /// its view, a node of those of `new` is chosen where somebody was heard or stood in a view, and of which nobody is in its view, and the channel is given its
     /// latest address as a hint (docs/PROTOCOL.md, "Merging"). What the channel puts out by it is offered to the net. At each call it is the next such node's turn;
     /// there is no hint where there is none. To be called between two rounds, every some rounds.
     ///
@@ -219,7 +234,7 @@ impl<N: Net, R: Receiver> Runner<N, R> {
                 let bytes = &self.buffer.as_slice()[..count];
                 self.pace.hear();
                 let (net, channel) = (&mut self.net, &mut self.channel);
-                hand_in(net, channel, &mut self.silence, &mut self.notes, bytes)?;
+                hand_in(net, channel, &mut self.notes, bytes)?;
                 Ok(true)
             }
             Ok(None) => {
@@ -233,25 +248,33 @@ impl<N: Net, R: Receiver> Runner<N, R> {
         }
     }
 
-    // Counts the round for those who are watched, and hands in whom it has not heard for too long. Without the list of them nobody is suspected.
+    // Counts the round for those who are watched, and hands in whom it has not heard for too long. For want of memory nothing is counted and nobody suspected.
     fn suspect_silent(&mut self) -> Result<(), Error>
         ensures { Suspects N.log N.failed R.meaning self.old (result_err result) self.new }
     {
         let Ok(watched) = self.channel.watched() else {
             return Ok(());
         };
-        let view = self.view_id();
-        let is_blocked = self.channel.is_blocked();
-        self.silence.pass(view, watched.as_slice());
+        let standing = standing_of(&self.channel);
+        if self.notes.pass(&standing, watched.as_slice()).is_err() {
+            return Ok(());
+        }
+        self.suspect_all(watched.as_slice())
+    }
+
+    // Hands in those of the watched that are silent; then the counts begin anew, if there was one.
+    fn suspect_all(&mut self, watched: &[Address]) -> Result<(), Error>
+        ensures { SuspectsOf N.log N.failed R.meaning watched.now self.old (result_err result) self.new }
+    {
         let mut is_heard = true;
-        for address in watched.as_slice() {
-            if self.silence.is_silent(address, is_blocked) {
+        for address in watched {
+            if self.notes.is_silent(address) {
                 is_heard = false;
                 self.suspect(*address)?;
             }
         }
         if !is_heard {
-            self.silence.begin_anew();
+            self.notes.begin_anew();
         }
         Ok(())
     }
@@ -298,13 +321,5 @@ impl<N: Net, R: Receiver> Runner<N, R> {
         let answer = hint(&mut self.net, &mut self.channel, address);
         passed_over(answer)?;
         Ok(())
-    }
-
-    // The id of the channel's view.
-    fn view_id(&self) -> Option<ViewId> {
-        match self.channel.view() {
-            Some(view) => Some(view.id()),
-            None => None,
-        }
     }
 }

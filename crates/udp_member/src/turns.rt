@@ -2,25 +2,25 @@
 
 ghost use Rattle.std.specs.Prelude.{◌≡◌, IfOk};
 ghost use Rattle.std.specs.Result.{result_err, result_ok};
-ghost use Rattle.channel.specs.Channels.{source_at};
+ghost use Rattle.channel.specs.Channels.{heard_at};
 ghost use Rattle.udp_member.specs.Turns.{Datagram, Hint, Suspect, Tick, Turn};
 ghost use Rattle.udp_member.specs.Rounds.{PassesOver};
 
 use crate::offering::offer_all;
 use address::Address;
-use channel::{Channel, Error};
+use channel::{Channel, Error, Heard};
 use limits::Refusal;
 use state_transfer::Receiver;
 use udp_net::Net;
 
-// A turn by a datagram; it answers from whom that came, where it was for the channel.
+// A turn by a datagram; it answers what packet that was, where it was for the channel.
 pub(crate) fn take_in<N: Net, R: Receiver>(
     net: &mut N,
     channel: &mut Channel<R>,
     bytes: &[u8],
-) -> Result<Option<Address>, Error>
+) -> Result<Option<Heard>, Error>
     ensures turn { Turn N.log N.failed R.meaning (Datagram bytes.now) net.old channel.old (result_err result) net.new channel.new }
-    ensures source { IfOk result (λ source. source ≡ source_at bytes.now channel.old) }
+    ensures heard { IfOk result (λ heard. heard ≡ heard_at bytes.now channel.old) }
 {
     let answer = channel.incoming(bytes);
     offer_all(net, channel);

@@ -1,2 +1,3 @@
 pub mod KeepHosts
 pub mod FactOfTables
+pub mod WordLaws

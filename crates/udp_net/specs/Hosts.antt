@@ -1,6 +1,7 @@
 -- Where nodes are reached.
 use Rattle.std.specs.Prelude.{◌≡◌, ⊤, ℕ, List, [], ◌∷◌, fold, nat_eq, if◌then◌else◌}
 use Rattle.std.specs.Borrow.{Bor}
+use Rattle.std.specs.Net.Addr.{IsCanonicalOf, MatchIp}
 use Rattle.std.specs.Net.Grammar.{IsIpText}
 use Rattle.std.specs.declared.net.ip_addr.IpAddr.{IpAddr}
 use Rattle.udp_net.specs.declared.hosts.NodeHost.{NodeHost}
@@ -24,3 +25,11 @@ abbrev pub AreHostsOf : List (ℕ × Bor (List ℕ)) → List NodeHost → Type 
 AreHostsOf [] [] = ⊤
 AreHostsOf (g ∷ given) (h ∷ hosts) = (h.node ≡ g.0) × IsHostOf g.1.now h.host × AreHostsOf given hosts
 AreHostsOf given hosts = ⊥
+
+-- an address without the form in which IPv6 writes one of IPv4
+abbrev pub IsCanonical : IpAddr → IpAddr → Type 0
+IsCanonical ip canonical = MatchIp ip (λ _. canonical ≡ ip) (λ a. IsCanonicalOf a canonical)
+
+-- two addresses name the same host
+abbrev pub IsSameHost : IpAddr → IpAddr → Type 0
+IsSameHost one other = (canonical : IpAddr) × IsCanonical one canonical × IsCanonical other canonical

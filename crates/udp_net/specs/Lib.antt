@@ -2,4 +2,8 @@ pub mod Bursts
 pub mod Errors
 pub mod Hosts
 pub mod Logs
+pub mod Neighbours
 pub mod Settings
+pub mod Sieve
+pub mod Strangers
+pub mod Words

@@ -1,5 +1,7 @@
-ghost use Rattle.std.specs.Prelude.{◌≡◌, ◌↔◌, OnErr, IfOk, OnOk, IsTrue, length, nat_eq};
+ghost use Rattle.std.specs.Prelude.{◌≡◌, OnErr, IfOk, OnOk, IsTrue, length, nat_eq};
 ghost use Rattle.udp_net.specs.Bursts.{opened, passage, offered, after_offer, begun, GoesOn};
+ghost use Rattle.udp_net.specs.Hosts.{IsSameHost};
+ghost use Rattle.udp_net.specs.Strangers.{IsFrom, IsPlainlyFrom};
 ghost use Rattle.std.specs.Net.Socket.{socket_ip, socket_port};
 
 use crate::held_back::HeldBack;
@@ -41,6 +43,15 @@ impl Model for Lane {
     ghost view = { λ l. record { port = l.port; host = l.host; to_send = l.to_send; to_offer = l.to_offer; patience = l.patience; held = l.held } };
 }
 
+// Whether two addresses name the same host: an IPv4 address and its form in IPv6 do.
+fn is_same_host(one: IpAddr, other: IpAddr) -> bool
+    ensures same { one ≡ other → IsTrue result }
+    ensures only { IsTrue result → IsSameHost one other }
+{
+    let (first, second) = (one.to_canonical(), other.to_canonical());
+    one == other || first == second
+}
+
 impl Lane {
     // The way to a node at a host, on which nothing went. Takes no memory.
     pub(crate) fn new(alloc: Global, port: NodePort, host: IpAddr) -> Lane
@@ -73,9 +84,18 @@ impl Lane {
 
     // Whether a datagram from an address comes from the node.
     pub(crate) fn comes_from(&self, from: SocketAddr) -> bool
-        ensures { IsTrue result ↔ (socket_ip from ≡ self.now.host) × (socket_port from ≡ self.now.port.port) }
+        ensures same { (socket_ip from ≡ self.now.host) → (socket_port from ≡ self.now.port.port) → IsTrue result }
+        ensures only { IsTrue result → IsSameHost (socket_ip from) self.now.host × (socket_port from ≡ self.now.port.port) }
     {
-        from.ip() == self.host && from.port() == self.port.port
+        is_same_host(from.ip(), self.host) && from.port() == self.port.port
+    }
+
+    // Whether it leads to a node, and a datagram that names the node is from it: it comes from there, or may come from anywhere.
+    pub(crate) fn is_way_of(&self, is_open: bool, node: Node, from: SocketAddr) -> bool
+        ensures same { IsPlainlyFrom is_open node from self.now → IsTrue result }
+        ensures only { IsTrue result → IsFrom is_open node from self.now }
+    {
+        self.port.node == node && (is_open || self.comes_from(from))
     }
 
     // How many datagrams are held back.

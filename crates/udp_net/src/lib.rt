@@ -2,16 +2,20 @@
 //! (docs/FORMATS.md, "Settings"); and the hosts at which they are reached.
 #![tactic(auto)]
 
+mod asker;
 mod document;
 mod error;
 mod held_back;
 mod hosts;
 mod lane;
 mod memory_net;
+mod neighbours;
 mod net;
 mod node_ports;
+mod sieve;
 mod socket;
 mod socket_net;
+mod word;
 
 pub use document::settings;
 pub use error::{BindError, Fault, SettingsError};
@@ -21,6 +25,7 @@ pub use memory_net::{Listed, MemoryNet, Offered};
 pub use net::{Net, Received};
 pub use node_ports::{MOST_NODES, MOST_SILENT, NodePort, Settings};
 pub use socket_net::SocketNet;
+pub use word::{Echo, Neighbour, Place, Word};
 
 /// How many bytes a socket's net sends to a node in one turn, in bytes; the datagram that goes over them is sent too. The buffer of a socket has 212,992 bytes
 /// by default on Linux, of which a datagram takes up to twice its length.
@@ -44,3 +49,21 @@ pub const HELD_WAIT: u64 = 1;
 /// By how many of their first bytes two datagrams of the same length for a node are told apart, in bytes. In those of a packet stands what it is about: its header, and its
 /// view or proposal, place, number or index (docs/WIRE.md).
 pub const FRONT: usize = 128;
+
+/// The most bytes of a word: 36 at most of its head, 14 of who says it and when, 15 of what it answers, 16 of the view (docs/FORMATS.md, "Words").
+pub const WORD: usize = 81;
+
+/// For how many rounds the latest word of a node is known.
+pub const FORGOTTEN: u32 = 500;
+
+/// How much greater than its view's the counters of what a member hears may be: 2 to the 32 (docs/PROTOCOL.md, "What a net drops").
+pub const FURTHEST: u64 = 4_294_967_296;
+
+/// How long the first pause is of an address that asks to be let in, in rounds; the next ones are twice as long each (docs/PROTOCOL.md, "What a net drops").
+pub const FIRST_PAUSE: u32 = 100;
+
+/// How long such a pause is at most, in rounds.
+pub const LONGEST_PAUSE: u32 = 3_200;
+
+/// After how many rounds in a row in the view such an address starts afresh.
+pub const CALM: u32 = 100;

@@ -1,8 +1,8 @@
 ghost use Rattle.std.specs.Prelude.{◌≡◌, ◌≤◌, ℕ, Option, length, IfOk, IfSome};
 ghost use Rattle.udp_net.specs.Logs.{Log, Lists, offering, receiving, answer_of, failures_after};
 
-use crate::Fault;
-use address::Node;
+use crate::{Fault, Neighbour, Word};
+use address::{Address, Node, ViewId};
 use std::time::Duration;
 use trace_props::Bytes;
 
@@ -56,4 +56,34 @@ pub trait Net: Drop {
     /// How many datagrams could not be sent: the system refused them, or too many were held back; at most 2^64 - 1.
     fn unsent(&self) -> u64
         ensures { result ≡ unsent self.now };
+
+    /// A round of the member is over whose packets it carries. That is in this view now, with these members, or in none. Nothing is listed by it.
+    fn pass(&mut self, _view: Option<ViewId>, _members: &[Address])
+        ensures lists { Lists (log self.old) (λ l. l) (log self.new) }
+        ensures failed { failed self.new ≡ failed self.old }
+        ensures unsent { unsent self.old ≤ unsent self.new }
+    {}
+
+    /// Says a word to a node, if it is a net that carries words: it is no packet, and no receive gives it. Nothing is listed by it. From the first one on a net that does
+    /// drops what would merge views (docs/PROTOCOL.md, "What a net drops").
+    fn say(&mut self, _node: Node, _word: &Word)
+        ensures lists { Lists (log self.old) (λ l. l) (log self.new) }
+        ensures failed { failed self.new ≡ failed self.old }
+        ensures unsent { unsent self.old ≤ unsent self.new }
+    {}
+
+    /// What words told of each node that may say some; of none, if it carries no words.
+    fn words(&self) -> &[Neighbour] {
+        &[]
+    }
+
+    /// How many datagrams it dropped since they named no node that it knows, or came from elsewhere; at most 2^64 - 1.
+    fn strange(&self) -> u64 {
+        0
+    }
+
+    /// How many other packets it dropped on purpose, at most 2^64 - 1.
+    fn sieved(&self) -> u64 {
+        0
+    }
 }

@@ -1,19 +1,48 @@
-ghost use Rattle.std.specs.Prelude.{◌≡◌, ◌≤◌, length, map, IfOk, IfSome};
+ghost use Rattle.std.specs.Prelude.{◌≡◌, ◌≢◌, ◌≤◌, true, length, map, IfOk, IfSome, IsTrue, if◌then◌else◌};
 ghost use Rattle.udp_net.specs.Logs.{one_more, failures_after};
 ghost use Rattle.udp_net.specs.Bursts.{opened, passage};
 ghost use Rattle.udp_net.specs.Hosts.{host_of};
+ghost use Rattle.udp_net.specs.Sieve.{lets_through, IsOrdinary};
+ghost use Rattle.udp_net.specs.Strangers.{AnyLane, IsFrom, IsPlainlyFrom, is_strange, is_sieved};
+ghost use Rattle.udp_net.specs.Words.{begins_as_word};
+ghost use Rattle.udp_net.specs.declared.socket_net.Verdict.TheVariants.{Given};
+ghost use Rattle.wire_values.specs.declared.packet.Packet.{Packet as PacketValue};
+ghost use Rattle.wire.specs.Packets.{Spells, packet_of};
 ghost use Rattle.udp_net.specs.declared.lane.Passage.TheVariants.{Lost};
 
 use crate::lane::{Lane, Passage};
+use crate::neighbours::Neighbours;
+use crate::sieve::Sieve;
 use crate::socket::Socket;
-use crate::{BindError, Fault, HELD_WAIT, Hosts, Net, NodePort, Settings, TURN};
-use address::Node;
+use crate::word::is_word;
+use crate::{
+    BindError, Fault, HELD_WAIT, Hosts, Neighbour, Net, NodePort, Settings, TURN, WORD, Word,
+};
+use address::{Address, Node, ViewId};
 use std::alloc::{AllocError, Global};
 use std::net::SocketAddr;
 use std::time::Duration;
+use step_output::OwnedName;
+use wire::{Packet, decode};
 
-/// The net of one node: a socket of UDP at this node's host and at its port by the settings, which waits only in `wait`. What comes is heard as from a node where it comes
-/// from the node's host and port. Packets are neither signed nor encrypted, so the network must be one's own.
+/// What becomes of a datagram that comes.
+#[derive(Clone, Copy, PartialEq, Eq)]
+enum Verdict {
+    /// It is given.
+    Given,
+    /// It is a word, which counts.
+    Told,
+    /// It is dropped: it is no word of the group, or comes from elsewhere than the node that it names.
+    Strange,
+    /// It is dropped: the sieve does not let it through.
+    Sieved,
+}
+
+/// The net of one node: a socket of UDP at this node's host and at its port by the settings, which waits only in `wait`. Packets are neither signed nor encrypted, so the
+/// network must be one's own.
+///
+/// It drops packets and words of a node that the settings do not list, or that come from elsewhere than the node's host and port, and packets that would harm the group
+/// (docs/PROTOCOL.md, "What a net drops"). What spells no packet is given, and refused by the member.
 ///
 /// A long burst goes in pieces, since the buffer of the socket that it is for would not take it: in one turn `BURST` bytes go to a node, and the datagram that
 /// goes over them. What is more is held back, for each node by itself, and goes in order, in the next turns, before what is offered then. One that waits
@@ -32,6 +61,15 @@ pub struct SocketNet {
     // The receives of this turn.
     receives: u32,
     failures: u64,
+    group: OwnedName,
+    sieve: Sieve,
+    neighbours: Neighbours,
+    // The bytes of the word that is said.
+    spelled: Vec<u8>,
+    // Whether a node's datagrams are taken wherever they come from.
+    is_open: bool,
+    strange: u64,
+    sieved: u64,
 }
 
 // The ways to some nodes, each at its host.
@@ -73,6 +111,17 @@ fn send_on(socket: &mut Socket, lane: &mut Lane, datagram: &[u8])
     }
 }
 
+// Whether one of these ways leads to a node, and a datagram is from it: it comes from where the way leads, or may come from anywhere.
+fn is_on_a_lane(lanes: &[Lane], is_open: bool, node: Node, from: SocketAddr) -> bool
+    ensures same { AnyLane (IsPlainlyFrom is_open node from) lanes.now → IsTrue result }
+    ensures only { IsTrue result → AnyLane (IsFrom is_open node from) lanes.now }
+{
+    let Some((first, rest)) = lanes.split_first() else {
+        return false;
+    };
+    first.is_way_of(is_open, node, from) || is_on_a_lane(rest, is_open, node, from)
+}
+
 impl SocketNet {
     /// The net of a node. Refused with 50 where the settings do not list the node, with 51 where its socket cannot be bound, as where its port is taken, and
     /// with 7 where memory was refused.
@@ -85,18 +134,37 @@ impl SocketNet {
     ) -> Result<SocketNet, BindError> {
         let port = settings.port(node).ok_or(BindError::Config)?;
         let lanes = lanes_to(alloc, settings.nodes(), hosts)?;
+        let sieve = Sieve::new(alloc, settings.nodes(), settings.silent())?;
+        let neighbours = Neighbours::new(alloc, settings.nodes())?;
+        let spelled = Vec::with_capacity(alloc, WORD)?;
         match Socket::bind(network, SocketAddr::new(hosts.own(), port)) {
             Ok(socket) => Ok(SocketNet {
                 socket,
                 lanes,
                 receives: 0,
                 failures: 0,
+                group: OwnedName::of(&settings.group()),
+                sieve,
+                neighbours,
+                spelled,
+                is_open: false,
+                strange: 0,
+                sieved: 0,
             }),
             Err(_) => Err(BindError::Bind),
         }
     }
 
-    // A datagram came from an address.
+    /// From now on the datagrams of a node that the settings list are taken wherever they come from, as where addresses are translated on the way
+    /// (docs/PROTOCOL.md, "What a net drops").
+    pub fn hear_from_anywhere(&mut self)
+        ensures failed { self.new.failures ≡ self.old.failures }
+        ensures unsent { self.new.socket.unsent ≡ self.old.socket.unsent }
+    {
+        self.is_open = true;
+    }
+
+    // A datagram came from an address: the node that is reached there has rounds.
     fn hear(&mut self, from: SocketAddr)
         ensures failed { self.new.failures ≡ self.old.failures }
         ensures unsent { self.new.socket.unsent ≡ self.old.socket.unsent }
@@ -108,23 +176,119 @@ impl SocketNet {
         }
     }
 
-    // Takes the next datagram that came.
+    // A datagram that names a node is from it: it has rounds, also where its address is translated on the way.
+    fn hear_node(&mut self, node: Node)
+        ensures failed { self.new.failures ≡ self.old.failures }
+        ensures unsent { self.new.socket.unsent ≡ self.old.socket.unsent }
+        ensures sieve { self.new.sieve ≡ self.old.sieve }
+    {
+        for lane in self.lanes.as_mut_slice() {
+            if lane.node() == node {
+                lane.hear();
+            }
+        }
+    }
+
+    // Whether a datagram that names a node is from it.
+    fn is_from(&self, node: Node, from: SocketAddr) -> bool
+        ensures same { AnyLane (IsPlainlyFrom self.now.is_open node from) self.now.lanes.items → IsTrue result }
+        ensures only { IsTrue result → AnyLane (IsFrom self.now.is_open node from) self.now.lanes.items }
+    {
+        is_on_a_lane(self.lanes.as_slice(), self.is_open, node, from)
+    }
+
+    // What becomes of a datagram that begins as a word: it counts if it spells one of the group, and is from its node.
+    fn hear_word(&mut self, datagram: &[u8], from: SocketAddr) -> Verdict
+        ensures given { result ≢ Given }
+        ensures failed { self.new.failures ≡ self.old.failures }
+        ensures unsent { self.new.socket.unsent ≡ self.old.socket.unsent }
+    {
+        let Ok(word) = Word::read(datagram, &self.group.lent()) else {
+            return Verdict::Strange;
+        };
+        if !self.is_from(word.source.node(), from) {
+            return Verdict::Strange;
+        }
+        self.hear_node(word.source.node());
+        self.neighbours.hear(&word);
+        Verdict::Told
+    }
+
+    // What becomes of a packet.
+    fn judge_packet(&mut self, packet: &Packet<'_>, from: SocketAddr) -> Verdict
+        ensures given { result ≡ Given → AnyLane (IsFrom self.old.is_open packet.now.source.node from) self.old.lanes.items × (lets_through self.old.sieve packet.now ≡ true) }
+        ensures ordinary { IsOrdinary self.old.sieve packet.now → AnyLane (IsPlainlyFrom self.old.is_open packet.now.source.node from) self.old.lanes.items → result ≡ Given }
+        ensures failed { self.new.failures ≡ self.old.failures }
+        ensures unsent { self.new.socket.unsent ≡ self.old.socket.unsent }
+    {
+        if !self.is_from(packet.source.node(), from) {
+            return Verdict::Strange;
+        }
+        self.hear_node(packet.source.node());
+        if !self.sieve.lets_through(packet) {
+            return Verdict::Sieved;
+        }
+        self.sieve.hear(packet);
+        Verdict::Given
+    }
+
+    // What becomes of a datagram: what spells no packet is given, unless it is a word.
+    fn judge(&mut self, datagram: &[u8], from: SocketAddr) -> Verdict
+        // No word is given; and a packet only if it comes from the node that it names, and the sieve lets it through.
+        ensures word { begins_as_word datagram.now ≡ true → result ≢ Given }
+        ensures given { result ≡ Given → IfOk (packet_of datagram.now) (λ p. AnyLane (IsFrom self.old.is_open p.source.node from) self.old.lanes.items × (lets_through self.old.sieve p ≡ true)) }
+        // The messages of a view, and what flushes it for its members, are always given, if they come from the node that they name.
+        ensures ordinary { (p : PacketValue) → Spells p datagram.now → IsOrdinary self.old.sieve p → AnyLane (IsPlainlyFrom self.old.is_open p.source.node from) self.old.lanes.items → result ≡ Given }
+        ensures failed { self.new.failures ≡ self.old.failures }
+        ensures unsent { self.new.socket.unsent ≡ self.old.socket.unsent }
+    {
+        if is_word(datagram) {
+            return self.hear_word(datagram, from);
+        }
+        match decode(datagram) {
+            Ok(packet) => self.judge_packet(&packet, from),
+            Err(_) => Verdict::Given,
+        }
+    }
+
+    // Counts a datagram that is dropped.
+    fn count(&mut self, verdict: Verdict)
+        ensures strange { self.new.strange ≡ (if is_strange verdict then one_more self.old.strange else self.old.strange) }
+        ensures sieved { self.new.sieved ≡ (if is_sieved verdict then one_more self.old.sieved else self.old.sieved) }
+        ensures failed { self.new.failures ≡ self.old.failures }
+        ensures unsent { self.new.socket.unsent ≡ self.old.socket.unsent }
+    {
+        match verdict {
+            Verdict::Given | Verdict::Told => {}
+            Verdict::Strange => self.strange = self.strange.saturating_add(1),
+            Verdict::Sieved => self.sieved = self.sieved.saturating_add(1),
+        }
+    }
+
+    // Takes the next datagram that is given; none where `TURN` in a row are dropped.
     fn take(&mut self, buffer: &mut [u8]) -> Result<Option<usize>, Fault>
         ensures within { IfOk result (λ count. IfSome count (λ n. n ≤ length buffer.new)) }
         ensures failed { self.new.failures ≡ failures_after self.old.failures result }
         ensures unsent { self.new.socket.unsent ≡ self.old.socket.unsent }
     {
-        match self.socket.receive(buffer) {
-            Ok(Some((count, from))) => {
-                self.hear(from);
-                Ok(Some(count))
-            }
-            Ok(None) => Ok(None),
-            Err(_) => {
-                self.failures = self.failures.saturating_add(1);
-                Err(Fault::Receive)
+        for _ in 0..TURN {
+            match self.socket.receive(buffer) {
+                Ok(Some((count, from))) => {
+                    self.hear(from);
+                    let verdict = self.judge(&buffer[..count], from);
+                    if verdict == Verdict::Given {
+                        return Ok(Some(count));
+                    }
+                    self.count(verdict);
+                }
+                Ok(None) => return Ok(None),
+                Err(_) => {
+                    self.failures = self.failures.saturating_add(1);
+                    return Err(Fault::Receive);
+                }
             }
         }
+        Ok(None)
     }
 
     // Whether a datagram is held back for some node.
@@ -190,5 +354,40 @@ impl Net for SocketNet {
 
     fn unsent(&self) -> u64 {
         self.socket.unsent()
+    }
+
+    fn pass(&mut self, view: Option<ViewId>, members: &[Address]) {
+        self.sieve.pass(view, members);
+        self.neighbours.pass();
+    }
+
+    /// Sends it to the node's host and port at once; one for a node that the settings do not list is lost, and does not count as unsent.
+    fn say(&mut self, node: Node, word: &Word) {
+        self.sieve.say_words();
+        self.neighbours.answer(node);
+        self.spelled.clear();
+        if word.spell(&self.group.lent(), &mut self.spelled).is_err() {
+            self.socket.lose();
+            return;
+        }
+        let socket = &mut self.socket;
+        for lane in self.lanes.as_slice() {
+            if lane.node() == node {
+                socket.send(lane.address(), self.spelled.as_slice());
+            }
+        }
+    }
+
+    fn words(&self) -> &[Neighbour] {
+        self.neighbours.told()
+    }
+
+    /// Also words that are spelled wrongly, or are of another group.
+    fn strange(&self) -> u64 {
+        self.strange
+    }
+
+    fn sieved(&self) -> u64 {
+        self.sieved
     }
 }

@@ -105,7 +105,7 @@ module _ {N S : Type 0} (log : N → Option Log) (failed : N → ℕ) (meaning :
   pub told-begun : (law : PlayedAreHistories log failed meaning) (real : IsAddress member) (line_of_state : Address → S → List ℕ) (net : N) → ForSome (log net) (λ l. l ≡ [])
       → (texts : List (List ℕ)) × IsTold log meaning line_of_state group member net texts
   told-begun law real line_of_state net fresh =
-      let first : Driven N S = record { net = net; channel = new_channel meaning member; faults = 0; notes = nothing_noted [] } in
+      let first : Driven N S = record { net = net; channel = new_channel meaning member; faults = 0; notes = nothing_noted [] 0 } in
       (_, is-told law real first refl fresh line_of_state [] [] false false first first Begun refl Begun refl)
 
   -- ---- it goes on, and its net is given back

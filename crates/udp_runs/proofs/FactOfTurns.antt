@@ -148,11 +148,14 @@ module _ {N S : Type 0} (log : N → Option Log) (failed : N → ℕ) (meaning :
   cut-end : (e k : Error) → Some e ≡ Some k → is_end k ≡ true → is_end e ≡ true
   cut-end e k same ends = ap is_end (same_Some e k same) ∙ ends
 
+  suspects-end : (old new : Driven N S) (k : Error) → Suspects log failed meaning old (Some k) new → is_end k ≡ true
+  suspects-end old new k (inl c) = c.ends
+  suspects-end old new k (inr c) = absurd (let n : Some k ≡ None = c.0 in cc)
+
   ticks-end : (mid new : Driven N S) (e : Error) (s : SuspectsAndTicks log failed meaning mid (Some e) new) (cut : Option Error) → s.cut ≡ cut → is_end e ≡ true
   ticks-end mid new e s None is = (s.ticks is).why.1
   ticks-end mid new e s (Some k) is =
-      let suspects = subst (λ (c : Option Error). Suspects log failed meaning mid c s.mid) is s.suspects in
-      cut-end e k (s.stops k is).0 suspects.ends
+      cut-end e k (s.stops k is).0 (suspects-end mid s.mid k (subst (λ (c : Option Error). Suspects log failed meaning mid c s.mid) is s.suspects))
 
   hears-end : (old new : Driven N S) (e : Error) (r : Rounds log failed meaning old (Some e) new) (heard : Result ℕ Error) → r.heard ≡ heard → is_end e ≡ true
   hears-end old new e r (Ok count) is = ticks-end r.mid new e (r.then_suspects count is) (r.then_suspects count is).cut refl

@@ -8,3 +8,4 @@ pub mod FactOfEnds
 pub mod FactOfTelling
 pub mod FactOfScripts
 pub mod FactOfMembers
+pub mod RanksAreOrdered

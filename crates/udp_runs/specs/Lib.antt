@@ -8,3 +8,5 @@ pub mod Scripts
 pub mod Playing
 pub mod Telling
 pub mod Members
+pub mod Ranks
+pub mod Finding

@@ -24,6 +24,10 @@ impl From<AllocError> for LinesError {
 pub trait Lines {
     /// Appends to a text what came since the last call, or a part of it. It does not wait, and may append nothing.
     fn more(&mut self, text: &mut Vec<u8>) -> Result<(), LinesError>;
+
+    /// Takes back lines that came and were not sent, or not delivered, each with its line feed but perhaps the last: who keeps them has them come first for the node's next
+    /// incarnation. They are lost where nobody keeps them.
+    fn back(&mut self, _text: &[u8]) {}
 }
 
 /// No lines.

@@ -3,47 +3,54 @@
 ghost use Rattle.std.specs.Prelude.{◌≡◌, ℕ, List, []};
 ghost use Rattle.udp_runs.specs.Telling.{PlaysAlone, Quietly, Tells, Waits};
 
-use crate::calls::{Call, do_call, send};
+use crate::calls::Call;
 use crate::ends::Cut;
-use crate::outbox::{Outbox, OutboxError};
+use crate::finding::{Finder, milliseconds};
+use crate::outbox::Outbox;
 use crate::telling::Teller;
-use crate::{Lines, LinesError, Machine, Manner, Tally, Trouble};
+use crate::watch::Watch;
+use crate::{Lines, Machine, Manner, Tally};
 use address::{Address, ViewId};
 use application::Application;
 use channel::Error;
 use limits::Refusal;
-use script_reader::{MemberPlan, Unheard};
+use script_reader::MemberPlan;
 use std::alloc::Global;
 use std::io::Write;
 use std::time::Duration;
-use trace_props::Bytes;
 use udp_member::{RECEIVES, Runner};
 use udp_net::{Net, Settings};
 
 /// How often a node listens between two of its rounds, at most: with as many datagrams each time as a round takes, so that others cannot keep it from its rounds.
 const LISTENS: u32 = 4_096;
 
-/// How many lines a node sends at once, at most.
-const SENDS: u32 = 1_024;
-
 /// A member that runs by itself.
 #[derive(Drop)]
 pub(crate) struct Lone<'a, N: Net, C: Application> {
-    alloc: Global,
-    member: Runner<N, C>,
-    manner: Manner,
-    // What it has to send yet.
-    unsent: Option<&'a [u8]>,
+    pub(crate) alloc: Global,
+    pub(crate) member: Runner<N, C>,
+    pub(crate) manner: Manner,
+    // What it sends once, and whether that was not sent yet, or came back.
+    pub(crate) once: Option<&'a [u8]>,
+    pub(crate) is_unsent: bool,
     // The view for which it has said what its coordinator says first.
-    opened: Option<ViewId>,
-    outbox: Outbox,
-    teller: Teller,
+    pub(crate) opened: Option<ViewId>,
+    pub(crate) outbox: Outbox,
+    pub(crate) teller: Teller,
     // Whether it has ended.
-    has_ended: bool,
+    pub(crate) has_ended: bool,
+    pub(crate) finder: Finder,
+    // Whether it gives up its address.
+    pub(crate) gives_up: bool,
+    // The round in which it is.
+    pub(crate) round: u64,
+    // The time when it looked last.
+    pub(crate) time: Duration,
+    pub(crate) watch: Watch,
 }
 
 // What is left of an answer of a channel to one that runs by itself: want of memory ends it, and what is refused else is passed over.
-fn unless_memory(answer: Result<(), Error>) -> Result<(), Cut> {
+pub(crate) fn unless_memory(answer: Result<(), Error>) -> Result<(), Cut> {
     match answer {
         Err(Error::Refused(Refusal::Memory)) => Err(Cut::Memory),
         _ => Ok(()),
@@ -56,7 +63,7 @@ impl<'a, N: Net, C: Application> Lone<'a, N, C> {
         alloc: Global,
         member: Runner<N, C>,
         manner: Manner,
-        unsent: Option<&'a [u8]>,
+        once: Option<&'a [u8]>,
     ) -> Lone<'a, N, C>
         ensures member { result.member ≡ member }
         ensures speaks { result.teller.speaks ≡ manner.speaks }
@@ -65,11 +72,17 @@ impl<'a, N: Net, C: Application> Lone<'a, N, C> {
             alloc,
             member,
             manner,
-            unsent,
+            once,
+            is_unsent: once.is_some(),
             opened: None,
             outbox: Outbox::new(alloc),
             teller: Teller::new(alloc, manner.speaks),
             has_ended: false,
+            finder: Finder::new(manner.tick, None),
+            gives_up: false,
+            round: 0,
+            time: Duration::ZERO,
+            watch: Watch::new(),
         }
     }
 
@@ -83,7 +96,20 @@ impl<'a, N: Net, C: Application> Lone<'a, N, C> {
         tally.unreceived = self.member.faults();
         tally.unsent = self.member.net().unsent();
         tally.has_ended = self.has_ended;
+        tally.gives_up = self.gives_up;
+        tally.rounds = self.round;
+        tally.is_unsaid = self.is_unsent || self.teller.unsaid.has_once();
+        tally.strange = self.member.net().strange();
+        tally.sieved = self.member.net().sieved();
         tally
+    }
+
+    /// Gives back the lines that were not sent, or were not delivered, where it finds its group: those first that were sent first.
+    pub(crate) fn give_back<L: Lines>(&self, lines: &mut L) {
+        if self.manner.finds {
+            self.teller.unsaid.give_back(lines);
+            lines.back(self.outbox.waiting());
+        }
     }
 
     /// Its net, where it is no more used.
@@ -98,139 +124,14 @@ impl<'a, N: Net, C: Application> Lone<'a, N, C> {
         ensures drives { Quietly N.log N.failed C.meaning settings.now.group self.old.member self.new.member }
         ensures speaks { self.new.teller.speaks ≡ self.old.teller.speaks }
     {
-        let group = settings.group();
         let call = match contact {
             Some(contact) => Call::Join(contact),
+            // It looks first.
+            None if self.manner.finds => return Ok(()),
             None => Call::Create,
         };
-        let answer = do_call(self.alloc, &mut self.member, group.as_slice(), &call)?;
-        unless_memory(answer)
-    }
-
-    // Sends, as the coordinator of its view, what that sends first in the view, if it may.
-    fn send_first(&mut self) -> Result<(), Cut>
-        ensures drives { (group : List ℕ) → Quietly N.log N.failed C.meaning group self.old.member self.new.member }
-        ensures speaks { self.new.teller.speaks ≡ self.old.teller.speaks }
-    {
-        let Some(id) = self.unopened() else {
-            return Ok(());
-        };
-        if self.opens()? {
-            self.opened = Some(id);
-        }
-        Ok(())
-    }
-
-    // The id of its view, where it is the coordinator there and has not said yet what that says first.
-    fn unopened(&mut self) -> Option<ViewId>
-        ensures member { self.new.member ≡ self.old.member }
-        ensures speaks { self.new.teller.speaks ≡ self.old.teller.speaks }
-    {
-        let channel = self.member.channel();
-        let view = channel.view()?;
-        let id = view.id();
-        if view.first() != channel.address() {
-            return None;
-        }
-        if self.opened == Some(id) {
-            return None;
-        }
-        Some(id)
-    }
-
-    // Sends what the coordinator of its view sends first there, if it sends anything; answers whether nothing of it is left.
-    fn opens(&mut self) -> Result<bool, Cut>
-        ensures drives { (group : List ℕ) → Quietly N.log N.failed C.meaning group self.old.member self.new.member }
-        ensures speaks { self.new.teller.speaks ≡ self.old.teller.speaks }
-    {
-        let Some(view) = self.member.channel().view() else {
-            return Ok(false);
-        };
-        match C::first_message(self.alloc, view)? {
-            Some(payload) => self.sends(&payload),
-            None => Ok(true),
-        }
-    }
-
-    // Sends what it has to send once, if it may.
-    fn send_once(&mut self) -> Result<(), Cut>
-        ensures drives { (group : List ℕ) → Quietly N.log N.failed C.meaning group self.old.member self.new.member }
-        ensures speaks { self.new.teller.speaks ≡ self.old.teller.speaks }
-    {
-        let Some(text) = self.unsent else {
-            return Ok(());
-        };
-        if self.says(text)? {
-            self.unsent = None;
-        }
-        Ok(())
-    }
-
-    // Sends what a text says in its view, and answers whether it was taken.
-    fn says(&mut self, text: &[u8]) -> Result<bool, Cut>
-        ensures drives { (group : List ℕ) → Quietly N.log N.failed C.meaning group self.old.member self.new.member }
-        ensures speaks { self.new.teller.speaks ≡ self.old.teller.speaks }
-    {
-        let Some(view) = self.member.channel().view() else {
-            return Ok(false);
-        };
-        match C::payload_in_view(self.alloc, view.id(), text) {
-            Ok(payload) => self.sends(&payload),
-            Err(Unheard::Memory) => Err(Cut::Memory),
-            Err(Unheard::Fault(fault)) => {
-                self.teller.tally.trouble = Some(Trouble::NoPayload(fault));
-                Err(Cut::Failed)
-            }
-        }
-    }
-
-    // Sends a payload, and answers whether it was taken.
-    fn sends(&mut self, payload: &Bytes) -> Result<bool, Cut>
-        ensures drives { (group : List ℕ) → Quietly N.log N.failed C.meaning group self.old.member self.new.member }
-        ensures speaks { self.new.teller.speaks ≡ self.old.teller.speaks }
-    {
-        let answer = send(self.alloc, &mut self.member, payload)?;
-        let is_taken = answer.is_ok();
-        unless_memory(answer)?;
-        Ok(is_taken)
-    }
-
-    // Sends the lines that wait, as many as it may; answers whether it sent any.
-    fn send_lines(&mut self) -> Result<bool, Cut>
-        ensures drives { (group : List ℕ) → Quietly N.log N.failed C.meaning group self.old.member self.new.member }
-        ensures speaks { self.new.teller.speaks ≡ self.old.teller.speaks }
-    {
-        self.send_first()?;
-        for sent in 0..SENDS {
-            let line = match self.outbox.next() {
-                Ok(Some(line)) => Vec::from_slice(self.alloc, line)?,
-                Ok(None) => return Ok(sent > 0),
-                Err(OutboxError::Long) => {
-                    self.teller.tally.trouble = Some(Trouble::LongLine);
-                    return Err(Cut::Failed);
-                }
-            };
-            if !self.says(line.as_slice())? {
-                return Ok(sent > 0);
-            }
-            self.outbox.take();
-        }
-        Ok(true)
-    }
-
-    // Takes the lines that came.
-    fn take_lines<L: Lines>(&mut self, lines: &mut L) -> Result<(), Cut>
-        ensures member { self.new.member ≡ self.old.member }
-        ensures speaks { self.new.teller.speaks ≡ self.old.teller.speaks }
-    {
-        match self.outbox.fill(lines) {
-            Ok(()) => Ok(()),
-            Err(LinesError::Memory) => Err(Cut::Memory),
-            Err(LinesError::Gone) => {
-                self.teller.tally.trouble = Some(Trouble::NoLines);
-                Err(Cut::Failed)
-            }
-        }
+        self.finder = Finder::new(self.manner.tick, contact);
+        self.call(settings, &call)
     }
 
     // Whether it goes on after an answer of its runner: not where it has ended.
@@ -246,17 +147,16 @@ impl<'a, N: Net, C: Application> Lone<'a, N, C> {
     }
 
     // A round; it seeks whom its view lacks, where it is time to.
-    fn round(&mut self, round: u64) -> Result<(), Cut>
+    fn round(&mut self) -> Result<(), Cut>
         ensures drives { (group : List ℕ) → Quietly N.log N.failed C.meaning group self.old.member self.new.member }
         ensures speaks { self.new.teller.speaks ≡ self.old.teller.speaks }
     {
-        self.send_first()?;
-        self.send_once()?;
-        self.send_lines()?;
+        self.send_all()?;
         let answer = self.member.round();
+        self.member.meet();
         self.goes_on(answer)?;
         let merge = u64::from(self.manner.merge);
-        if self.has_ended || merge == 0 || round % merge != 0 {
+        if self.has_ended || self.manner.finds || merge == 0 || self.round % merge != 0 {
             return Ok(());
         }
         let answer = self.member.seek();
@@ -307,17 +207,20 @@ impl<'a, N: Net, C: Application> Lone<'a, N, C> {
     // One of its rounds, and what happened by it.
     fn turn<L: Lines, W: Write>(
         &mut self,
-        round: u64,
+        settings: &Settings,
         lines: &mut L,
         writer: &mut W,
     ) -> Result<(), Cut>
-        ensures tells { (group : List ℕ) → Tells N.log N.failed C.meaning group self.old.teller.speaks self.old.member self.new.member (W.contents writer.old) (W.contents writer.new) result }
+        ensures tells { Tells N.log N.failed C.meaning settings.now.group self.old.teller.speaks self.old.member self.new.member (W.contents writer.old) (W.contents writer.new) result }
         ensures speaks { self.new.teller.speaks ≡ self.old.teller.speaks }
     {
         if let Err(why) = self.take_lines(lines) {
             return Err(why);
         }
-        let went = self.round(round);
+        let went = match self.round() {
+            Ok(()) => self.find(settings),
+            Err(why) => Err(why),
+        };
         match self.show_events(writer) {
             Ok(()) => went,
             Err(why) => Err(why),
@@ -351,6 +254,15 @@ impl<'a, N: Net, C: Application> Lone<'a, N, C> {
         }
     }
 
+    // It is this time.
+    fn go_on(&mut self, now: Duration)
+        ensures member { self.new.member ≡ self.old.member }
+        ensures speaks { self.new.teller.speaks ≡ self.old.teller.speaks }
+    {
+        self.time = now;
+        self.finder.go_on(milliseconds(now));
+    }
+
     // Handles datagrams as they come, until it is time for the next round.
     fn listen_until<M: Machine, W: Write>(
         &mut self,
@@ -363,7 +275,8 @@ impl<'a, N: Net, C: Application> Lone<'a, N, C> {
         ensures gone { M.gone machine.new ≡ M.gone machine.old }
     {
         for _ in 0..LISTENS {
-            let rest = due.saturating_sub(machine.now());
+            self.go_on(machine.now());
+            let rest = due.saturating_sub(self.time);
             if self.has_ended || rest == Duration::ZERO {
                 return Ok(());
             }
@@ -396,27 +309,30 @@ impl<'a, N: Net, C: Application> Lone<'a, N, C> {
     // All of its rounds, until its lines are over; between two it handles datagrams as they come.
     fn turns<L: Lines, M: Machine, W: Write>(
         &mut self,
+        settings: &Settings,
         rounds: u64,
         lines: &mut L,
         machine: &mut M,
         writer: &mut W,
     ) -> Result<(), Cut>
-        ensures tells { (group : List ℕ) → self.old.member.channel.happened ≡ [] → Tells N.log N.failed C.meaning group self.old.teller.speaks self.old.member self.new.member (W.contents writer.old) (W.contents writer.new) result }
+        ensures tells { self.old.member.channel.happened ≡ [] → Tells N.log N.failed C.meaning settings.now.group self.old.teller.speaks self.old.member self.new.member (W.contents writer.old) (W.contents writer.new) result }
         ensures speaks { self.new.teller.speaks ≡ self.old.teller.speaks }
         ensures gone { M.gone machine.new ≡ M.gone machine.old }
     {
         for round in 0..rounds {
-            if self.has_ended || self.outbox.is_over() {
+            if self.has_ended || self.gives_up || self.outbox.is_over() {
                 return Ok(());
             }
             match self.rest(round, machine, writer) {
                 Ok(()) => (),
                 Err(why) => return Err(why),
             }
-            match self.turn(round, lines, writer) {
+            self.round = round;
+            match self.turn(settings, lines, writer) {
                 Ok(()) => (),
                 Err(why) => return Err(why),
             }
+            self.look(machine);
         }
         Ok(())
     }
@@ -426,7 +342,7 @@ impl<'a, N: Net, C: Application> Lone<'a, N, C> {
         ensures tells { (group : List ℕ) → self.old.member.channel.happened ≡ [] → Tells N.log N.failed C.meaning group self.old.teller.speaks self.old.member self.new.member (W.contents writer.old) (W.contents writer.new) result }
         ensures speaks { self.new.teller.speaks ≡ self.old.teller.speaks }
     {
-        if self.has_ended || !self.manner.leaves {
+        if self.has_ended || !(self.manner.leaves || self.gives_up) {
             return Ok(());
         }
         let left = unless_memory(self.member.channel().disconnect());
@@ -454,7 +370,7 @@ impl<'a, N: Net, C: Application> Lone<'a, N, C> {
             Ok(()) => (),
             Err(why) => return Err(why),
         }
-        match self.turns(plan.rounds, lines, machine, writer) {
+        match self.turns(settings, plan.rounds, lines, machine, writer) {
             Ok(()) => (),
             Err(why) => return Err(why),
         }

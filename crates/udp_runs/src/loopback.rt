@@ -19,6 +19,8 @@ pub struct Loopback<'a, R> {
     hosts: Hosts,
     is_unbound: bool,
     tally: Option<Tally>,
+    // Whether a node's datagrams are taken wherever they come from.
+    is_open: bool,
 }
 
 impl<'a, R> Model for Loopback<'a, R> {
@@ -46,7 +48,15 @@ impl<'a, R> Loopback<'a, R> {
             hosts,
             is_unbound: false,
             tally: None,
+            is_open: false,
         }
+    }
+
+    /// From now on the nets that it makes take a node's datagrams wherever they come from, as where addresses are translated on the way.
+    pub fn hear_from_anywhere(&mut self)
+        ensures { self.new ≡ self.old }
+    {
+        self.is_open = true;
     }
 
     /// What happened at a node that ran by itself and has ended; `None` where none has.
@@ -73,11 +83,20 @@ impl<'a, R: std::net::Net + Clock> Machine for Loopback<'a, R> {
         ensures fresh { IfOk result (λ net. ForSome (⟦<SocketNet as Net>⟧.log net) (λ l. l ≡ [])) }
         ensures after { self.new ≡ record self.old { is_unbound = unbound_after self.old.is_unbound (result_err result) } }
     {
-        let bound = SocketNet::bind(self.alloc, self.runtime, self.settings, &self.hosts, node);
-        if matches!(&bound, Err(BindError::Bind)) {
-            self.is_unbound = true;
+        match SocketNet::bind(self.alloc, self.runtime, self.settings, &self.hosts, node) {
+            Ok(mut net) => {
+                if self.is_open {
+                    net.hear_from_anywhere();
+                }
+                Ok(net)
+            }
+            Err(error) => {
+                if error == BindError::Bind {
+                    self.is_unbound = true;
+                }
+                Err(error)
+            }
         }
-        bound
     }
 
     // Its socket is closed.

@@ -3,7 +3,7 @@ ghost use Rattle.std.specs.Option.{ForSome};
 ghost use Rattle.deployed_runners.specs.Systems.{Gone};
 ghost use Rattle.udp_runs.specs.Machines.{GivesBack};
 
-use crate::Tally;
+use crate::{NodeStatus, Notice, Tally};
 use address::{Address, Node};
 use std::time::Duration;
 use udp_net::{BindError, Net};
@@ -33,4 +33,14 @@ pub trait Machine {
     /// Is told what happened at a node that ran by itself.
     fn tell(&mut self, tally: &Tally)
         ensures { gone self.new ≡ gone self.old };
+
+    /// Is shown, at most once a second, how a node is that runs by itself.
+    fn show(&mut self, _status: &NodeStatus<'_>)
+        ensures { gone self.new ≡ gone self.old }
+    {}
+
+    /// Is told, while a node runs by itself, what whoever looks after it should know.
+    fn notice(&mut self, _notice: Notice)
+        ensures { gone self.new ≡ gone self.old }
+    {}
 }

@@ -1,6 +1,7 @@
 ghost use Rattle.std.specs.Prelude.{◌≡◌};
 ghost use Rattle.udp_runs.specs.Tallies.{nothing_happened};
 
+use address::{Address, ViewId};
 use script_reader::Fault;
 use std::time::Duration;
 
@@ -15,17 +16,49 @@ pub struct Manner {
     pub leaves: bool,
     /// Whether it writes what is said as text, and who comes and goes, in place of its trace and its chat.
     pub speaks: bool,
+    /// Whether it finds its group by words, and gives way to a greater view (docs/PROTOCOL.md, "Finding", "Giving way").
+    pub finds: bool,
+    /// It sends only in views of at least so many members.
+    pub quorum: u32,
 }
 
 /// What stopped a node that sends lines.
 #[derive(Clone, Copy, Debug, PartialEq, Eq)]
 pub enum Trouble {
-    /// A line was longer than `PAYLOAD` bytes (`limits`).
-    LongLine,
     /// The lines could not be read any more.
     NoLines,
-    /// A line, or what was to be sent once, says no payload: this is wrong with it (`script_reader::Fault`).
+    /// What was to be sent once says no payload: this is wrong with it (`script_reader::Fault`).
     NoPayload(Fault),
+}
+
+/// What whoever looks after a node that runs by itself should know.
+#[derive(Clone, Copy, Debug, PartialEq, Eq)]
+pub enum Notice {
+    /// A line is not sent, since it is longer than `PAYLOAD` bytes (`limits`).
+    LongLine,
+    /// A line is not sent, since it says no payload: this is wrong with it (`script_reader::Fault`).
+    BadLine(Fault),
+    /// Lines wait, for its view has so many members, and that is too few.
+    TooFew(usize),
+}
+
+/// How a node is that runs by itself.
+#[derive(Clone, Copy, Debug)]
+pub struct NodeStatus<'a> {
+    /// The address of its member.
+    pub address: Address,
+    /// The id of its view, if it is in one.
+    pub view: Option<ViewId>,
+    /// The members of its view, in its order.
+    pub members: &'a [Address],
+    /// For how long its member has been blocked, if it is.
+    pub blocked: Option<Duration>,
+    /// How many messages it sent that were not delivered to it yet.
+    pub outstanding: u64,
+    /// How many messages of its view are stable, as far as it knows (docs/PROTOCOL.md, "Stability").
+    pub stable: u64,
+    /// The datagrams that came from elsewhere than the node that they name, or from a node that the settings do not list.
+    pub strange: u64,
 }
 
 /// What happened at a node that ran by itself, in numbers; each is at most 2^64 - 1.
@@ -49,6 +82,16 @@ pub struct Tally {
     pub has_ended: bool,
     /// What stopped it, if its lines did.
     pub trouble: Option<Trouble>,
+    /// Whether it gave up its address, to begin again as its next incarnation.
+    pub gives_up: bool,
+    /// How many rounds it had.
+    pub rounds: u64,
+    /// Whether what it was to send once was not sent, or not delivered.
+    pub is_unsaid: bool,
+    /// The datagrams that came from elsewhere than the node that they name, or from a node that the settings do not list.
+    pub strange: u64,
+    /// The packets that its net dropped else.
+    pub sieved: u64,
 }
 
 impl Tally {
@@ -66,6 +109,11 @@ impl Tally {
             unreceived: 0,
             has_ended: false,
             trouble: None,
+            gives_up: false,
+            rounds: 0,
+            is_unsaid: false,
+            strange: 0,
+            sieved: 0,
         }
     }
 }

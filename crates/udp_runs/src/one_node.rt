@@ -54,6 +54,7 @@ fn go_on<C: Application, L: Lines, M: Machine, W: Write>(
     };
     let mut lone = Lone::new(alloc, member, manner, plan.send);
     let played = lone.play(settings, plan, lines, machine, writer);
+    lone.give_back(lines);
     machine.tell(&lone.tally());
     machine.close(plan.address, lone.into_net());
     played

@@ -13,13 +13,14 @@ use crate::Tally;
 use crate::ends::{Cut, settle};
 use crate::process::append_state_of;
 use crate::speaking::Speaker;
+use crate::unsaid::Unsaid;
 use address::Address;
 use application::Application;
 use channel::Channel;
 use std::alloc::{AllocError, Global};
 use std::io::Write;
 use trace_props::Event;
-use vsync_text::append_event;
+use vsync_text::{append_event, put};
 
 /// Tells what happens, as the lines of a trace or as what is said, and counts it.
 #[derive(Drop)]
@@ -28,8 +29,12 @@ pub(crate) struct Teller {
     speaker: Speaker,
     // What is written next.
     text: Vec<u8>,
+    // Whether it is to say that its member is blocked.
+    is_blocked: bool,
     /// What happened so far, in numbers.
     pub(crate) tally: Tally,
+    /// What its node sent and has not seen delivered.
+    pub(crate) unsaid: Unsaid,
 }
 
 // Counts an event.
@@ -73,7 +78,9 @@ impl Teller {
             speaks,
             speaker: Speaker::new(alloc),
             text: Vec::new(alloc),
+            is_blocked: false,
             tally: Tally::new(),
+            unsaid: Unsaid::new(alloc),
         }
     }
 
@@ -110,6 +117,25 @@ impl Teller {
         show(writer, &mut self.text, appended)
     }
 
+    /// Says next, where it tells what is said, that its member is blocked.
+    pub(crate) fn say_blocked(&mut self)
+        ensures speaks { self.new.speaks ≡ self.old.speaks }
+    {
+        self.is_blocked = true;
+    }
+
+    // Appends that its member is blocked, if it is to say so.
+    fn append_blocked(&mut self) -> Result<(), AllocError>
+        ensures text { self.old.speaks ≡ false → self.new.text.items ≡ self.old.text.items }
+        ensures speaks { self.new.speaks ≡ self.old.speaks }
+    {
+        if self.speaks && self.is_blocked {
+            self.is_blocked = false;
+            put(&mut self.text, b"* blocked: nothing can be sent before the next view\n")?;
+        }
+        Ok(())
+    }
+
     // Appends what is to be told of an event, and counts it.
     fn append(&mut self, event: &Event) -> Result<(), AllocError>
         ensures text { self.old.speaks ≡ false → OnOk result (self.new.text.items ≡ self.old.text.items ++ line_of event.now) }
@@ -117,6 +143,7 @@ impl Teller {
         ensures speaks { self.new.speaks ≡ self.old.speaks }
     {
         count(&mut self.tally, event);
+        self.unsaid.note(event)?;
         if self.speaks {
             self.speaker.append(&mut self.text, event)
         } else {
@@ -132,6 +159,7 @@ impl Teller {
         ensures told { OnOk result (channel.new ≡ all_told channel.old) }
         ensures speaks { self.new.speaks ≡ self.old.speaks }
     {
+        self.append_blocked()?;
         while let Some(event) = channel.happened() {
             self.append(&event)?;
         }

@@ -225,7 +225,7 @@ fn carried(from: &mut Chat, to: &mut Chat) -> &'static str {
     };
     let bytes = packet.bytes.as_slice();
     match to.incoming(bytes) {
-        Ok(Some(source)) if source == from.address() => packet_kind(bytes),
+        Ok(Some(heard)) if heard.source == from.address() => packet_kind(bytes),
         Ok(_) => "of another",
         Err(_) => "refused",
     }

@@ -17,6 +17,7 @@ mod scripts;
 mod seeking;
 mod silent;
 mod sockets;
+mod words;
 
 use files::bytes_of;
 use std::alloc::AllocError;
@@ -121,6 +122,18 @@ fn print_commands(rt: &HostRuntime, text: &mut Vec<u8>) -> io::Result<()> {
     print(rt, "a node that says lines", told, text)
 }
 
+/// Prints the stories of words, and of what a socket's net drops.
+fn print_words(rt: &HostRuntime, text: &mut Vec<u8>) -> io::Result<()> {
+    let told = words::said(rt, text);
+    print(rt, "words, over sockets", told, text)?;
+    let told = words::strange(rt, text);
+    print(rt, "who comes from elsewhere", told, text)?;
+    let told = words::asks(rt, text);
+    print(rt, "one who asks again and again", told, text)?;
+    let told = words::sieved(rt, text);
+    print(rt, "packets that a net drops", told, text)
+}
+
 /// Prints the stories over sockets.
 fn print_nets(rt: &HostRuntime, text: &mut Vec<u8>) -> io::Result<()> {
     let told = sockets::two(rt, text);
@@ -157,6 +170,7 @@ fn print_all(rt: &HostRuntime) -> io::Result<()> {
     print_members(rt, &mut text)?;
     print_silence(rt, &mut text)?;
     print_commands(rt, &mut text)?;
+    print_words(rt, &mut text)?;
     print_nets(rt, &mut text)
 }
 

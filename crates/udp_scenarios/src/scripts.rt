@@ -60,6 +60,8 @@ fn plain() -> Manner {
         merge: 0,
         leaves: false,
         speaks: false,
+        finds: false,
+        quorum: 1,
     }
 }
 

@@ -4,11 +4,14 @@
 mod explaining;
 mod hosts;
 mod incarnations;
+mod kept_lines;
+mod node_runs;
 mod output;
 mod process_texts;
 mod programs;
 mod said;
 mod udp_programs;
+mod watched;
 
 pub use application::Application;
 pub use chat_log::{ChatLog, LongChat};

@@ -7,24 +7,21 @@ ghost use Rattle.vsync_words.specs.Plans.{contact_of, keeps_two, payload_of, tex
 ghost use Rattle.vsync_cli.specs.Settings.{EndsWithout, GivesSettings};
 
 use crate::hosts::{PeersError, peers_in};
-use crate::incarnations::{IncarnationError, next_address};
+use crate::node_runs::{RunningNode, run_from};
 use crate::output::Output;
 use crate::programs::{bytes_at, failed, mistaken, outside, without_memory};
 use crate::said::Appended;
 use address::{Address, Node};
-use application::Application;
-use chat_log::{ChatLog, LongChat};
+use chat_log::ChatLog;
 use commands::Status;
-use lock_table::LockTable;
-use replicated_map::ReplicatedMap;
 use std::io::Read;
 use std::net::Net;
 use std::rt::Files;
-use std::time::{Clock, Duration};
+use std::time::Clock;
 use std::{fs, io};
 use udp_net::{BindError, Hosts, Settings, SettingsError, settings};
-use udp_runs::{Lines, Loopback, Manner, MemberPlan, NoLines, Tally, Trouble, run_member, run_udp};
-use vsync_words::{Kept, MemberOptions, MemberWords, UdpWords};
+use udp_runs::{Loopback, MemberPlan, NoLines, run_udp};
+use vsync_words::{MemberOptions, MemberWords, UdpWords};
 
 // Says that the input is refused as a whole.
 fn refuse<R: Print>(rt: &R, number: u8) -> Status
@@ -64,7 +61,7 @@ fn settings_at<R: Files + Print + Eprint + AllocGlobal>(
 }
 
 // What a command's status says where it ended outside, on the standard error; but not where the text says that a socket could not be bound.
-fn ended<R: Eprint>(
+pub(crate) fn ended<R: Eprint>(
     rt: &R,
     status: Status,
     is_unbound: bool,
@@ -121,22 +118,6 @@ pub(crate) fn udp<R: Files + Input + Net + Clock + Print + Eprint + AllocGlobal>
     }
 }
 
-// How long a tick takes where it is not given, in milliseconds.
-const TICK: u16 = 20;
-
-// After how many rounds a member seeks others where it is not given.
-const MERGE: u16 = 50;
-
-// How the options say that a member runs.
-fn manner_of(options: &MemberOptions<'_>) -> Manner {
-    Manner {
-        tick: Duration::from_millis(u64::from(options.tick.unwrap_or(TICK))),
-        merge: u32::from(options.merge.unwrap_or(MERGE)),
-        leaves: options.leave,
-        speaks: options.text,
-    }
-}
-
 // The hosts of the options; or the status with which the program ends.
 fn hosts_of<R: Net + Print + Eprint + AllocGlobal>(
     rt: &R,
@@ -157,107 +138,6 @@ fn hosts_of<R: Net + Print + Eprint + AllocGlobal>(
     }
 }
 
-// The address with which the node starts: by its file where there is one; or the status with which the program ends.
-fn start_of<R: Files + Print + Eprint + AllocGlobal>(
-    rt: &R,
-    given: Address,
-    file: Option<&str>,
-) -> Result<Address, Status> {
-    let Some(path) = file else {
-        return Ok(given);
-    };
-    match next_address(rt, rt.alloc(), path, given) {
-        Ok(address) => Ok(address),
-        Err(IncarnationError::Memory) => Err(without_memory(rt)),
-        Err(error) => {
-            let _ = eprintln!(rt; "vsync: {error} {path}");
-            Err(Status::Outside)
-        }
-    }
-}
-
-// Says, on the standard error, what a member did that has ended, where it is asked for, and why it ended where that was not to be.
-fn report<R: Eprint>(rt: &R, tally: &Tally, stats: bool) {
-    match tally.trouble {
-        Some(Trouble::LongLine) => {
-            let _ = eprintln!(rt; "vsync: a line to send has more than 512 bytes");
-        }
-        Some(Trouble::NoLines) => {
-            let _ = eprintln!(rt; "vsync: the lines to send cannot be read any more");
-        }
-        Some(Trouble::NoPayload(fault)) => {
-            let number = fault.number();
-            let _ = eprintln!(rt; "vsync: what is to be sent says no command: {number}");
-        }
-        None => (),
-    }
-    if tally.has_ended {
-        let _ = eprintln!(rt;
-            "vsync: the member has ended: it cannot read the state that it was given"
-        );
-    }
-    if stats {
-        let (sent, delivered, installed) = (tally.sent, tally.delivered, tally.installed);
-        let (garbled, foreign) = (tally.garbled, tally.foreign);
-        let (unsent, unreceived) = (tally.unsent, tally.unreceived);
-        let _ = eprintln!(rt; "sent {sent}, delivered {delivered}, views {installed}");
-        let _ = eprintln!(rt;
-            "datagrams: no packets {garbled}, for others {foreign}, not sent {unsent}, receives that failed {unreceived}"
-        );
-    }
-}
-
-// Runs the node with what it keeps, and says what is to be said of it on the standard error.
-fn run_with<A: Application, L: Lines, R: Net + Clock + Print + Eprint + AllocGlobal>(
-    rt: &R,
-    settings: &Settings,
-    plan: &MemberPlan<'_>,
-    options: &MemberOptions<'_>,
-    hosts: Hosts,
-    lines: &mut L,
-) -> Status {
-    let mut machine = Loopback::new(rt.alloc(), rt, settings, hosts);
-    let mut output = Output::new(io::writer(rt));
-    let status = run_member::<A, L, _, _>(
-        rt.alloc(),
-        settings,
-        plan,
-        manner_of(options),
-        lines,
-        &mut machine,
-        &mut output,
-    );
-    let tally = machine.tally().unwrap_or(Tally::new());
-    report(rt, &tally, options.stats);
-    if tally.trouble.is_some() {
-        return status;
-    }
-    ended(
-        rt,
-        status,
-        machine.is_unbound(),
-        output.has_failed(),
-        "the lines to send",
-    )
-}
-
-// Runs the node with what its options say that it keeps.
-fn run_lines<L: Lines, R: Net + Clock + Print + Eprint + AllocGlobal>(
-    rt: &R,
-    settings: &Settings,
-    plan: &MemberPlan<'_>,
-    options: &MemberOptions<'_>,
-    hosts: Hosts,
-    lines: &mut L,
-) -> Status {
-    match options.kept() {
-        Kept::Chat => run_with::<ChatLog, L, R>(rt, settings, plan, options, hosts, lines),
-        Kept::LongChat => run_with::<LongChat, L, R>(rt, settings, plan, options, hosts, lines),
-        Kept::Map => run_with::<ReplicatedMap, L, R>(rt, settings, plan, options, hosts, lines),
-        Kept::Locks => run_with::<LockTable, L, R>(rt, settings, plan, options, hosts, lines),
-    }
-}
-
 // Says where the settings do not list the node of the contact.
 fn warn<R: Eprint>(rt: &R, settings: &Settings, contact: Option<Address>) {
     let Some(contact) = contact else {
@@ -269,49 +149,20 @@ fn warn<R: Eprint>(rt: &R, settings: &Settings, contact: Option<Address>) {
     }
 }
 
-// Starts the node of a plan with its incarnation, and runs it with these lines.
-fn run_from<L: Lines, R: Files + Net + Clock + Print + Eprint + AllocGlobal>(
+// Runs a node: with the lines of a file where its options name one.
+fn run_node<R: Files + Net + Clock + Print + Eprint + AllocGlobal>(
     rt: &R,
-    settings: &Settings,
-    plan: &MemberPlan<'_>,
-    options: &MemberOptions<'_>,
-    hosts: Hosts,
-    lines: &mut L,
-) -> Status {
-    let rounds = if options.forever {
-        u64::MAX
-    } else {
-        plan.rounds
-    };
-    match start_of(rt, plan.address, options.incarnation_file) {
-        Ok(address) => {
-            let plan = MemberPlan {
-                address,
-                rounds,
-                ..*plan
-            };
-            run_lines(rt, settings, &plan, options, hosts, lines)
-        }
-        Err(status) => status,
-    }
-}
-
-// Runs the node of a plan: with the lines of a file where its options name one.
-fn run_plan<R: Files + Net + Clock + Print + Eprint + AllocGlobal>(
-    rt: &R,
-    settings: &Settings,
-    plan: &MemberPlan<'_>,
-    options: &MemberOptions<'_>,
+    node: &RunningNode<'_>,
     hosts: Hosts,
 ) -> Status {
-    warn(rt, settings, plan.contact);
-    let Some(path) = options.say else {
-        return run_from(rt, settings, plan, options, hosts, &mut NoLines);
+    warn(rt, node.settings, node.plan.contact);
+    let Some(path) = node.options.say else {
+        return run_from(rt, node, hosts, &mut NoLines);
     };
     match Appended::new(rt.alloc(), rt, path) {
         Ok(lines) => {
             let mut lines = lines;
-            run_from(rt, settings, plan, options, hosts, &mut lines)
+            run_from(rt, node, hosts, &mut lines)
         }
         Err(error) => failed(rt, &error, "cannot open", path),
     }
@@ -329,7 +180,14 @@ fn run_at<R: Files + Net + Clock + Print + Eprint + AllocGlobal>(
         Err(status) => return status,
     };
     match hosts_of(rt, &words.options, peers) {
-        Ok(hosts) => run_plan(rt, &settings, plan, &words.options, hosts),
+        Ok(hosts) => {
+            let node = RunningNode {
+                settings: &settings,
+                plan: *plan,
+                options: &words.options,
+            };
+            run_node(rt, &node, hosts)
+        }
         Err(status) => status,
     }
 }

@@ -18,7 +18,7 @@ use Rattle.vsync_words.specs.declared.check_words.ProcessesWords.{ProcessesWords
 use Rattle.vsync_words.specs.declared.udp_words.UdpWords.{UdpWords}
 use Rattle.vsync_words.specs.declared.udp_words.MemberWords.{MemberWords}
 use Rattle.vsync_words.specs.declared.member_options.MemberOptions.{MemberOptions}
-use Rattle.vsync_words.specs.declared.member_options.TheConstants.{MOST_TICK, MOST_MERGE}
+use Rattle.vsync_words.specs.declared.member_options.TheConstants.{MOST_TICK, MOST_MERGE, MOST_QUORUM}
 use Rattle.vsync_words.specs.declared.words.Invocation.{Invocation}
 use Rattle.vsync_words.specs.declared.words.Invocation.TheVariants.{Text as TextOf, Processes, Udp, Member, Explain}
 use Rattle.vsync_words.specs.declared.words.TextWords.{TextWords}
@@ -98,26 +98,29 @@ member_numbers_app = with_rule (with_rule (with_rule (with_rule (new_app (codes 
 abbrev pub member_talk_app : App
 member_talk_app = with_rule (with_rule member_numbers_app (option_rule (codes "contact"))) (option_rule (codes "send"))
 
--- a command with `[--tick MS] [--merge TICKS]` as well; with `[--incarnation-file FILE] [--say FILE]`; with `[--bind HOST] [--peer NODE=HOST]..`
+-- a command with `[--tick MS] [--merge TICKS] [--quorum N]` as well; with `[--incarnation-file FILE] [--say FILE] [--status FILE]`; with `[--bind HOST] [--peer NODE=HOST]..`
 abbrev pub times_app : App → App
-times_app app = with_rule (with_rule app (numeric_rule (codes "tick") 1 MOST_TICK)) (numeric_rule (codes "merge") 0 MOST_MERGE)
+times_app app =
+    with_rule (with_rule (with_rule app (numeric_rule (codes "tick") 1 MOST_TICK)) (numeric_rule (codes "merge") 0 MOST_MERGE)) (numeric_rule (codes "quorum") 1 MOST_QUORUM)
 
 abbrev pub files_app : App → App
-files_app app = with_rule (with_rule app (option_rule (codes "incarnation-file"))) (option_rule (codes "say"))
+files_app app = with_rule (with_rule (with_rule app (option_rule (codes "incarnation-file"))) (option_rule (codes "say"))) (option_rule (codes "status"))
 
 abbrev pub hosts_app : App → App
 hosts_app app = with_rule (with_rule app (option_rule (codes "bind"))) (repeated_rule (codes "peer"))
 
--- with all of them and `[--forever] [--leave] [--text] [--stats] [--long] [--map] [--locks]`
+-- with all of them and `[--forever] [--leave] [--text] [--stats] [--long] [--map] [--locks] [--find] [--any-source]`
 abbrev pub flags_app : App → App
-flags_app app = with_rule (with_rule (with_rule (with_rule (with_rule (with_rule (with_rule app
+flags_app app = with_rule (with_rule (with_rule (with_rule (with_rule (with_rule (with_rule (with_rule (with_rule app
     (flag_rule (codes "forever")))
     (flag_rule (codes "leave")))
     (flag_rule (codes "text")))
     (flag_rule (codes "stats")))
     (flag_rule (codes "long")))
     (flag_rule (codes "map")))
-    (flag_rule (codes "locks"))
+    (flag_rule (codes "locks")))
+    (flag_rule (codes "find")))
+    (flag_rule (codes "any-source"))
 
 abbrev pub options_app : App → App
 options_app app = flags_app (hosts_app (files_app (times_app app)))
@@ -182,6 +185,10 @@ pub record AreMemberOptions (rows : List Row) (options : MemberOptions) : Type 0
   pub long : IsFlag (one_of (codes "long") rows) options.long
   pub map : IsFlag (one_of (codes "map") rows) options.map
   pub locks : IsFlag (one_of (codes "locks") rows) options.locks
+  pub find : IsFlag (one_of (codes "find") rows) options.find
+  pub any_source : IsFlag (one_of (codes "any-source") rows) options.any_source
+  pub quorum : IsOptionalIn 1 MOST_QUORUM (codes "quorum") rows options.quorum
+  pub status : first_of (codes "status") rows ≡ option_map (λ s. s.now) options.status
 
 -- the words of `member` are the first values of its arguments and options: its numbers in their ranges
 pub record AreMemberWords (rows : List Row) (words : MemberWords) : Type 0 where

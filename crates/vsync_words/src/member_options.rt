@@ -9,6 +9,7 @@ use crate::Kept;
 use crate::udp_words::option;
 use clap::builder::ValueParser;
 use clap::{Arg, ArgAction, ArgMatches};
+use limits::MEMBERS;
 use std::alloc::{AllocError, Global};
 
 /// The longest time between two rounds, in milliseconds.
@@ -16,6 +17,9 @@ pub const MOST_TICK: u64 = 1_000;
 
 /// The most rounds between two searches for members outside of the view.
 pub const MOST_MERGE: u64 = 10_000;
+
+/// The greatest view that a member can be told to wait for: one of `MEMBERS` members (`limits`).
+pub const MOST_QUORUM: u64 = MEMBERS as u64;
 
 /// How a member runs, by its options.
 #[derive(Debug, Drop)]
@@ -46,6 +50,14 @@ pub struct MemberOptions<'a> {
     pub map: bool,
     /// `--locks`: it keeps the table of locks.
     pub locks: bool,
+    /// `--find`: it finds its group by itself, and gives way to a greater view.
+    pub find: bool,
+    /// `--any-source`: it takes a node's datagrams wherever they come from.
+    pub any_source: bool,
+    /// `--quorum N`: it sends only in views of at least so many members, 1 to `MEMBERS` (`limits`).
+    pub quorum: Option<u16>,
+    /// `--status FILE`: where its status is written each second.
+    pub status: Option<&'a str>,
 }
 
 impl MemberOptions<'_> {
@@ -119,6 +131,14 @@ fn with_times<'a>(
             0,
             MOST_MERGE,
             "After how many rounds it seeks members that are not in its view, 0 for never; 50 where it is not given",
+        ))?
+        .arg(numeric(
+            alloc,
+            "quorum",
+            "N",
+            1,
+            MOST_QUORUM,
+            "It sends only in views of at least N members, 1 to 16; 1 where it is not given",
         ))
 }
 
@@ -141,6 +161,12 @@ fn with_files<'a>(
             "say",
             "FILE",
             "It sends each line that is appended to this file; a line of the byte 4 alone ends it",
+        ))?
+        .arg(option(
+            alloc,
+            "status",
+            "FILE",
+            "Where its status is written each second: its view, and what an operator asks for",
         ))
 }
 
@@ -217,6 +243,16 @@ fn with_flags<'a>(
             alloc,
             "locks",
             "It keeps a table of locks, and no map; all of the group must. TEXT and the lines of --say are acquire NAME or release NAME",
+        ))?
+        .arg(flag(
+            alloc,
+            "find",
+            "It asks the nodes of the settings who is there, joins the greatest view or makes a group, and gives way to a greater one; all of the group must",
+        ))?
+        .arg(flag(
+            alloc,
+            "any-source",
+            "It takes a node's datagrams wherever they come from, as where addresses are translated",
         ))
 }
 
@@ -258,6 +294,7 @@ pub(crate) fn member_options<'a>(
 {
     let tick = number_of(matches, "tick", 1, MOST_TICK)?;
     let merge = number_of(matches, "merge", 0, MOST_MERGE)?;
+    let quorum = number_of(matches, "quorum", 1, MOST_QUORUM)?;
     let Ok(peers) = values_of(alloc, matches, "peer") else {
         return None;
     };
@@ -275,5 +312,9 @@ pub(crate) fn member_options<'a>(
         long: matches.get_flag("long"),
         map: matches.get_flag("map"),
         locks: matches.get_flag("locks"),
+        find: matches.get_flag("find"),
+        any_source: matches.get_flag("any-source"),
+        quorum,
+        status: matches.get_str("status"),
     })
 }

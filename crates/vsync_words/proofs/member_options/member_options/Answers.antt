@@ -21,4 +21,8 @@ returns c =
       long = flag_is f (codes "long") c.get_flag-5.result c.get_flag-5.ensures.none c.get_flag-5.ensures.value c.get_flag-5.ensures.other;
       map = flag_is f (codes "map") c.get_flag-6.result c.get_flag-6.ensures.none c.get_flag-6.ensures.value c.get_flag-6.ensures.other;
       locks = flag_is f (codes "locks") c.get_flag-7.result c.get_flag-7.ensures.none c.get_flag-7.ensures.value c.get_flag-7.ensures.other;
+      find = flag_is f (codes "find") c.get_flag-8.result c.get_flag-8.ensures.none c.get_flag-8.ensures.value c.get_flag-8.ensures.other;
+      any_source = flag_is f (codes "any-source") c.get_flag-9.result c.get_flag-9.ensures.none c.get_flag-9.ensures.value c.get_flag-9.ensures.other;
+      quorum = c.in_ok-quorum.ensures;
+      status = sym (first_value-rows f (codes "status")) ∙ sym c.get_str-4.ensures;
     }

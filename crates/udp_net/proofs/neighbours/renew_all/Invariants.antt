@@ -1,0 +1,7 @@
+use Rattle.std.proofs.Common.{◌≡◌, map, take, drop, ◌++◌}
+use Rattle.udp_net.specs.Neighbours.{renewed}
+use Rattle.udp_net.proofs.neighbours.renew_all.Given as goal
+
+-- it was so with those so far, and the rest are as they were
+abbrev pub invariant-loop-age : goal.invariant-loop-age
+invariant-loop-age l = l.ages ≡ map (renewed l.node) (take l.age-index l.fn.ages) ++ drop l.age-index l.fn.ages

@@ -1,0 +1,11 @@
+use Rattle.udp_runs.proofs.FactOfTelling.{quiet-sent}
+use Rattle.udp_runs.proofs.sending.Lone.sends.Goals as goal
+
+pub returns-in_err-answer-clause-drives : goal.returns-in_err-answer-clause-drives
+returns-in_err-answer-clause-drives g c group = quiet-sent _ _ _ group _ _ _ (c.send.ensures.called group) c.send.ensures.uncalled
+
+pub returns-in_err-unless_memory-clause-drives : goal.returns-in_err-unless_memory-clause-drives
+returns-in_err-unless_memory-clause-drives g c group = quiet-sent _ _ _ group _ _ _ (c.send.ensures.called group) c.send.ensures.uncalled
+
+pub returns-clause-drives : goal.returns-clause-drives
+returns-clause-drives g c group = quiet-sent _ _ _ group _ _ _ (c.send.ensures.called group) c.send.ensures.uncalled

@@ -1,0 +1,68 @@
+//! What whoever looks after a member sees of it that runs by itself.
+
+ghost use Rattle.std.specs.Prelude.{◌≡◌};
+
+use crate::lone::Lone;
+use crate::{Machine, NodeStatus};
+use application::Application;
+use udp_net::Net;
+
+impl<'a, N: Net, C: Application> Lone<'a, N, C> {
+    // Tells the machine what whoever looks after it should know, and shows it how it is.
+    pub(crate) fn look<M: Machine>(&mut self, machine: &mut M)
+        ensures member { self.new.member ≡ self.old.member }
+        ensures speaks { self.new.teller.speaks ≡ self.old.teller.speaks }
+        ensures gone { M.gone machine.new ≡ M.gone machine.old }
+    {
+        if let Some(notice) = self.watch.take_notice() {
+            machine.notice(notice);
+        }
+        if self.round == 0 {
+            return;
+        }
+        let is_blocked = self.member.channel().is_blocked();
+        if self.watch.pass(self.time, is_blocked) {
+            self.teller.say_blocked();
+        }
+        self.note_few();
+        if self.watch.shows(self.time) {
+            self.show(machine);
+        }
+    }
+
+    // Notes where lines wait since its view has too few members.
+    fn note_few(&mut self)
+        ensures member { self.new.member ≡ self.old.member }
+        ensures speaks { self.new.teller.speaks ≡ self.old.teller.speaks }
+    {
+        if !self.is_few() || !(self.is_unsent || self.outbox.has_line()) {
+            return;
+        }
+        if let Some(standing) = self.whereabouts().view {
+            self.watch.wait_for_more(standing.view, standing.members);
+        }
+    }
+
+    // Shows the machine how it is.
+    fn show<M: Machine>(&mut self, machine: &mut M)
+        ensures member { self.new.member ≡ self.old.member }
+        ensures speaks { self.new.teller.speaks ≡ self.old.teller.speaks }
+        ensures gone { M.gone machine.new ≡ M.gone machine.old }
+    {
+        let strange = self.member.net().strange();
+        let channel = self.member.channel();
+        let (view, members) = match channel.view() {
+            Some(view) => (Some(view.id()), view.members().as_slice()),
+            None => (None, &[][..]),
+        };
+        machine.show(&NodeStatus {
+            address: channel.address(),
+            view,
+            members,
+            blocked: self.watch.blocked(self.time),
+            outstanding: self.teller.unsaid.outstanding(),
+            stable: channel.stable(),
+            strange,
+        });
+    }
+}

@@ -1,0 +1,37 @@
+//! Lines of a node that are kept for its next incarnation.
+
+use std::alloc::Global;
+use udp_runs::{Lines, LinesError};
+
+/// Lines that come from elsewhere, behind those that a member of the node gave back: these come once, and before others.
+#[derive(Drop)]
+pub(crate) struct KeptLines<'a, L> {
+    lines: &'a mut L,
+    kept: Vec<u8>,
+}
+
+impl<'a, L: Lines> KeptLines<'a, L> {
+    /// These lines; none was given back yet.
+    pub(crate) fn new(alloc: Global, lines: &'a mut L) -> KeptLines<'a, L> {
+        KeptLines {
+            lines,
+            kept: Vec::new(alloc),
+        }
+    }
+}
+
+impl<'a, L: Lines> Lines for KeptLines<'a, L> {
+    fn more(&mut self, text: &mut Vec<u8>) -> Result<(), LinesError> {
+        if self.kept.is_empty() {
+            return self.lines.more(text);
+        }
+        text.extend_from_slice(self.kept.as_slice())?;
+        self.kept.clear();
+        Ok(())
+    }
+
+    // Where memory is refused, they are lost.
+    fn back(&mut self, text: &[u8]) {
+        let _ = self.kept.extend_from_slice(text);
+    }
+}

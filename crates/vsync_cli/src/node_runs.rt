@@ -1,0 +1,280 @@
+//! One node over datagrams, whose members run one after another (docs/FORMATS.md, "Nodes over UDP").
+
+use crate::incarnations::{IncarnationError, next_start, start_by_clock};
+use crate::kept_lines::KeptLines;
+use crate::output::Output;
+use crate::programs::without_memory;
+use crate::udp_programs::ended;
+use crate::watched::Watched;
+use address::Address;
+use application::Application;
+use chat_log::{ChatLog, LongChat};
+use commands::Status;
+use lock_table::LockTable;
+use replicated_map::ReplicatedMap;
+use std::net::Net;
+use std::rt::Files;
+use std::time::{Clock, Duration};
+use std::{io, thread};
+use udp_net::{Hosts, Settings};
+use udp_runs::{Lines, Loopback, Manner, MemberPlan, Tally, Trouble, run_member};
+use vsync_words::{Kept, MemberOptions};
+
+// How long a tick takes where it is not given, in milliseconds.
+const TICK: u16 = 20;
+
+// After how many rounds a member seeks others where it is not given.
+const MERGE: u16 = 50;
+
+// The members that a view must have in which a member sends, where it is not given.
+const QUORUM: u16 = 1;
+
+// The longest that a node waits before it begins again: two to the power of this, in seconds.
+const LONGEST_PAUSE: u32 = 6;
+
+/// A node over datagrams, and what its words ask for.
+#[derive(Clone, Copy)]
+pub(crate) struct RunningNode<'a> {
+    /// The settings.
+    pub(crate) settings: &'a Settings,
+    /// What it does.
+    pub(crate) plan: MemberPlan<'a>,
+    /// How it runs.
+    pub(crate) options: &'a MemberOptions<'a>,
+}
+
+// How the options say that a member runs.
+fn manner_of(options: &MemberOptions<'_>) -> Manner {
+    Manner {
+        tick: Duration::from_millis(u64::from(options.tick.unwrap_or(TICK))),
+        merge: u32::from(options.merge.unwrap_or(MERGE)),
+        leaves: options.leave,
+        speaks: options.text,
+        finds: options.find,
+        quorum: u32::from(options.quorum.unwrap_or(QUORUM)),
+    }
+}
+
+// The address with which a member starts: by its file where there is one, else by the clock where it finds its group; or the status with which the program ends.
+fn start_of<R: Files + Clock + Print + Eprint + AllocGlobal>(
+    rt: &R,
+    least: Address,
+    options: &MemberOptions<'_>,
+) -> Result<Address, Status> {
+    let Some(path) = options.incarnation_file else {
+        if options.find {
+            return Ok(start_by_clock(rt, least));
+        }
+        return Ok(least);
+    };
+    match next_start(rt, rt.alloc(), path, least, options.find) {
+        Ok(start) => {
+            let address = start.address;
+            if start.is_by_clock {
+                let _ = eprintln!(rt; "vsync: no incarnation in {path}: it begins by the clock, as {address}");
+            }
+            Ok(address)
+        }
+        Err(IncarnationError::Memory) => Err(without_memory(rt)),
+        Err(error) => {
+            let _ = eprintln!(rt; "vsync: {error} {path}");
+            Err(Status::Outside)
+        }
+    }
+}
+
+// Says, on the standard error, what a member did that has ended, where it is asked for, and why it ended where that was not to be.
+fn report<R: Eprint>(rt: &R, tally: &Tally, stats: bool) {
+    match tally.trouble {
+        Some(Trouble::NoLines) => {
+            let _ = eprintln!(rt; "vsync: the lines to send cannot be read any more");
+        }
+        Some(Trouble::NoPayload(fault)) => {
+            let number = fault.number();
+            let _ = eprintln!(rt; "vsync: what is to be sent says no command: {number}");
+        }
+        None => (),
+    }
+    if tally.has_ended {
+        let _ = eprintln!(rt;
+            "vsync: the member has ended: it cannot read the state that it was given"
+        );
+    }
+    if stats {
+        let (sent, delivered, installed) = (tally.sent, tally.delivered, tally.installed);
+        let (garbled, foreign) = (tally.garbled, tally.foreign);
+        let (unsent, unreceived) = (tally.unsent, tally.unreceived);
+        let (strange, sieved) = (tally.strange, tally.sieved);
+        let _ = eprintln!(rt; "sent {sent}, delivered {delivered}, views {installed}");
+        let _ = eprintln!(rt;
+            "datagrams: no packets {garbled}, for others {foreign}, not sent {unsent}, receives that failed {unreceived}, from elsewhere {strange}, dropped else {sieved}"
+        );
+    }
+}
+
+// Whether a node that finds its group begins again after a member: that gave up its address, could not read a state, or was refused memory.
+fn begins_again(status: Status, tally: &Tally, options: &MemberOptions<'_>) -> bool {
+    if !options.find {
+        return false;
+    }
+    match status {
+        Status::Done => tally.gives_up || tally.has_ended,
+        Status::Memory => true,
+        _ => false,
+    }
+}
+
+// What a node does that begins again: as its next incarnation, with what is left of its rounds; or the status with which the program ends.
+fn plan_again<'a, R: Files + Clock + Print + Eprint + AllocGlobal>(
+    rt: &R,
+    plan: &MemberPlan<'a>,
+    options: &MemberOptions<'_>,
+    tally: &Tally,
+) -> Result<MemberPlan<'a>, Status> {
+    let Some(next) = plan.address.next_incarnation() else {
+        let _ = eprintln!(rt; "vsync: the incarnations are used up");
+        return Err(Status::Outside);
+    };
+    let address = start_of(rt, next, options)?;
+    Ok(MemberPlan {
+        address,
+        rounds: plan.rounds.saturating_sub(tally.rounds.saturating_add(1)),
+        contact: None,
+        send: if tally.is_unsaid { plan.send } else { None },
+    })
+}
+
+// Says why a node begins again. Where it gave up its address it does so at once; else it waits, twice as long each time in a row. It answers how often that was.
+fn pause<R: Clock + Eprint>(
+    rt: &R,
+    address: Address,
+    status: Status,
+    tally: &Tally,
+    pauses: u32,
+) -> u32 {
+    if status == Status::Done && !tally.has_ended {
+        let _ = eprintln!(rt; "vsync: {address} gives way to a greater view: the node begins again");
+        return 0;
+    }
+    let why = if status == Status::Memory {
+        "is out of memory"
+    } else {
+        "has ended"
+    };
+    let seconds = 1u64 << pauses.min(LONGEST_PAUSE);
+    let _ = eprintln!(rt; "vsync: {address} {why}: the node begins again in {seconds} s");
+    thread::sleep(rt, Duration::from_secs(seconds));
+    pauses.saturating_add(1)
+}
+
+// How the program ends after the last member of a node.
+fn end_of<R: Files + Net + Clock + Eprint>(
+    rt: &R,
+    status: Status,
+    tally: &Tally,
+    machine: &Watched<'_, R>,
+    is_unwritten: bool,
+) -> Status {
+    if tally.trouble.is_some() {
+        return status;
+    }
+    if status == Status::Done && tally.has_ended {
+        return Status::Outside;
+    }
+    ended(
+        rt,
+        status,
+        machine.is_unbound(),
+        is_unwritten,
+        "the lines to send",
+    )
+}
+
+// Runs the members of a node, one after another, each with what it keeps, and says what is to be said of them on the standard error.
+fn run_with<A: Application, L: Lines, R: Files + Net + Clock + Print + Eprint + AllocGlobal>(
+    rt: &R,
+    node: &RunningNode<'_>,
+    hosts: Hosts,
+    lines: &mut L,
+) -> Status {
+    let (settings, options) = (node.settings, node.options);
+    let mut loopback = Loopback::new(rt.alloc(), rt, settings, hosts);
+    if options.any_source {
+        loopback.hear_from_anywhere();
+    }
+    let quorum = options.quorum.unwrap_or(QUORUM);
+    let mut machine = Watched::new(
+        rt,
+        rt.alloc(),
+        loopback,
+        settings.nodes(),
+        options.status,
+        quorum,
+    );
+    let mut lines = KeptLines::new(rt.alloc(), lines);
+    let mut output = Output::new(io::writer(rt));
+    let mut plan = node.plan;
+    let mut pauses = 0;
+    for _ in 0..u64::MAX {
+        let status = run_member::<A, _, _, _>(
+            rt.alloc(),
+            settings,
+            &plan,
+            manner_of(options),
+            &mut lines,
+            &mut machine,
+            &mut output,
+        );
+        let tally = machine.tally().unwrap_or(Tally::new());
+        report(rt, &tally, options.stats);
+        if tally.trouble.is_some() || !begins_again(status, &tally, options) {
+            return end_of(rt, status, &tally, &machine, output.has_failed());
+        }
+        pauses = pause(rt, plan.address, status, &tally, pauses);
+        plan = match plan_again(rt, &plan, options, &tally) {
+            Ok(plan) => plan,
+            Err(status) => return status,
+        };
+    }
+    Status::Done
+}
+
+// Runs the node with what its options say that it keeps.
+fn run_lines<L: Lines, R: Files + Net + Clock + Print + Eprint + AllocGlobal>(
+    rt: &R,
+    node: &RunningNode<'_>,
+    hosts: Hosts,
+    lines: &mut L,
+) -> Status {
+    match node.options.kept() {
+        Kept::Chat => run_with::<ChatLog, L, R>(rt, node, hosts, lines),
+        Kept::LongChat => run_with::<LongChat, L, R>(rt, node, hosts, lines),
+        Kept::Map => run_with::<ReplicatedMap, L, R>(rt, node, hosts, lines),
+        Kept::Locks => run_with::<LockTable, L, R>(rt, node, hosts, lines),
+    }
+}
+
+/// Starts a node with its incarnation, and runs it with these lines.
+pub(crate) fn run_from<L: Lines, R: Files + Net + Clock + Print + Eprint + AllocGlobal>(
+    rt: &R,
+    node: &RunningNode<'_>,
+    hosts: Hosts,
+    lines: &mut L,
+) -> Status {
+    let rounds = if node.options.forever {
+        u64::MAX
+    } else {
+        node.plan.rounds
+    };
+    match start_of(rt, node.plan.address, node.options) {
+        Ok(address) => {
+            let plan = MemberPlan {
+                address,
+                rounds,
+                ..node.plan
+            };
+            run_lines(rt, &RunningNode { plan, ..*node }, hosts, lines)
+        }
+        Err(status) => status,
+    }
+}
