@@ -45,6 +45,45 @@ def machine_sleeps(group):
     group.expect_in_time([node.starts for node in group.all()] == before, "a node began again")
 
 
+@accident(2)
+def second_of_two_sleeps(group):
+    """Node 2 of two sleeps three seconds, and node 1 goes on alone. Both have what node 1 said meanwhile."""
+    one_of_two_sleeps(group, group[2], group[1])
+
+
+@accident(2)
+def first_of_two_sleeps(group):
+    """The same, and node 1 sleeps."""
+    one_of_two_sleeps(group, group[1], group[2])
+
+
+def one_of_two_sleeps(group, sleeper, other):
+    group.come_together()
+    sleeper.stop()
+    group.one_view(other.number, within=5)
+    other.say("while it slept")
+    group.wait(2)
+    sleeper.go_on()
+    group.note("one view", group.one_view(within=15))
+    group.told(["while it slept"])
+
+
+@accident(4)
+def two_of_four_sleep(group):
+    """Nodes 3 and 4 of four sleep three seconds, and the two others go on. All have what those said meanwhile."""
+    group.come_together()
+    for node in group.all((3, 4)):
+        node.stop()
+    group.one_view(1, 2, within=10)
+    group.talk(1, 2, word="two of four")
+    lines = [payload for _, payload in group[1].chat]
+    group.wait(1.5)
+    for node in group.all((3, 4)):
+        node.go_on()
+    group.note("one view", group.one_view(within=15))
+    group.expect(all([payload for _, payload in node.chat][:len(lines)] == lines for node in group.all()), "what the two said is lost")
+
+
 @accident(4)
 def two_and_two(group):
     """Four are parted two and two for five seconds. One half gives its place up, once; what is said while the network is whole again is told to all."""
@@ -158,16 +197,17 @@ def quorum_keeps_lines(group):
 
 @accident(3)
 def lines_that_came_back(group):
-    """A node's lines go to a coordinator that is dead; they come back to it with the next view. It says them again: all are told them, once."""
+    """Twelve lines of a node go to a coordinator that is dead; eight of them come back with the next view. It says them again: all are told all, once and in order."""
     group.come_together()
     group.kill(group[1])
-    lines = [f"to nobody {place}" for place in range(5)]
+    lines = [f"to nobody {place:02}" for place in range(12)]
     group[2].say(*lines)
     group.note("told", group.told(lines, 2, 3, within=10))
     group[1].start()
     group.one_view(within=10)
     group.told(lines)
-    group.expect(all(node.count(line) == 1 for node in group.all() for line in lines), "a line is there twice")
+    wanted = [line.encode() for line in lines]
+    group.expect(all([payload for _, payload in node.chat if payload in wanted] == wanted for node in group.all()), "the lines are not there once and in order")
 
 
 @accident(3)
