@@ -1,5 +1,5 @@
 -- How a node finds its group by words, and when it gives way to a greater view.
-use Rattle.std.specs.Prelude.{◌≡◌, ℕ, ◌+◌, ◌-◌, ◌*◌, ◌^◌, Bool, true, false, not, ◌&&◌, ◌||◌, List, min, unwrap_or, Option, None, Some, nat_le, if◌then◌else◌}
+use Rattle.std.specs.Prelude.{◌≡◌, ℕ, ◌+◌, ◌-◌, ◌*◌, ◌^◌, Bool, true, false, not, ◌&&◌, ◌||◌, List, [], min, unwrap_or, Option, None, Some, nat_le, if◌then◌else◌}
 use Rattle.std.specs.List.{list_any}
 use Rattle.std.specs.Option.{option_map_or, is_some}
 use Rattle.address.specs.Ids.{Address, same_address}
@@ -118,3 +118,38 @@ pub record StepsOutside (old new : Finder) (m : Moment) (nodes : List Neighbour)
   pub looked : new.looked ≡ looked_since old m nodes best step
   pub wanted : new.wanted ≡ None
   pub tick : new.tick ≡ old.tick
+
+-- ---- what this means
+
+-- it may make a group: it is told of no view, asked nobody, and has looked for LOOK ticks at least
+pub record MayMake (old : Finder) (m : Moment) (nodes : List Neighbour) : Type 0 where
+  pub untold : told m None nodes ≡ []
+  pub unasked : old.asked ≡ None
+  pub looked : is_ago old.tick m.time (unwrap_or old.looked m.time) LOOK ≡ true
+
+-- it may ask an address: that of the coordinator of the greatest view of which it is told
+pub record MayAsk (m : Moment) (nodes : List Neighbour) (contact : Address) : Type 0 where
+  pub best : Offer
+  pub greatest : IsGreatest (told m None nodes) (Some best)
+  pub coordinator : contact ≡ best.rank.view.creator
+
+-- it may give way: the greatest other view of which it is told is greater than its own, its coordinator stays there, and it has wanted to go to a greater one for GIVE ticks
+pub record MayGiveWay (old : Finder) (m : Moment) (at : Standing) (nodes : List Neighbour) : Type 0 where
+  pub best : Offer
+  pub greatest : IsGreatest (told m (Some at.view) nodes) (Some best)
+  pub greater : outranks best.rank (own_rank m at nodes) ≡ true
+  pub stays : best.stays ≡ true
+  pub wanted : is_ago old.tick m.time (unwrap_or old.wanted m.time) GIVE ≡ true
+
+-- each step that does something may be done: in a view it gives way at most; in no view it asks, makes a group, or begins again where it asked in vain
+abbrev pub MayDoInView : Finder → Moment → List Neighbour → Standing → Step → Type 0
+MayDoInView old m nodes at Stay = Unit
+MayDoInView old m nodes at Again = MayGiveWay old m at nodes
+MayDoInView old m nodes at Make = ⊥
+MayDoInView old m nodes at (Ask contact) = ⊥
+
+abbrev pub MayDoOutside : Finder → Moment → List Neighbour → Step → Type 0
+MayDoOutside old m nodes Stay = Unit
+MayDoOutside old m nodes Again = is_some old.asked ≡ true
+MayDoOutside old m nodes Make = MayMake old m nodes
+MayDoOutside old m nodes (Ask contact) = MayAsk m nodes contact

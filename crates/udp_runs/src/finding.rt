@@ -2,7 +2,7 @@
 
 ghost use Rattle.std.specs.Prelude.{◌≡◌, MatchOption, None};
 ghost use Rattle.std.specs.Option.{is_some};
-ghost use Rattle.udp_runs.specs.Finding.{StepsInView, StepsOutside, asked_after, asking, greater_than, holds_off, is_ago, looking, looked_after, moment_of, own_rank, ticks, wanted_after, way_of};
+ghost use Rattle.udp_runs.specs.Finding.{MayDoInView, MayDoOutside, StepsInView, StepsOutside, asked_after, asking, greater_than, holds_off, is_ago, looking, looked_after, moment_of, own_rank, ticks, wanted_after, way_of};
 
 use crate::ranks::{Moment, Offer, Rank};
 use address::{Address, ViewId};
@@ -136,8 +136,10 @@ impl Finder {
 
     /// What it is to do at this time.
     pub(crate) fn step(&mut self, now: u64, at: &Whereabouts, nodes: &[Neighbour]) -> Step
-        ensures { MatchOption at.now.view (StepsOutside self.old self.new (moment_of self.old.tick now at.now.own) nodes.now result)
+        ensures does { MatchOption at.now.view (StepsOutside self.old self.new (moment_of self.old.tick now at.now.own) nodes.now result)
             (λ s. StepsInView self.old self.new (moment_of self.old.tick now at.now.own) s nodes.now result) }
+        ensures may { MatchOption at.now.view (MayDoOutside self.old (moment_of self.old.tick now at.now.own) nodes.now result)
+            (λ s. MayDoInView self.old (moment_of self.old.tick now at.now.own) nodes.now s result) }
     {
         let moment = self.moment(now, at.own);
         match &at.view {

@@ -146,14 +146,23 @@ impl<'a, N: Net, C: Application> Lone<'a, N, C> {
         unless_memory(answer)
     }
 
+    // A round of its runner.
+    fn run_round(&mut self) -> Result<(), Error>
+        ensures drives { (group : List ℕ) → Quietly N.log N.failed C.meaning group self.old.member self.new.member }
+        ensures speaks { self.new.teller.speaks ≡ self.old.teller.speaks }
+    {
+        let answer = self.member.round();
+        self.member.meet();
+        answer
+    }
+
     // A round; it seeks whom its view lacks, where it is time to.
     fn round(&mut self) -> Result<(), Cut>
         ensures drives { (group : List ℕ) → Quietly N.log N.failed C.meaning group self.old.member self.new.member }
         ensures speaks { self.new.teller.speaks ≡ self.old.teller.speaks }
     {
         self.send_all()?;
-        let answer = self.member.round();
-        self.member.meet();
+        let answer = self.run_round();
         self.goes_on(answer)?;
         let merge = u64::from(self.manner.merge);
         if self.has_ended || self.manner.finds || merge == 0 || self.round % merge != 0 {
@@ -204,6 +213,15 @@ impl<'a, N: Net, C: Application> Lone<'a, N, C> {
         }
     }
 
+    // A round, and then what it does to find its group.
+    fn round_and_find(&mut self, settings: &Settings) -> Result<(), Cut>
+        ensures drives { Quietly N.log N.failed C.meaning settings.now.group self.old.member self.new.member }
+        ensures speaks { self.new.teller.speaks ≡ self.old.teller.speaks }
+    {
+        self.round()?;
+        self.find(settings)
+    }
+
     // One of its rounds, and what happened by it.
     fn turn<L: Lines, W: Write>(
         &mut self,
@@ -217,10 +235,7 @@ impl<'a, N: Net, C: Application> Lone<'a, N, C> {
         if let Err(why) = self.take_lines(lines) {
             return Err(why);
         }
-        let went = match self.round() {
-            Ok(()) => self.find(settings),
-            Err(why) => Err(why),
-        };
+        let went = self.round_and_find(settings);
         match self.show_events(writer) {
             Ok(()) => went,
             Err(why) => Err(why),

@@ -43,26 +43,38 @@ impl<'a, N: Net, C: Application> Lone<'a, N, C> {
         }
     }
 
+    // How it is.
+    fn status(&mut self) -> NodeStatus
+        ensures member { self.new.member ≡ self.old.member }
+        ensures speaks { self.new.teller.speaks ≡ self.old.teller.speaks }
+    {
+        let strange = self.member.net().strange();
+        let blocked = self.watch.blocked(self.time);
+        let outstanding = self.teller.unsaid.outstanding();
+        let channel = self.member.channel();
+        NodeStatus {
+            address: channel.address(),
+            view: match channel.view() {
+                Some(view) => Some(view.id()),
+                None => None,
+            },
+            blocked,
+            outstanding,
+            stable: channel.stable(),
+            strange,
+        }
+    }
+
     // Shows the machine how it is.
     fn show<M: Machine>(&mut self, machine: &mut M)
         ensures member { self.new.member ≡ self.old.member }
         ensures speaks { self.new.teller.speaks ≡ self.old.teller.speaks }
         ensures gone { M.gone machine.new ≡ M.gone machine.old }
     {
-        let strange = self.member.net().strange();
-        let channel = self.member.channel();
-        let (view, members) = match channel.view() {
-            Some(view) => (Some(view.id()), view.members().as_slice()),
-            None => (None, &[][..]),
-        };
-        machine.show(&NodeStatus {
-            address: channel.address(),
-            view,
-            members,
-            blocked: self.watch.blocked(self.time),
-            outstanding: self.teller.unsaid.outstanding(),
-            stable: channel.stable(),
-            strange,
-        });
+        let status = self.status();
+        match self.member.channel().view() {
+            Some(view) => machine.show(&status, view.members().as_slice()),
+            None => machine.show(&status, &[]),
+        }
     }
 }

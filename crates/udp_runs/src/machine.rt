@@ -34,8 +34,8 @@ pub trait Machine {
     fn tell(&mut self, tally: &Tally)
         ensures { gone self.new ≡ gone self.old };
 
-    /// Is shown, at most once a second, how a node is that runs by itself.
-    fn show(&mut self, _status: &NodeStatus<'_>)
+    /// Is shown, at most once a second, how a node is that runs by itself, and the members of its view, in its order.
+    fn show(&mut self, _status: &NodeStatus, _members: &[Address])
         ensures { gone self.new ≡ gone self.old }
     {}
 

@@ -44,13 +44,11 @@ pub enum Notice {
 
 /// How a node is that runs by itself.
 #[derive(Clone, Copy, Debug)]
-pub struct NodeStatus<'a> {
+pub struct NodeStatus {
     /// The address of its member.
     pub address: Address,
     /// The id of its view, if it is in one.
     pub view: Option<ViewId>,
-    /// The members of its view, in its order.
-    pub members: &'a [Address],
     /// For how long its member has been blocked, if it is.
     pub blocked: Option<Duration>,
     /// How many messages it sent that were not delivered to it yet.

@@ -1,7 +1,7 @@
 //! How a member that runs by itself finds its group (docs/PROTOCOL.md, "Finding").
 
-ghost use Rattle.std.specs.Prelude.{◌≡◌};
-ghost use Rattle.udp_runs.specs.Telling.{Quietly, Waits};
+ghost use Rattle.std.specs.Prelude.{◌≡◌, ℕ, List};
+ghost use Rattle.udp_runs.specs.Telling.{Quietly};
 
 use crate::calls::{Call, do_call};
 use crate::ends::Cut;
@@ -9,7 +9,7 @@ use crate::finding::{Standing, Step, Whereabouts, milliseconds};
 use crate::lone::{Lone, unless_memory};
 use address::Address;
 use application::Application;
-use udp_net::{MOST_NODES, Net, Settings};
+use udp_net::{MOST_NODES, Neighbour, Net, Settings};
 
 impl<'a, N: Net, C: Application> Lone<'a, N, C> {
     // Does a call of its channel, in the group of the settings.
@@ -41,32 +41,47 @@ impl<'a, N: Net, C: Application> Lone<'a, N, C> {
         }
     }
 
-    // Says to each node to which it is time to where it is.
-    fn say(&mut self, own: Address)
-        ensures waits { Waits N.log self.old.member self.new.member }
+    // Says to a node where it is, if it is time to.
+    fn say_to(&mut self, now: u64, own: Address, node: &Neighbour)
+        ensures drives { (group : List ℕ) → Quietly N.log N.failed C.meaning group self.old.member self.new.member }
         ensures speaks { self.new.teller.speaks ≡ self.old.teller.speaks }
     {
-        let now = milliseconds(self.time);
+        if node.node != own.node() && self.finder.says(self.round, node.is_asked) {
+            let word = self.finder.word(now, own, node);
+            self.member.net().say(node.node, &word);
+        }
+    }
+
+    // Says to each node to which it is time to where it is.
+    fn say(&mut self, now: u64, own: Address)
+        ensures drives { (group : List ℕ) → Quietly N.log N.failed C.meaning group self.old.member self.new.member }
+        ensures speaks { self.new.teller.speaks ≡ self.old.teller.speaks }
+    {
         for place in 0..MOST_NODES {
-            let Some(node) = self.member.net().words().get(place).copied() else {
-                return;
-            };
-            if node.node != own.node() && self.finder.says(self.round, node.is_asked) {
-                let word = self.finder.word(now, own, &node);
-                self.member.net().say(node.node, &word);
+            match self.neighbour(place) {
+                Some(node) => self.say_to(now, own, &node),
+                None => return,
             }
         }
     }
 
-    // What it is to do to find its group.
+    // What words told of a node, if there are so many.
+    fn neighbour(&mut self, place: usize) -> Option<Neighbour>
+        ensures member { self.new.member ≡ self.old.member }
+        ensures speaks { self.new.teller.speaks ≡ self.old.teller.speaks }
+    {
+        self.member.net().words().get(place).copied()
+    }
+
+    // What it is to do to find its group; it says where it is to whom it is time to.
     fn next_step(&mut self) -> Step
-        ensures waits { Waits N.log self.old.member self.new.member }
+        ensures drives { (group : List ℕ) → Quietly N.log N.failed C.meaning group self.old.member self.new.member }
         ensures speaks { self.new.teller.speaks ≡ self.old.teller.speaks }
     {
         let now = milliseconds(self.time);
         let at = self.whereabouts();
         let step = self.finder.step(now, &at, self.member.net().words());
-        self.say(at.own);
+        self.say(now, at.own);
         step
     }
 

@@ -74,20 +74,25 @@ impl<'a, N: Net, C: Application> Lone<'a, N, C> {
         }
     }
 
+    // What it has to send once yet, if anything: what was not sent, or came back.
+    fn next_once(&mut self) -> Option<&'a [u8]>
+        ensures member { self.new.member ≡ self.old.member }
+        ensures speaks { self.new.teller.speaks ≡ self.old.teller.speaks }
+    {
+        if self.teller.unsaid.take_once() {
+            self.is_unsent = true;
+        }
+        if self.is_unsent { self.once } else { None }
+    }
+
     // Sends what it has to send once, if it may.
     fn send_once(&mut self) -> Result<(), Cut>
         ensures drives { (group : List ℕ) → Quietly N.log N.failed C.meaning group self.old.member self.new.member }
         ensures speaks { self.new.teller.speaks ≡ self.old.teller.speaks }
     {
-        if self.manner.finds && self.teller.unsaid.take_once() {
-            self.is_unsent = true;
-        }
-        let Some(text) = self.once else {
+        let Some(text) = self.next_once() else {
             return Ok(());
         };
-        if !self.is_unsent {
-            return Ok(());
-        }
         match self.says(text, Sent::Once)? {
             Said::Taken => {
                 self.is_unsent = false;
@@ -122,7 +127,7 @@ impl<'a, N: Net, C: Application> Lone<'a, N, C> {
         }
     }
 
-    // Sends a payload, and answers whether it was taken. Where it finds its group it notes what was sent, to send it again if it comes back.
+    // Sends a payload, and answers whether it was taken.
     fn sends(&mut self, payload: &Bytes, sent: Sent) -> Result<bool, Cut>
         ensures drives { (group : List ℕ) → Quietly N.log N.failed C.meaning group self.old.member self.new.member }
         ensures speaks { self.new.teller.speaks ≡ self.old.teller.speaks }
@@ -130,10 +135,19 @@ impl<'a, N: Net, C: Application> Lone<'a, N, C> {
         let answer = send(self.alloc, &mut self.member, payload)?;
         let is_taken = answer.is_ok();
         unless_memory(answer)?;
+        self.note_sent(is_taken, sent)?;
+        Ok(is_taken)
+    }
+
+    // Notes what was sent, if it was and this node finds its group.
+    fn note_sent(&mut self, is_taken: bool, sent: Sent) -> Result<(), Cut>
+        ensures member { self.new.member ≡ self.old.member }
+        ensures speaks { self.new.teller.speaks ≡ self.old.teller.speaks }
+    {
         if is_taken && self.manner.finds {
             self.teller.unsaid.send(sent)?;
         }
-        Ok(is_taken)
+        Ok(())
     }
 
     // Takes the lines that came back, to send them before all that wait.
@@ -211,10 +225,11 @@ impl<'a, N: Net, C: Application> Lone<'a, N, C> {
         ensures drives { (group : List ℕ) → Quietly N.log N.failed C.meaning group self.old.member self.new.member }
         ensures speaks { self.new.teller.speaks ≡ self.old.teller.speaks }
     {
-        if !self.holds() {
-            self.send_first()?;
-            self.send_once()?;
+        if self.holds() {
+            return Ok(());
         }
+        self.send_first()?;
+        self.send_once()?;
         self.send_lines()?;
         Ok(())
     }

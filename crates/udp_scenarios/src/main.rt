@@ -119,7 +119,9 @@ fn print_commands(rt: &HostRuntime, text: &mut Vec<u8>) -> io::Result<()> {
     let told = scripts::members(rt.alloc(), text);
     print(rt, "a node by itself", told, text)?;
     let told = scripts::lines(rt.alloc(), text);
-    print(rt, "a node that says lines", told, text)
+    print(rt, "a node that says lines", told, text)?;
+    let told = scripts::finding(rt.alloc(), text);
+    print(rt, "a node that says a line later", told, text)
 }
 
 /// Prints the stories of words, and of what a socket's net drops.

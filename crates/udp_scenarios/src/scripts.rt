@@ -129,23 +129,23 @@ impl Lines for Typed<'_> {
     }
 }
 
-/// Runs node 1 by itself with these lines, as text or not, and adds what it writes, its status, and what it told; it leaves at its end.
+/// Runs node 1 by itself with these lines for so many rounds, and adds what it writes, its status, and what it told; it leaves at its end.
 fn put_lines(
     alloc: Global,
     told: &mut Vec<u8>,
     lines: &[u8],
-    speaks: bool,
+    rounds: u64,
+    manner: Manner,
 ) -> Result<(), AllocError> {
     let plan = MemberPlan {
         address: first_at(1),
-        rounds: 10,
+        rounds,
         contact: None,
         send: None,
     };
     let manner = Manner {
         leaves: true,
-        speaks,
-        ..plain()
+        ..manner
     };
     let settings = settings_of(alloc, FOUR)?;
     let wires = RefCell::new(Wires::new(alloc));
@@ -160,12 +160,39 @@ fn put_lines(
 /// Node 1 by itself says lines.
 pub fn lines(alloc: Global, told: &mut Vec<u8>) -> Result<(), AllocError> {
     told.extend_from_slice(b"# lines, of which the last one ends it, as text\n")?;
-    put_lines(alloc, told, b"one\ntwo \x01\n\xc3\xa4\n\x04\nthree\n", true)?;
+    let speaking = Manner {
+        speaks: true,
+        ..plain()
+    };
+    put_lines(
+        alloc,
+        told,
+        b"one\ntwo \x01\n\xc3\xa4\n\x04\nthree\n",
+        10,
+        speaking,
+    )?;
     told.extend_from_slice(b"# the same as a trace\n")?;
-    put_lines(alloc, told, b"one\n\x04\n", false)?;
-    told.extend_from_slice(b"# a line that is too long\n")?;
-    let long = vec![in alloc; b'x'; 513]?;
-    put_lines(alloc, told, long.as_slice(), false)
+    put_lines(alloc, told, b"one\n\x04\n", 10, plain())?;
+    told.extend_from_slice(b"# a line that is too long, and one behind it\n")?;
+    let mut long = vec![in alloc; b'x'; 513]?;
+    long.extend_from_slice(b"\none\n\x04\n")?;
+    put_lines(alloc, told, long.as_slice(), 10, plain())
+}
+
+/// Node 1 by itself says a line: where two members are to be there, and where it looks for others first.
+pub fn finding(alloc: Global, told: &mut Vec<u8>) -> Result<(), AllocError> {
+    told.extend_from_slice(b"# two members are to be there\n")?;
+    let careful = Manner {
+        quorum: 2,
+        ..plain()
+    };
+    put_lines(alloc, told, b"one\n", 10, careful)?;
+    told.extend_from_slice(b"# it looks for 50 ticks, finds nobody, and makes a group\n")?;
+    let finding = Manner {
+        finds: true,
+        ..plain()
+    };
+    put_lines(alloc, told, b"one\n\x04\n", 60, finding)
 }
 
 /// Node 1 by itself, which makes a group and sends `hi`.

@@ -51,12 +51,12 @@ fn put_addresses(text: &mut Vec<u8>, word: &str, addresses: &[Address]) -> Resul
 fn put_sought(
     text: &mut Vec<u8>,
     nodes: &[NodePort],
-    status: &NodeStatus<'_>,
+    own: Node,
+    members: &[Address],
 ) -> Result<(), AllocError> {
     put(text, "sought")?;
-    let own = status.address.node();
     for place in nodes {
-        let is_there = status.members.iter().any(|member| member.node() == place.node);
+        let is_there = members.iter().any(|member| member.node() == place.node);
         if place.node != own && !is_there {
             let node = place.node;
             let shown = format!(in *text.allocator(); " {node}")?;
@@ -67,13 +67,18 @@ fn put_sought(
 }
 
 // The text of a status.
-fn status_text(alloc: Global, nodes: &[NodePort], status: &NodeStatus<'_>) -> Result<Vec<u8>, AllocError> {
+fn status_text(
+    alloc: Global,
+    nodes: &[NodePort],
+    status: &NodeStatus,
+    members: &[Address],
+) -> Result<Vec<u8>, AllocError> {
     let mut text = Vec::new(alloc);
     put_value(&mut text, "address", status.address)?;
     match status.view {
         Some(view) => {
             put_value(&mut text, "view", view)?;
-            put_addresses(&mut text, "members", status.members)?;
+            put_addresses(&mut text, "members", members)?;
             put_value(&mut text, "coordinator", view.creator())?;
         }
         None => put(&mut text, "view\nmembers\ncoordinator\n")?,
@@ -84,7 +89,7 @@ fn status_text(alloc: Global, nodes: &[NodePort], status: &NodeStatus<'_>) -> Re
     }
     put_value(&mut text, "outstanding", status.outstanding)?;
     put_value(&mut text, "stable", status.stable)?;
-    put_sought(&mut text, nodes, status)?;
+    put_sought(&mut text, nodes, status.address.node(), members)?;
     put_value(&mut text, "strange", status.strange)?;
     Ok(text)
 }
@@ -153,11 +158,11 @@ impl<'a, R: Files + std::net::Net + Clock + Eprint> Machine for Watched<'a, R> {
     }
 
     // Where it cannot be written, that is said once.
-    fn show(&mut self, status: &NodeStatus<'_>) {
+    fn show(&mut self, status: &NodeStatus, members: &[Address]) {
         let Some(path) = self.status else {
             return;
         };
-        let is_written = match status_text(self.alloc, self.nodes, status) {
+        let is_written = match status_text(self.alloc, self.nodes, status, members) {
             Ok(text) => replace(self.rt, self.alloc, path, text.as_slice()),
             Err(_) => false,
         };

@@ -111,8 +111,10 @@ fn options_of(alloc: Global, line: &[&str]) -> String {
     let (bind, peers) = (options.bind.unwrap_or("-"), options.peers.len());
     let (forever, leave, text) = (options.forever, options.leave, options.text);
     let (stats, long) = (options.stats, options.long);
+    let (quorum, status) = (options.quorum.unwrap_or(0), options.status.unwrap_or("-"));
+    let (find, any) = (options.find, options.any_source);
     match format!(in alloc;
-        "{tick} {merge} {file} {say} {bind} {peers} {forever} {leave} {text} {stats} {long}"
+        "{tick} {merge} {file} {say} {bind} {peers} {forever} {leave} {text} {stats} {long} {quorum} {status} {find} {any}"
     ) {
         Ok(text) => text,
         Err(_) => String::new(alloc),
@@ -124,7 +126,7 @@ fn member_takes_how_it_runs(rt: HostRuntime) {
     let alloc = rt.alloc();
     assert!(rt;
         options_of(alloc, &["vsync", "member", "a.toml", "1", "1", "0"]).as_str()
-            == "0 9999 - - - 0 false false false false false",
+            == "0 9999 - - - 0 false false false false false 0 - false false",
         "none"
     );
     let line = [
@@ -153,9 +155,15 @@ fn member_takes_how_it_runs(rt: HostRuntime) {
         "--text",
         "--stats",
         "--long",
+        "--quorum",
+        "16",
+        "--status",
+        "t",
+        "--find",
+        "--any-source",
     ];
     assert!(rt;
-        options_of(alloc, &line).as_str() == "1000 0 i s 10.0.0.1 2 true true true true true",
+        options_of(alloc, &line).as_str() == "1000 0 i s 10.0.0.1 2 true true true true true 16 t true true",
         "all"
     );
 }

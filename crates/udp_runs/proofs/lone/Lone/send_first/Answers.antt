@@ -1,5 +1,5 @@
 use Rattle.udp_runs.proofs.FactOfTelling.{quiet-as}
-use Rattle.udp_runs.proofs.sending.Lone.send_first.Goals as goal
+use Rattle.udp_runs.proofs.lone.Lone.send_first.Goals as goal
 
 pub returns-in_default-clause-drives : goal.returns-in_default-clause-drives
 returns-in_default-clause-drives g c group = quiet-as _ _ _ group _ _ c.unopened.ensures.member

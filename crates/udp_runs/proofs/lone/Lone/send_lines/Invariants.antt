@@ -1,6 +1,6 @@
 use Rattle.std.proofs.Common.{◌≡◌, ℕ, List}
 use Rattle.udp_runs.specs.Telling.{Quietly}
-use Rattle.udp_runs.proofs.sending.Lone.send_lines.Given as goal
+use Rattle.udp_runs.proofs.lone.Lone.send_lines.Given as goal
 
 -- lines were sent
 abbrev pub invariant-loop-sent : goal.invariant-loop-sent

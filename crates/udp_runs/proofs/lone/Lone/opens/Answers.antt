@@ -1,5 +1,5 @@
 use Rattle.udp_runs.proofs.FactOfTelling.{quiet-none}
-use Rattle.udp_runs.proofs.sending.Lone.opens.Goals as goal
+use Rattle.udp_runs.proofs.lone.Lone.opens.Goals as goal
 
 pub returns-in_default-clause-drives : goal.returns-in_default-clause-drives
 returns-in_default-clause-drives g c group = rw c.channel.ensures.value (quiet-none _ _ _ group _)
