@@ -47,7 +47,7 @@ def machine_sleeps(group):
 
 @accident(2)
 def second_of_two_sleeps(group):
-    """Node 2 of two sleeps three seconds, and node 1 goes on alone. Both have what node 1 said meanwhile."""
+    """Node 2 of two sleeps three seconds, and node 1 goes on alone. Both have what node 1 said meanwhile. (By its name alone: no rule says yet which of two wins.)"""
     one_of_two_sleeps(group, group[2], group[1])
 
 
