@@ -41,7 +41,7 @@ def says_on(group, speakers, hearers, seconds, within=3, word="on"):
             if all(group[number].has(line) for number in hearers):
                 longest = max(longest, time.monotonic() - said)
             else:
-                group.expect(time.monotonic() - said < within, f"within {within} s not told to {hearers}: {line}")
+                group.expect_in_time(time.monotonic() - said < within, f"within {within} s not told to {hearers}: {line}")
                 left.append((line, said))
         waiting = left
     return lines, longest
@@ -51,7 +51,7 @@ def never_stops(group, *numbers):
     """That a flush never stopped these nodes for longer than the silence."""
     longest = max(group[number].longest_block for number in numbers)
     group.note("blocked at most", longest)
-    group.expect(longest <= SILENCE + BUSY, f"a node was blocked for {longest:.1f} s")
+    group.expect_in_time(longest <= SILENCE + BUSY, f"a node was blocked for {longest:.1f} s")
 
 
 @accident(3)
@@ -285,4 +285,4 @@ def absurd_merges(group):
         group.net.hand_over(3, number, accidents_net.packet(accidents_net.MERGE, b"accidents", "3.7", group[number].address, listed))
     _, longest = says_on(group, [1, 2, 3], [1, 2, 3], 4)
     group.note("told within", longest)
-    group.expect([node.installs for node in group.all()] == views, "a view changed")
+    group.expect_in_time([node.installs for node in group.all()] == views, "a view changed")

@@ -295,6 +295,11 @@ class Group:
         if not right:
             raise Wrong(f"{what}\n{self.where()}")
 
+    def expect_in_time(self, right, what):
+        """The same of what a machine that does not let processes run may spoil."""
+        if not right:
+            raise Late(f"{what}\n{self.where()}")
+
     def note(self, what, seconds):
         self.notes.append(f"{what} {seconds:.1f} s")
 

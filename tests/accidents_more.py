@@ -42,7 +42,46 @@ def machine_sleeps(group):
     group.wait(0.5)
     group.note("one view", group.one_view(within=5))
     group.talk()
-    group.expect([node.starts for node in group.all()] == before, "a node began again")
+    group.expect_in_time([node.starts for node in group.all()] == before, "a node began again")
+
+
+@accident(2)
+def second_of_two_sleeps(group):
+    """Node 2 of two sleeps three seconds, and node 1 goes on alone. Both have what node 1 said meanwhile. (By its name alone: no rule says yet which of two wins.)"""
+    one_of_two_sleeps(group, group[2], group[1])
+
+
+@accident(2)
+def first_of_two_sleeps(group):
+    """The same, and node 1 sleeps."""
+    one_of_two_sleeps(group, group[1], group[2])
+
+
+def one_of_two_sleeps(group, sleeper, other):
+    group.come_together()
+    sleeper.stop()
+    group.one_view(other.number, within=5)
+    other.say("while it slept")
+    group.wait(2)
+    sleeper.go_on()
+    group.note("one view", group.one_view(within=15))
+    group.told(["while it slept"])
+
+
+@accident(4)
+def two_of_four_sleep(group):
+    """Nodes 3 and 4 of four sleep three seconds, and the two others go on. All have what those said meanwhile."""
+    group.come_together()
+    for node in group.all((3, 4)):
+        node.stop()
+    group.one_view(1, 2, within=10)
+    group.talk(1, 2, word="two of four")
+    lines = [payload for _, payload in group[1].chat]
+    group.wait(1.5)
+    for node in group.all((3, 4)):
+        node.go_on()
+    group.note("one view", group.one_view(within=15))
+    group.expect(all([payload for _, payload in node.chat][:len(lines)] == lines for node in group.all()), "what the two said is lost")
 
 
 @accident(4)
@@ -75,7 +114,7 @@ def star_around_the_first(group):
     says_on(group, pair, pair, 5)
     after = sum(node.installs + node.starts for node in group.all()) - before
     group.notes.append(f"{after} changes in 5 s")
-    group.expect(after <= 8, f"{after} installs and starts in 5 s")
+    group.expect_in_time(after <= 8, f"{after} installs and starts in 5 s")
     group.net.heal()
     group.note("one view", group.one_view(within=15))
     group.talk()
@@ -95,7 +134,7 @@ def star_around_another(group):
     says_on(group, pair, pair, 5)
     after = sum(node.installs + node.starts for node in group.all()) - before
     group.notes.append(f"{after} changes in 5 s")
-    group.expect(after <= 8, f"{after} installs and starts in 5 s")
+    group.expect_in_time(after <= 8, f"{after} installs and starts in 5 s")
     group.net.heal()
     group.note("one view", group.one_view(within=15))
     group.talk()
@@ -158,16 +197,17 @@ def quorum_keeps_lines(group):
 
 @accident(3)
 def lines_that_came_back(group):
-    """A node's lines go to a coordinator that is dead; they come back to it with the next view. It says them again: all are told them, once."""
+    """Twelve lines of a node go to a coordinator that is dead; eight of them come back with the next view. It says them again: all are told all, once and in order."""
     group.come_together()
     group.kill(group[1])
-    lines = [f"to nobody {place}" for place in range(5)]
+    lines = [f"to nobody {place:02}" for place in range(12)]
     group[2].say(*lines)
     group.note("told", group.told(lines, 2, 3, within=10))
     group[1].start()
     group.one_view(within=10)
     group.told(lines)
-    group.expect(all(node.count(line) == 1 for node in group.all() for line in lines), "a line is there twice")
+    wanted = [line.encode() for line in lines]
+    group.expect(all([payload for _, payload in node.chat if payload in wanted] == wanted for node in group.all()), "the lines are not there once and in order")
 
 
 @accident(3)
@@ -211,7 +251,7 @@ def strangers_ask_without_end(group):
                 group.net.hand_over(3 if node.number != 3 else 1, node.number, accidents_net.packet(accidents_net.JOIN, b"accidents", f"9.{turn * 50 + place + 1}", node.address))
             group.wait(0.05)
     group.talk()
-    group.expect([node.installs for node in group.all()] == views, "a view changed")
+    group.expect_in_time([node.installs for node in group.all()] == views, "a view changed")
 
 
 @accident(3, limit=75)
@@ -226,7 +266,7 @@ def map_among_chats(group):
     _, longest = says_on(group, [1, 2], [1, 2], 12)
     group.note("told within", longest)
     group.notes.append(f"{group[3].starts} starts")
-    group.expect(2 <= group[3].starts <= 6, f"it began {group[3].starts} times in 12 s")
+    group.expect_in_time(2 <= group[3].starts <= 6, f"it began {group[3].starts} times in 12 s")
     group.kill(group[3])
     group[3].options = list(group.options)
     group[3].start()
@@ -344,7 +384,7 @@ def machines_that_stutter(group):
         group.wait(0.4)
         node.go_on()
     group.note("told after it", group.told(lines, within=5))
-    group.expect([node.installs + node.starts for node in group.all()] == before, "a view changed")
+    group.expect_in_time([node.installs + node.starts for node in group.all()] == before, "a view changed")
 
 
 @accident(4)
@@ -358,7 +398,7 @@ def flood_of_lines(group):
     for number in (2, 3):
         wanted = [f"{number} {place:04}".encode() for place in range(3000)]
         group.expect(all([payload for _, payload in node.chat if payload[:1] == wanted[0][:1]] == wanted for node in group.all()), f"the lines of {number} are not in order")
-    group.expect([node.installs + node.starts for node in group.all()] == before, "a view changed")
+    group.expect_in_time([node.installs + node.starts for node in group.all()] == before, "a view changed")
 
 
 @accident(3)
@@ -417,7 +457,7 @@ def settings_not_rolled_out_yet(group):
     views = [group[number].installs for number in (1, 2, 3)]
     group[4].start()
     says_on(group, [1, 2, 3], [1, 2, 3], 4)
-    group.expect([group[number].installs for number in (1, 2, 3)] == views, "a view changed")
+    group.expect_in_time([group[number].installs for number in (1, 2, 3)] == views, "a view changed")
     for number in (1, 2, 3):
         group[number].leave()
         group[number].settings = group.settings
@@ -461,7 +501,7 @@ def machine_that_was_copied(group):
     try:
         _, longest = says_on(group, [1, 2, 3], [1, 2, 3], 5)
         group.note("told within", longest)
-        group.expect([node.installs for node in group.all()] == views, "a view changed")
+        group.expect_in_time([node.installs for node in group.all()] == views, "a view changed")
         group.expect(all(int(group[number].seen()["strange"]) > 0 for number in (1, 3)), "nothing is counted as strange")
         lines.write_text("\x04\n")
         group.until(lambda: copy.poll() is not None, 5, "the copy ends")

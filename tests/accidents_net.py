@@ -141,17 +141,16 @@ class Network:
 
     def play(self, seconds):
         """Carries datagrams for so long."""
-        end = time.monotonic() + seconds
+        wake = time.monotonic()
+        end = wake + seconds
         while True:
             self.send_due()
             now = time.monotonic()
+            self.late = max(self.late, now - wake)
             if now >= end:
                 return
             wake = min(end, self.queue[0][0]) if self.queue else end
-            ready = self.epoll.poll(max(wake - now, 0))
-            if not ready:
-                self.late = max(self.late, time.monotonic() - wake)
-            for descriptor, _ in ready:
+            for descriptor, _ in self.epoll.poll(max(wake - now, 0)):
                 self.take(*self.pairs[descriptor])
 
     def take(self, one, other):

@@ -88,7 +88,7 @@ class Faults:
 
 
 def of_lines(chat):
-    """How many lines there are, how many of them are there twice, and how often a line of a node comes behind a later one of it."""
+    """How many lines there are; how many of them are there twice, as what others were delivered before its node gave way; how many come behind a later one of their node."""
     last, seen, twice, turned = {}, set(), 0, 0
     for sender, payload in chat:
         place, _, rest = payload.decode().partition(" ")
@@ -101,7 +101,7 @@ def of_lines(chat):
             turned += 1
         seen.add(place)
         last[node] = max(last.get(node, 0), int(place))
-    return f"{len(seen)} lines, {twice} twice, {turned} turned"
+    return len(seen), twice, turned
 
 
 def run(group, kind, seed):
@@ -128,5 +128,7 @@ def run(group, kind, seed):
             node.start()
     group.note("one view", group.one_view(within=TOGETHER))
     group.note("told", group.talk(word="afterwards"))
-    group.notes.append(of_lines(group[1].chat))
+    seen, twice, turned = of_lines(group[1].chat)
+    group.expect(turned == 0, f"{turned} lines come behind later ones of their node")
+    group.notes.append(f"{seen} lines, {twice} twice")
     group.notes.append(f"{len(group.nodes)} nodes, {sum(node.starts for node in group.all())} starts, {sum(node.installs for node in group.all())} installs")
