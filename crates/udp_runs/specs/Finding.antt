@@ -12,7 +12,7 @@ use Rattle.udp_runs.specs.declared.finding.Finder.{Finder}
 use Rattle.udp_runs.specs.declared.finding.Standing.{Standing}
 use Rattle.udp_runs.specs.declared.finding.Step.{Step}
 use Rattle.udp_runs.specs.declared.finding.Step.TheVariants.{Stay, Ask, Make, Again}
-use Rattle.udp_runs.specs.declared.finding.TheConstants.{FAR, FRESH, GIVE, LOOK}
+use Rattle.udp_runs.specs.declared.finding.TheConstants.{FAR, FRESH, GIVE, HEAR, LOOK}
 use Rattle.udp_runs.specs.Ranks.{IsGreatest, count_in, is_awaited, is_of_greater, outranks, told, told_of}
 
 -- so many ticks, in milliseconds
@@ -83,9 +83,10 @@ making f = if is_some f.asked then Again else Make
 abbrev pub looking : Finder → Moment → List Neighbour → Step
 looking f m nodes = if has_looked_long f.tick m.time (unwrap_or f.looked m.time) (list_any (is_awaited m) nodes) then making f else Stay
 
--- it asks nobody yet, until it has looked for FAR ticks, while it hears of a greater view than the greatest of which it is told
+-- it asks nobody yet: until it has looked for HEAR ticks; and until it has for FAR, while it hears of a greater view than the greatest of which it is told
 abbrev pub holds_off : Finder → Moment → List Neighbour → Rank → Bool
-holds_off f m nodes rank = list_any (is_of_greater m rank nodes) nodes && not (is_ago f.tick m.time (unwrap_or f.looked m.time) FAR)
+holds_off f m nodes rank =
+    not (is_ago f.tick m.time (unwrap_or f.looked m.time) HEAR) || (list_any (is_of_greater m rank nodes) nodes && not (is_ago f.tick m.time (unwrap_or f.looked m.time) FAR))
 
 -- what it does, by the greatest view of which it is told
 abbrev pub step_by : Finder → Moment → List Neighbour → Option Offer → Step

@@ -18,6 +18,9 @@ const GIVE: u64 = 125;
 /// For how many ticks a node looks before it makes a group, and after how many it asks again.
 const LOOK: u64 = 50;
 
+/// For how many ticks it looks before it asks anybody, so that all who are there have answered.
+const HEAR: u64 = 10;
+
 /// For how many ticks it looks where somebody else is heard who should make the group.
 const FAR: u64 = 250;
 
@@ -274,12 +277,13 @@ impl Finder {
         }
     }
 
-    // Whether it does not ask yet for a view of this rank: it has not looked for FAR ticks, and hears of a greater one.
+    // Whether it does not ask yet for a view of this rank: it has not looked for HEAR ticks; or not for FAR, and hears of a greater one.
     fn holds_off(&self, moment: &Moment, rank: &Rank, nodes: &[Neighbour]) -> bool
         ensures { result ≡ holds_off self.now moment.now nodes.now rank.now }
     {
         let since = self.looked.unwrap_or(moment.time);
-        moment.hears_of_greater(rank, nodes) && !self.is_ago(moment.time, since, FAR)
+        !self.is_ago(moment.time, since, HEAR)
+            || (moment.hears_of_greater(rank, nodes) && !self.is_ago(moment.time, since, FAR))
     }
 
     // Asks an address, unless it did not long ago.
