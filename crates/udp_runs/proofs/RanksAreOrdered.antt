@@ -72,7 +72,7 @@ greatest-push os (Some best) o (is, most) = by (outranks o.rank best.rank) refl
     each : (top : Offer) → ((x : Offer) → Contains os x → outranks x.rank top.rank ≡ false) → outranks o.rank top.rank ≡ false → (x : Offer) → Contains (os ++ o ∷ []) x
         → outranks x.rank top.rank ≡ false
     each top old new x c = elim (Contains-append_cases os (o ∷ []) x c) [
-        inl a ↦ old x a
+      | inl a ↦ old x a
       | inr b ↦ subst (λ (y : Offer). outranks y.rank top.rank ≡ false) (sym (only-one o x b)) new
     ]
 

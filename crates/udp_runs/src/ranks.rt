@@ -76,7 +76,11 @@ impl Moment {
         ensures { result ≡ word_of self.now node.now }
     {
         let word = node.word?;
-        if self.is_fresh(&word) { Some(word) } else { None }
+        if self.is_fresh(&word) {
+            Some(word)
+        } else {
+            None
+        }
     }
 
     // The view of which a node tells: by a fresh word, and as the coordinator there.

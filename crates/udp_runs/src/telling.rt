@@ -131,7 +131,10 @@ impl Teller {
     {
         if self.speaks && self.is_blocked {
             self.is_blocked = false;
-            put(&mut self.text, b"* blocked: nothing can be sent before the next view\n")?;
+            put(
+                &mut self.text,
+                b"* blocked: nothing can be sent before the next view\n",
+            )?;
         }
         Ok(())
     }

@@ -32,17 +32,6 @@ const QUORUM: u16 = 1;
 // The longest that a node waits before it begins again: two to the power of this, in seconds.
 const LONGEST_PAUSE: u32 = 6;
 
-/// A node over datagrams, and what its words ask for.
-#[derive(Clone, Copy)]
-pub(crate) struct RunningNode<'a> {
-    /// The settings.
-    pub(crate) settings: &'a Settings,
-    /// What it does.
-    pub(crate) plan: MemberPlan<'a>,
-    /// How it runs.
-    pub(crate) options: &'a MemberOptions<'a>,
-}
-
 // How the options say that a member runs.
 fn manner_of(options: &MemberOptions<'_>) -> Manner {
     Manner {
@@ -71,7 +60,9 @@ fn start_of<R: Files + Clock + Print + Eprint + AllocGlobal>(
         Ok(start) => {
             let address = start.address;
             if start.is_by_clock {
-                let _ = eprintln!(rt; "vsync: no incarnation in {path}: it begins by the clock, as {address}");
+                let _ = eprintln!(rt;
+                    "vsync: no incarnation in {path}: it begins by the clock, as {address}"
+                );
             }
             Ok(address)
         }
@@ -124,24 +115,19 @@ fn begins_again(status: Status, tally: &Tally, options: &MemberOptions<'_>) -> b
     }
 }
 
-// What a node does that begins again: as its next incarnation, with what is left of its rounds; or the status with which the program ends.
-fn plan_again<'a, R: Files + Clock + Print + Eprint + AllocGlobal>(
+// The address of the member with which a node begins again: its next incarnation; or the status with which the program ends.
+fn next_of<R: Files + Clock + Print + Eprint + AllocGlobal>(
     rt: &R,
-    plan: &MemberPlan<'a>,
+    address: Address,
     options: &MemberOptions<'_>,
-    tally: &Tally,
-) -> Result<MemberPlan<'a>, Status> {
-    let Some(next) = plan.address.next_incarnation() else {
-        let _ = eprintln!(rt; "vsync: the incarnations are used up");
-        return Err(Status::Outside);
-    };
-    let address = start_of(rt, next, options)?;
-    Ok(MemberPlan {
-        address,
-        rounds: plan.rounds.saturating_sub(tally.rounds.saturating_add(1)),
-        contact: None,
-        send: if tally.is_unsaid { plan.send } else { None },
-    })
+) -> Result<Address, Status> {
+    match address.next_incarnation() {
+        Some(next) => start_of(rt, next, options),
+        None => {
+            let _ = eprintln!(rt; "vsync: the incarnations are used up");
+            Err(Status::Outside)
+        }
+    }
 }
 
 // Says why a node begins again. Where it gave up its address it does so at once; else it waits, twice as long each time in a row. It answers how often that was.
@@ -153,7 +139,9 @@ fn pause<R: Clock + Eprint>(
     pauses: u32,
 ) -> u32 {
     if status == Status::Done && !tally.has_ended {
-        let _ = eprintln!(rt; "vsync: {address} gives way to a greater view: the node begins again");
+        let _ = eprintln!(rt;
+            "vsync: {address} gives way to a greater view: the node begins again"
+        );
         return 0;
     }
     let why = if status == Status::Memory {
@@ -172,7 +160,7 @@ fn end_of<R: Files + Net + Clock + Eprint>(
     rt: &R,
     status: Status,
     tally: &Tally,
-    machine: &Watched<'_, R>,
+    machine: &Watched<'_, '_, R>,
     is_unwritten: bool,
 ) -> Status {
     if tally.trouble.is_some() {
@@ -190,36 +178,48 @@ fn end_of<R: Files + Net + Clock + Eprint>(
     )
 }
 
-// Runs the members of a node, one after another, each with what it keeps, and says what is to be said of them on the standard error.
-fn run_with<A: Application, L: Lines, R: Files + Net + Clock + Print + Eprint + AllocGlobal>(
-    rt: &R,
-    node: &RunningNode<'_>,
+// This machine, for a node of the settings that runs by these options.
+fn machine_of<'x, 'y, R: AllocGlobal>(
+    rt: &'x R,
+    settings: &'x Settings,
+    options: &MemberOptions<'y>,
     hosts: Hosts,
-    lines: &mut L,
-) -> Status {
-    let (settings, options) = (node.settings, node.options);
+) -> Watched<'x, 'y, R> {
     let mut loopback = Loopback::new(rt.alloc(), rt, settings, hosts);
     if options.any_source {
         loopback.hear_from_anywhere();
     }
     let quorum = options.quorum.unwrap_or(QUORUM);
-    let mut machine = Watched::new(
-        rt,
-        rt.alloc(),
-        loopback,
-        settings.nodes(),
-        options.status,
-        quorum,
-    );
+    let nodes = settings.nodes();
+    Watched::new(rt, rt.alloc(), loopback, nodes, options.status, quorum)
+}
+
+// Runs the members of a node, one after another, each with what it keeps, and says what is to be said of them on the standard error.
+fn run_with<'x, A: Application, L: Lines, R: Files + Net + Clock + Print + Eprint + AllocGlobal>(
+    rt: &'x R,
+    settings: &'x Settings,
+    plan: &MemberPlan<'_>,
+    options: &MemberOptions<'_>,
+    hosts: Hosts,
+    lines: &mut L,
+) -> Status {
+    let mut machine = machine_of(rt, settings, options, hosts);
     let mut lines = KeptLines::new(rt.alloc(), lines);
     let mut output = Output::new(io::writer(rt));
-    let mut plan = node.plan;
-    let mut pauses = 0;
+    let (mut address, mut rounds, mut contact) = (plan.address, plan.rounds, plan.contact);
+    let (mut is_unsaid, mut pauses) = (true, 0);
     for _ in 0..u64::MAX {
+        let send = if is_unsaid { plan.send } else { None };
+        let member = MemberPlan {
+            address,
+            rounds,
+            contact,
+            send,
+        };
         let status = run_member::<A, _, _, _>(
             rt.alloc(),
             settings,
-            &plan,
+            &member,
             manner_of(options),
             &mut lines,
             &mut machine,
@@ -230,11 +230,14 @@ fn run_with<A: Application, L: Lines, R: Files + Net + Clock + Print + Eprint + 
         if tally.trouble.is_some() || !begins_again(status, &tally, options) {
             return end_of(rt, status, &tally, &machine, output.has_failed());
         }
-        pauses = pause(rt, plan.address, status, &tally, pauses);
-        plan = match plan_again(rt, &plan, options, &tally) {
-            Ok(plan) => plan,
+        pauses = pause(rt, address, status, &tally, pauses);
+        address = match next_of(rt, address, options) {
+            Ok(next) => next,
             Err(status) => return status,
         };
+        rounds = rounds.saturating_sub(tally.rounds.saturating_add(1));
+        contact = None;
+        is_unsaid = tally.is_unsaid;
     }
     Status::Done
 }
@@ -242,38 +245,42 @@ fn run_with<A: Application, L: Lines, R: Files + Net + Clock + Print + Eprint + 
 // Runs the node with what its options say that it keeps.
 fn run_lines<L: Lines, R: Files + Net + Clock + Print + Eprint + AllocGlobal>(
     rt: &R,
-    node: &RunningNode<'_>,
+    settings: &Settings,
+    plan: &MemberPlan<'_>,
+    options: &MemberOptions<'_>,
     hosts: Hosts,
     lines: &mut L,
 ) -> Status {
-    match node.options.kept() {
-        Kept::Chat => run_with::<ChatLog, L, R>(rt, node, hosts, lines),
-        Kept::LongChat => run_with::<LongChat, L, R>(rt, node, hosts, lines),
-        Kept::Map => run_with::<ReplicatedMap, L, R>(rt, node, hosts, lines),
-        Kept::Locks => run_with::<LockTable, L, R>(rt, node, hosts, lines),
+    match options.kept() {
+        Kept::Chat => run_with::<ChatLog, L, R>(rt, settings, plan, options, hosts, lines),
+        Kept::LongChat => run_with::<LongChat, L, R>(rt, settings, plan, options, hosts, lines),
+        Kept::Map => run_with::<ReplicatedMap, L, R>(rt, settings, plan, options, hosts, lines),
+        Kept::Locks => run_with::<LockTable, L, R>(rt, settings, plan, options, hosts, lines),
     }
 }
 
-/// Starts a node with its incarnation, and runs it with these lines.
+/// Starts the node of a plan with its incarnation, and runs it with these lines.
 pub(crate) fn run_from<L: Lines, R: Files + Net + Clock + Print + Eprint + AllocGlobal>(
     rt: &R,
-    node: &RunningNode<'_>,
+    settings: &Settings,
+    plan: &MemberPlan<'_>,
+    options: &MemberOptions<'_>,
     hosts: Hosts,
     lines: &mut L,
 ) -> Status {
-    let rounds = if node.options.forever {
+    let rounds = if options.forever {
         u64::MAX
     } else {
-        node.plan.rounds
+        plan.rounds
     };
-    match start_of(rt, node.plan.address, node.options) {
+    match start_of(rt, plan.address, options) {
         Ok(address) => {
             let plan = MemberPlan {
                 address,
                 rounds,
-                ..node.plan
+                ..*plan
             };
-            run_lines(rt, &RunningNode { plan, ..*node }, hosts, lines)
+            run_lines(rt, settings, &plan, options, hosts, lines)
         }
         Err(status) => status,
     }

@@ -7,7 +7,7 @@ ghost use Rattle.vsync_words.specs.Plans.{contact_of, keeps_two, payload_of, tex
 ghost use Rattle.vsync_cli.specs.Settings.{EndsWithout, GivesSettings};
 
 use crate::hosts::{PeersError, peers_in};
-use crate::node_runs::{RunningNode, run_from};
+use crate::node_runs::run_from;
 use crate::output::Output;
 use crate::programs::{bytes_at, failed, mistaken, outside, without_memory};
 use crate::said::Appended;
@@ -149,20 +149,22 @@ fn warn<R: Eprint>(rt: &R, settings: &Settings, contact: Option<Address>) {
     }
 }
 
-// Runs a node: with the lines of a file where its options name one.
-fn run_node<R: Files + Net + Clock + Print + Eprint + AllocGlobal>(
+// Runs the node of a plan: with the lines of a file where its options name one.
+fn run_plan<R: Files + Net + Clock + Print + Eprint + AllocGlobal>(
     rt: &R,
-    node: &RunningNode<'_>,
+    settings: &Settings,
+    plan: &MemberPlan<'_>,
+    options: &MemberOptions<'_>,
     hosts: Hosts,
 ) -> Status {
-    warn(rt, node.settings, node.plan.contact);
-    let Some(path) = node.options.say else {
-        return run_from(rt, node, hosts, &mut NoLines);
+    warn(rt, settings, plan.contact);
+    let Some(path) = options.say else {
+        return run_from(rt, settings, plan, options, hosts, &mut NoLines);
     };
     match Appended::new(rt.alloc(), rt, path) {
         Ok(lines) => {
             let mut lines = lines;
-            run_from(rt, node, hosts, &mut lines)
+            run_from(rt, settings, plan, options, hosts, &mut lines)
         }
         Err(error) => failed(rt, &error, "cannot open", path),
     }
@@ -180,14 +182,7 @@ fn run_at<R: Files + Net + Clock + Print + Eprint + AllocGlobal>(
         Err(status) => return status,
     };
     match hosts_of(rt, &words.options, peers) {
-        Ok(hosts) => {
-            let node = RunningNode {
-                settings: &settings,
-                plan: *plan,
-                options: &words.options,
-            };
-            run_node(rt, &node, hosts)
-        }
+        Ok(hosts) => run_plan(rt, &settings, plan, &words.options, hosts),
         Err(status) => status,
     }
 }

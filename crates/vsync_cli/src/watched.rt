@@ -1,6 +1,6 @@
 //! This machine, as whoever looks after a node sees it.
 
-ghost use Rattle.std.specs.Prelude.{◌≡◌, [], IfOk};
+ghost use Rattle.std.specs.Prelude.{◌≡◌, [], None, IfOk};
 ghost use Rattle.std.specs.Option.{ForSome};
 
 use address::{Address, Node};
@@ -13,14 +13,14 @@ use udp_runs::{Loopback, Machine, NodeStatus, Notice, Tally};
 
 /// This machine, which says on the standard error what whoever looks after a node should know, and writes the node's status to a file where it is given one (docs/FORMATS.md, "Nodes over UDP").
 #[derive(Drop)]
-pub(crate) struct Watched<'a, R> {
+pub(crate) struct Watched<'a, 'b, R> {
     rt: &'a R,
     alloc: Global,
     machine: Loopback<'a, R>,
     // The nodes of the settings.
     nodes: &'a [NodePort],
     // Where the status is written, and whether it was said that it cannot be.
-    status: Option<&'a str>,
+    status: Option<&'b str>,
     is_unwritten: bool,
     // The members that a view must have in which its node sends.
     quorum: u16,
@@ -32,7 +32,11 @@ fn put(text: &mut Vec<u8>, more: &str) -> Result<(), AllocError> {
 }
 
 // Appends a line of a word and a value.
-fn put_value<V: std::fmt::Display + Drop>(text: &mut Vec<u8>, word: &str, value: V) -> Result<(), AllocError> {
+fn put_value<V: std::fmt::Display + Drop>(
+    text: &mut Vec<u8>,
+    word: &str,
+    value: V,
+) -> Result<(), AllocError> {
     let line = format!(in *text.allocator(); "{word} {value}\n")?;
     put(text, line.as_str())
 }
@@ -102,16 +106,16 @@ fn replace<R: Files>(rt: &R, alloc: Global, path: &str, text: &[u8]) -> bool {
     fs::write(rt, new.as_str(), text).is_ok() && fs::rename(rt, new.as_str(), path).is_ok()
 }
 
-impl<'a, R> Watched<'a, R> {
+impl<'a, 'b, R> Watched<'a, 'b, R> {
     /// This machine, with the nodes of the settings.
     pub(crate) fn new(
         rt: &'a R,
         alloc: Global,
         machine: Loopback<'a, R>,
         nodes: &'a [NodePort],
-        status: Option<&'a str>,
+        status: Option<&'b str>,
         quorum: u16,
-    ) -> Watched<'a, R> {
+    ) -> Watched<'a, 'b, R> {
         Watched {
             rt,
             alloc,
@@ -134,7 +138,7 @@ impl<'a, R> Watched<'a, R> {
     }
 }
 
-impl<'a, R: Files + std::net::Net + Clock + Eprint> Machine for Watched<'a, R> {
+impl<'a, 'b, R: Files + std::net::Net + Clock + Eprint> Machine for Watched<'a, 'b, R> {
     type Net = SocketNet;
 
     ghost gone = { λ _. None };
@@ -177,15 +181,21 @@ impl<'a, R: Files + std::net::Net + Clock + Eprint> Machine for Watched<'a, R> {
         let rt = self.rt;
         match notice {
             Notice::LongLine => {
-                let _ = eprintln!(rt; "vsync: a line to send has more than 512 bytes: it is not sent");
+                let _ = eprintln!(rt;
+                    "vsync: a line to send has more than 512 bytes: it is not sent"
+                );
             }
             Notice::BadLine(fault) => {
                 let number = fault.number();
-                let _ = eprintln!(rt; "vsync: a line to send says no command, {number}: it is not sent");
+                let _ = eprintln!(rt;
+                    "vsync: a line to send says no command, {number}: it is not sent"
+                );
             }
             Notice::TooFew(members) => {
                 let quorum = self.quorum;
-                let _ = eprintln!(rt; "vsync: what is to be sent waits: {members} members are there, and {quorum} must be");
+                let _ = eprintln!(rt;
+                    "vsync: what is to be sent waits: {members} members are there, and {quorum} must be"
+                );
             }
         }
     }

@@ -163,7 +163,8 @@ fn member_takes_how_it_runs(rt: HostRuntime) {
         "--any-source",
     ];
     assert!(rt;
-        options_of(alloc, &line).as_str() == "1000 0 i s 10.0.0.1 2 true true true true true 16 t true true",
+        options_of(alloc, &line).as_str()
+            == "1000 0 i s 10.0.0.1 2 true true true true true 16 t true true",
         "all"
     );
 }

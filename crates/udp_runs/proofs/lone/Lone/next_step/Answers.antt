@@ -1,4 +1,3 @@
-
 use Rattle.udp_runs.proofs.lone.Lone.next_step.Goals as goal
 
 pub returns-clause-drives : goal.returns-clause-drives

@@ -5,8 +5,8 @@ use Rattle.udp_runs.proofs.ranks.Moment.greatest.Goals as goal
 
 pub loop-node-preserved : goal.loop-node-preserved
 loop-node-preserved c = elim c.match-other_of.branch [
-    in-Some w ↦ rw (w.best-is, w.greater_of.ensures)
-        (greatest-next c.args.self.now _ c.loop-node.node-index c.node-item.result c.loop-node-test.true c.node-item.is _ _ _ (sym c.other_of.ensures ∙ w.in-Some.is) c.loop-node.invariant)
+  | in-Some w ↦ rw (w.best-is, w.greater_of.ensures)
+      (greatest-next c.args.self.now _ c.loop-node.node-index c.node-item.result c.loop-node-test.true c.node-item.is _ _ _ (sym c.other_of.ensures ∙ w.in-Some.is) c.loop-node.invariant)
   | in_default w ↦ rw w.best-is
-        (greatest-still c.args.self.now _ c.loop-node.node-index c.node-item.result c.loop-node-test.true c.node-item.is _ _ (sym c.other_of.ensures ∙ w.in_default.is) c.loop-node.invariant)
+      (greatest-still c.args.self.now _ c.loop-node.node-index c.node-item.result c.loop-node-test.true c.node-item.is _ _ (sym c.other_of.ensures ∙ w.in_default.is) c.loop-node.invariant)
 ]
