@@ -81,7 +81,10 @@ pub fn disconnect(text: &mut Vec<u8>, channel: &mut Chat) -> Result<(), AllocErr
 
 /// It takes a datagram of no bytes.
 pub fn incoming_nothing(text: &mut Vec<u8>, channel: &mut Chat) -> Result<(), AllocError> {
-    let answer = number(channel.incoming(b""));
+    let answer = match channel.incoming(b"") {
+        Ok(_) => 0,
+        Err(error) => error.number(),
+    };
     put_refusal(text, "incoming, of no bytes", answer)
 }
 
