@@ -4,6 +4,8 @@
 #[cfg(test)]
 mod entries_tests;
 #[cfg(test)]
+mod guard_tests;
+#[cfg(test)]
 mod lock_tests;
 #[cfg(test)]
 mod map_tests;
