@@ -128,11 +128,7 @@ def newcomer_that_a_lone_node_cannot_reach(group):
 
 
 def unreachable_by_contact(group, there):
-    group[1].start()
-    group.one_view(1)
-    for number in there[1:]:
-        group[number].start("--contact", "1.1")
-        group.one_view(*there)
+    group.come_by_contact(*there)
     hears_nothing(group, 3)
     group[3].start("--contact", "1.1")
     before = group[1].installs
@@ -201,11 +197,7 @@ def parted_and_the_first_gone(group):
 @accident(3, options=("--long",))
 def parted_and_the_first_gone_without_words(group):
     """The same without --find, nodes 2 and 3 alone: they seek each other, since each was in the other's view."""
-    group[1].start()
-    group.one_view(1)
-    for number in (2, 3):
-        group[number].start("--contact", "1.1")
-        group.one_view(*range(1, number + 1))
+    group.come_by_contact()
     group.net.part([2], [3])
     group.kill(group[1])
     group.wait(4)
@@ -265,11 +257,7 @@ def stranger_sends_a_merge(group):
 @accident(3, options=("--long",))
 def stranger_sends_a_merge_without_words(group):
     """The same without --find."""
-    group[1].start()
-    group.one_view(1)
-    for number in (2, 3):
-        group[number].start("--contact", "1.1")
-        group.one_view(*range(1, number + 1))
+    group.come_by_contact()
     absurd_merges(group)
 
 

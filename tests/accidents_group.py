@@ -229,6 +229,13 @@ class Group:
             self[number].start()
             self.one_view(*numbers[:place], within=within)
 
+    def come_by_contact(self, *numbers):
+        """The same without --find: the first makes the group, and each other one asks it."""
+        numbers = numbers or tuple(self.nodes)
+        for place, number in enumerate(numbers, 1):
+            self[number].start(*(["--contact", f"{numbers[0]}.1"] if place > 1 else []))
+            self.one_view(*numbers[:place])
+
     def kill(self, *nodes):
         """Kills the processes of these nodes at once by SIGKILL. A datagram that is sent right before is lost, as if it had not been sent: the text could not say so any more."""
         self.net.muted.update(node.number for node in nodes)
