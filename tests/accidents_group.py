@@ -4,6 +4,7 @@ import os
 import pathlib
 import signal
 import subprocess
+import threading
 import time
 
 import accidents_net
@@ -14,8 +15,6 @@ VSYNC = str(pathlib.Path(os.environ.get("VSYNC", ROOT / "vsync")).absolute())
 TICK = 0.02
 # How often a test looks, in seconds.
 LOOK = 0.02
-# How long the text of a process that is to be killed may still grow, in seconds: what it sent is in its text by then.
-LAST_WORDS = 0.03
 # How long a node may take to end, in seconds.
 ENDING = 15
 DIE_WITH_PARENT = 1
@@ -53,12 +52,17 @@ class Node:
         self.address = None
         self.view, self.members = None, ()
         self.runs = False
-        # The chat that it has by its text: pairs of a sender and a payload.
+        # The chat that it has by its text: pairs of a sender and a payload. With locks, the commands that it was told.
         self.chat = []
         self.starts = self.installs = 0
         self.blocked_since, self.longest_block = None, 0.0
-        # The state's line with which its last process ended.
+        # What its text says of stable messages: pairs of a view and how many.
+        self.stable = []
+        # The state's line with which its last process ended: that of a chat, or the fields of a table of locks.
         self.last_chat = None
+        self.last_locks = None
+        # What its last view handed back to it.
+        self.back = ()
 
     # Its process.
 
@@ -73,7 +77,6 @@ class Node:
         with open(self.text, "ab") as text, open(self.errors, "ab") as errors:
             self.process = subprocess.Popen([str(word) for word in [*words, *self.options, *more]], stdin=subprocess.DEVNULL, stdout=text, stderr=errors, preexec_fn=die_with_parent)
         self.ended_with = None
-        net.muted.discard(self.number)
 
     def stop(self):
         """It sleeps."""
@@ -93,7 +96,7 @@ class Node:
         self.group.until(lambda: not self.is_running(), within, f"node {self.number} ends")
 
     def cut_off(self):
-        """Kills its process, whose datagrams nobody hears any more; ends its text as a crash."""
+        """Kills its process; ends its text as a crash."""
         if self.is_running():
             self.process.kill()
         self.process.wait()
@@ -140,12 +143,17 @@ class Node:
         elif word == "installed":
             self.view, self.members = fields[2], tuple(fields[3].split(","))
             self.installs += 1
-            if fields[6] != "-":
+            self.back = () if fields[5] == "-" else tuple(payload_in(sent.partition(":")[2]) for sent in fields[5].split(","))
+            if fields[6] != "-" and "--locks" not in self.options:
                 self.chat = chat_in(bytes.fromhex(fields[6][1:]))
         elif word == "delivered":
             self.chat.append((fields[2], payload_in(fields[4])))
         elif word == "chat":
             self.last_chat = [] if fields[1] == "-" else [(sender, payload_in(text)) for sender, text in (entry.split(":") for entry in fields[1].split(","))]
+        elif word == "locks":
+            self.last_locks = fields[1:]
+        elif word == "stable":
+            self.stable.append((fields[1], int(fields[2])))
         elif word in ("left", "crashed", "#"):
             self.runs, self.view, self.members = False, None, ()
         elif word not in ("sent", "blocked"):
@@ -237,13 +245,17 @@ class Group:
             self.one_view(*numbers[:place])
 
     def kill(self, *nodes):
-        """Kills the processes of these nodes at once by SIGKILL. A datagram that is sent right before is lost, as if it had not been sent: the text could not say so any more."""
-        self.net.muted.update(node.number for node in nodes)
-        for node in nodes:
-            node.go_on()
-        self.net.play(LAST_WORDS)
+        """Kills the processes of these nodes at once by SIGKILL, in the midst of what they do. What they sent is in their texts: a node writes before it sends."""
         for node in nodes:
             node.cut_off()
+
+    def kill_soon(self, node, seconds):
+        """Kills the process of a node so many seconds later, while the network carries what it sends."""
+        timer = threading.Timer(seconds, node.process.kill)
+        timer.start()
+        while timer.is_alive():
+            self.wait(LOOK)
+        node.cut_off()
 
     def look(self):
         for node in self.nodes.values():
@@ -338,7 +350,7 @@ class Group:
         texts = [text for text in sorted(self.folder.glob("*.text")) if text.stat().st_size > 0]
         if not texts:
             raise Wrong("no node printed anything")
-        longs = ["--long"] if "--long" in self.options else []
-        checked = subprocess.run([VSYNC, "check", *longs, "--processes", *map(str, texts)], stdin=subprocess.DEVNULL, capture_output=True, timeout=120)
+        kept = [option for option in self.options if option in ("--long", "--locks")]
+        checked = subprocess.run([VSYNC, "check", *kept, "--processes", *map(str, texts)], stdin=subprocess.DEVNULL, capture_output=True, timeout=120)
         if checked.stdout != b"holds\n":
             raise Wrong("vsync check --processes: " + (checked.stdout + checked.stderr).decode(errors="replace"))

@@ -210,6 +210,38 @@ def lines_that_came_back(group):
     group.expect(all([payload for _, payload in node.chat if payload in wanted] == wanted for node in group.all()), "the lines are not there once and in order")
 
 
+ACQUIRE, RELEASE = 1, 2
+
+
+def command(kind, view, name):
+    """A command of the table of locks as a payload."""
+    counter, _, creator = view.partition("@")
+    return accidents_net.number(kind, 1) + accidents_net.number(int(counter), 8) + accidents_net.address(creator) + accidents_net.number(len(name), 1) + name.encode()
+
+
+@accident(3, options=("--locks",))
+def release_that_came_back(group):
+    """Node 2 holds a lock for which node 3 waits, and its release goes to a coordinator that is dead; it comes back with the next view. Node 2 sends it again, in that view:
+    node 3 holds the lock."""
+    group.come_by_contact()
+    holder, waiter = group[2], group[3]
+    for node in (holder, waiter):
+        asks = (node.address, command(ACQUIRE, node.view, "job"))
+        node.say("acquire job")
+        group.until(lambda: all(asks in other.chat for other in (holder, waiter)), 5, f"node {node.number} asks for the lock")
+    old = command(RELEASE, holder.view, "job")
+    group.kill(group[1])
+    holder.say("release job")
+    group.one_view(2, 3, within=10)
+    view = holder.view
+    group.expect(holder.back == (old,), "the release does not come back")
+    again = (holder.address, command(RELEASE, view, "job"))
+    group.note("sent again", group.until(lambda: again in holder.chat and again in waiter.chat, 5, "node 2 does not send its release again"))
+    group.finish()
+    granted = [f"{view}/1", f"6a6f62:{waiter.address}:{view}/1:"]
+    group.expect(holder.last_locks == waiter.last_locks == granted, f"the locks are {holder.last_locks} and {waiter.last_locks}, not {granted}")
+
+
 @accident(3)
 def line_that_is_too_long(group):
     """A line of more than 512 bytes is added to a node's file, between two others. It is told on the standard error, the two others are said, and the node goes on."""
@@ -356,6 +388,29 @@ def killed_and_started_again_and_again(group):
         group.wait(0.4)
     group.note("one view", group.one_view(within=10))
     group.told(lines)
+
+
+@accident(3)
+def killed_as_it_speaks(group):
+    """Node 2 is given a thousand lines and killed in the midst of them, six times. One view; and what another was told of them is in the text of node 2, as sent."""
+    group.come_together()
+    for turn in range(6):
+        group[2].say(*(f"{turn} {place:04}" for place in range(1000)))
+        group.until(lambda: group[1].has(f"{turn} 0050"), 10, "the lines of node 2 are told")
+        group.kill_soon(group[2], 0.05 + 0.0037 * turn)
+        group[2].start()
+        group.one_view(within=15)
+    group.talk()
+
+
+@accident(3, options=("--find", "--long", "--stable"))
+def stable_messages_are_told(group):
+    """Each of three says a line. In the end the text of each tells that the three messages of the view are stable; of no view it tells of as few as before, or fewer."""
+    group.come_together()
+    group.talk()
+    group.note("stable", group.until(lambda: all(node.stable[-1:] == [(node.view, 3)] for node in group.all()), 5, "three stable messages are told"))
+    for node in group.all():
+        group.expect(all(now > before for (one, before), (other, now) in zip(node.stable, node.stable[1:]) if one == other), f"node {node.number} tells of as few as before")
 
 
 @accident(4)

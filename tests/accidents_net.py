@@ -72,8 +72,6 @@ class Network:
         self.ports = {number: free_port(self.host(number)) for number in self.numbers}
         self.links = {(one, other): Link() for one in self.numbers for other in self.numbers if one != other}
         self.queue, self.counter = [], 0
-        # Nodes whose datagrams are lost from now on.
-        self.muted = set()
         # Nodes whose datagrams come from another address and port than their peers name, as if they were translated on the way.
         self.translated = set()
         self.elsewhere = socket.socket(socket.AF_INET, socket.SOCK_DGRAM)
@@ -160,7 +158,7 @@ class Network:
                 datagram, source = self.sockets[one, other].recvfrom(65536)
             except (BlockingIOError, ConnectionError):
                 return
-            if source == (self.host(one), self.ports[one]) and one not in self.muted:
+            if source == (self.host(one), self.ports[one]):
                 self.carry(one, other, datagram)
 
     def carry(self, one, other, datagram):

@@ -193,6 +193,7 @@ module _ {S : Type 0} (meaning : Meaning S) where
       let later = later-trans h h1 k out.quiet.later onward in
       let finished : IsFinished k p mine f i = record {
         own = runs.own;
+        announced = (flush-later h k p c.promise false c.view c.view_state f later runs).announced;
         entry = entry-now h1 i (may.new p);
         view = refl;
         previous = refl;

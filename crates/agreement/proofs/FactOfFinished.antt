@@ -13,7 +13,7 @@ use Rattle.trace_props.specs.declared.event.Install.{Install}
 use Rattle.trace_props.specs.Observed.{entry_of}
 use Rattle.address.proofs.SameIds.{same_address-true, same_address-from}
 use Rattle.acts.specs.Words.{list_of}
-use Rattle.acts.specs.Histories.{History, report_of, install_of, goes_from, goes_with}
+use Rattle.acts.specs.Histories.{History, flush_of, report_of, install_of, goes_from, goes_with}
 use Rattle.acts.specs.Acts.{Cuts, proposed, others_of, base_for, items_for, instruction, instruction_for}
 use Rattle.agreement.specs.Packets.{end_of, IsCutOf, AllAnswered, IsFitting, IsInstruction}
 use Rattle.agreement.specs.Members.{IsRecorded}
@@ -75,6 +75,7 @@ in-group reports q r v e from =
 
 pub record IsFinished (k : History) (p : Address) (mine : Report) (f : FlushModel) (e : Install) : Type 0 where
   pub own : f.proposal.creator ≡ p
+  pub announced : (q : Address) → stands_in q f.members ≡ true → same_address q p ≡ false → flush_of f.proposal k.pool ≡ Some f.members
   pub entry : entry_of p f.proposal k.trace ≡ Some e
   pub view : e.view ≡ proposed f
   pub previous : e.previous ≡ mine.previous
@@ -157,6 +158,7 @@ fits-as : (k : History) (p q : Address) (mine r : Report) (f : FlushModel) (cuts
     → IsPutOut k p mine f cuts v state → report_from q f.reports ≡ Some r → IsFitting k f.proposal q (instruction f cuts v state q r) r
 fits-as k p q mine r f cuts v state e x y from = record {
   cut = cut-as k cuts r r.previous (λ u is. y.cut q r u from is);
+  newcomer = λ none. (ap (base_for cuts) none, ap (items_for cuts) none);
   together = together-as k p q mine r f e x from;
   same = λ m j s install report came.
       let t = instructed-report k p m mine f cuts v state e j x y install in
@@ -184,6 +186,7 @@ instructs k p q mine f cuts v state e u x inside y there =
       one = y.each q there;
       listed = listed;
       led = record {
+        announced = x.announced q listed (others-other p q f.members there);
         entered = ap is_some entry;
         members = ap (λ o. option_map_or (λ (i : Install). i.view.members) o []) entry ∙ ap (λ (z : View). z.members) x.view;
         from = λ g at. ap is_some (ap (λ (z : Install). z.previous) (same_Some g e (sym at ∙ entry)) ∙ x.previous ∙ inside);

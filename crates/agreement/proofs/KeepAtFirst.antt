@@ -43,6 +43,7 @@ module _ {S : Type 0} (meaning : Meaning S) where
     agreed = nothing-agreed;
     chunks = record {
       pieces = λ k m w chunk at. absurd (none-some m at);
+      gives = λ p c there. absurd (none-some c there);
       held = λ p c at. absurd (none-some c at);
       kept = λ p c at. absurd (none-some c at);
     };

@@ -1,5 +1,5 @@
 -- Each act keeps what holds of chunks: those that were put out are pieces of the state with which their view begins, and those that are held were put out.
-use Rattle.std.proofs.Common.{◌≡◌, ℕ, Bool, true, false, cond, Option, Some, None, List, [], ◌∷◌, ◌++◌, refl, sym, ap, ◌∙◌, subst}
+use Rattle.std.proofs.Common.{◌≡◌, ℕ, Bool, true, false, cond, Option, Some, None, List, [], ◌∷◌, ◌++◌, refl, sym, ap, ◌∙◌, subst, is_some, unwrap_or}
 use Rattle.std.specs.Prelude.{slice_get}
 use Rattle.std.specs.Option.{IsSomeAnd, option_map, option_eq}
 use Rattle.std.proofs.lemmas.Option.{none-some, same_Some}
@@ -13,7 +13,7 @@ use Rattle.wire_values.specs.declared.values.state.GivenState.TheVariants as for
 use Rattle.wire_values.specs.declared.packet.Body.{Body}
 use Rattle.wire_values.specs.declared.packet.Body.TheVariants as bodies
 use Rattle.state_transfer.specs.Meanings.{Meaning}
-use Rattle.flush.specs.Flushes.{FlushModel}
+use Rattle.flush.specs.Flushes.{FlushModel, report_from}
 use Rattle.trace_props.specs.declared.event.Event.{Event}
 use Rattle.trace_props.specs.declared.event.Event.TheVariants.{Started, Crashed}
 use Rattle.trace_props.specs.State.{entry_state}
@@ -23,15 +23,15 @@ use Rattle.acts.specs.Given.{chunk_at, kept_bytes}
 use Rattle.acts.specs.Words.{list_of}
 use Rattle.acts.specs.Histories.{Posted, History}
 use Rattle.acts.specs.Cores.{Core, id_of, applied, idle}
-use Rattle.acts.specs.Acts.{Cuts, Act, Creates, Joins, Puts, Sends, Queues, Orders, TakesAck, Collects, Holds, Delivers, Promises, Begins, Records, Gathers, Finishes, Enters, Leaves, Allowed, Describes, after, packets_of, events_of, packet, proposed, others_of, instruction_for, state_after_cut}
+use Rattle.acts.specs.Acts.{Cuts, Act, Creates, Joins, Puts, Sends, Queues, Orders, TakesAck, Collects, Holds, Delivers, Promises, Begins, Records, Gathers, Finishes, Enters, Leaves, Allowed, Describes, after, packets_of, events_of, packet, proposed, others_of, instruction_for, instructions, state_after_cut}
 use Rattle.agreement.specs.Steps.{System, Start, Crash, put, grown, came_of, acted, stepped}
 use Rattle.agreement.specs.Packets.{IsPiece, WasPutOut, state_with}
 use Rattle.agreement.specs.Members.{MemberFact}
-use Rattle.agreement.specs.Invariant.{HoldsPutOut, KeepsState, ChunkFact, Invariant}
+use Rattle.agreement.specs.Invariant.{HoldsPutOut, KeepsState, KeepsGiven, ChunkFact, Invariant}
 use Rattle.acts.proofs.Lists.{slice_get-split, slice_get-one, place-of}
 use Rattle.agreement.proofs.KeepTrace.{entry_state-kept}
 use Rattle.agreement.proofs.FactOfCame.{came-from}
-use Rattle.agreement.proofs.FactOfInstructions.{instructing-each}
+use Rattle.agreement.proofs.FactOfInstructions.{instructing-each, kept-which}
 use Rattle.agreement.proofs.ActBegins.{map-each}
 
 -- ---- what was put out is so later
@@ -81,6 +81,10 @@ module _ {S : Type 0} (meaning : Meaning S) where
   keeps-none : (t : List Event) (view : Option View) → KeepsState meaning t view None
   keeps-none t view bytes e = absurd (none-some bytes e)
 
+  -- where nothing is kept nothing is given
+  gives-none : (kept : Option (List ℕ)) → KeepsGiven [] kept
+  gives-none kept q i total e is = absurd (none-some i e)
+
   -- ---- one member moves
 
   -- a packet with a chunk has a piece
@@ -101,8 +105,9 @@ module _ {S : Type 0} (meaning : Meaning S) where
       → ((n : ℕ) (m : Posted) → slice_get packets n ≡ Some m → Piecewise (s.history.trace ++ events) m)
       → ((d : Core S) → end ≡ Some d → HoldsPutOut (s.history.pool ++ packets) d.chunks)
       → ((d : Core S) → end ≡ Some d → KeepsState meaning (s.history.trace ++ events) d.view d.kept_state)
+      → ((d : Core S) → end ≡ Some d → KeepsGiven d.sent_installs d.kept_state)
       → ChunkFact meaning (moved_to s p end packets events)
-  chunks-move s p end packets events x new held kept =
+  chunks-move s p end packets events x new held kept gives =
       let pool = s.history.pool in
       let t = s.history.trace in
       record {
@@ -114,13 +119,15 @@ module _ {S : Type 0} (meaning : Meaning S) where
         kept = λ q c there.
             member-by (λ d. KeepsState meaning (t ++ events) d.view d.kept_state) (same_address q p) end (s.running q) c kept
             (λ d e. keeps-later t events d.view d.kept_state (x.kept q d e)) there;
+        gives = λ q c there. member-by (λ d. KeepsGiven d.sent_installs d.kept_state) (same_address q p) end (s.running q) c gives (λ d e. x.gives q d e) there;
       }
 
   -- one who holds and keeps what it did
   chunks-still : (s : System S) (p : Address) (c d : Core S) (packets : List Posted) (events : List Event) → ChunkFact meaning s → s.running p ≡ Some c
       → ((n : ℕ) (m : Posted) → slice_get packets n ≡ Some m → Piecewise (s.history.trace ++ events) m)
-      → HoldsPutOut s.history.pool d.chunks → d.view ≡ c.view → d.kept_state ≡ c.kept_state → ChunkFact meaning (moved_to s p (Some d) packets events)
-  chunks-still s p c d packets events x runs new held view kept =
+      → HoldsPutOut s.history.pool d.chunks → d.view ≡ c.view → d.kept_state ≡ c.kept_state → d.sent_installs ≡ c.sent_installs
+      → ChunkFact meaning (moved_to s p (Some d) packets events)
+  chunks-still s p c d packets events x runs new held view kept sent =
       let pool = s.history.pool in
       let t = s.history.trace in
       let was : KeepsState meaning t d.view d.kept_state =
@@ -128,18 +135,23 @@ module _ {S : Type 0} (meaning : Meaning S) where
       chunks-move s p (Some d) packets events x new
       (λ f e. subst (λ (z : Core S). HoldsPutOut (pool ++ packets) z.chunks) (same_Some d f e) (holds-later pool packets d.chunks held))
       (λ f e. subst (λ (z : Core S). KeepsState meaning (t ++ events) z.view z.kept_state) (same_Some d f e) (keeps-later t events d.view d.kept_state was))
+      (λ f e. subst (λ (z : Core S). KeepsGiven z.sent_installs z.kept_state) (same_Some d f e)
+      (subst (λ (l : List (Address × wire.Install)). KeepsGiven l d.kept_state) (sym sent)
+      (subst (λ (o : Option (List ℕ)). KeepsGiven c.sent_installs o) (sym kept) (x.gives p c runs))))
 
   -- one who went into a view
   chunks-gone : (s : System S) (p : Address) (d : Core S) (packets : List Posted) (events : List Event) → ChunkFact meaning s
       → ((n : ℕ) (m : Posted) → slice_get packets n ≡ Some m → Piecewise (s.history.trace ++ events) m)
-      → d.chunks ≡ [] → KeepsState meaning (s.history.trace ++ events) d.view d.kept_state → ChunkFact meaning (moved_to s p (Some d) packets events)
-  chunks-gone s p d packets events x new none kept =
+      → d.chunks ≡ [] → KeepsState meaning (s.history.trace ++ events) d.view d.kept_state → KeepsGiven d.sent_installs d.kept_state
+      → ChunkFact meaning (moved_to s p (Some d) packets events)
+  chunks-gone s p d packets events x new none kept gives =
       let pool = s.history.pool in
       let t = s.history.trace in
       chunks-move s p (Some d) packets events x new
       (λ f e. subst (λ (z : Core S). HoldsPutOut (pool ++ packets) z.chunks) (same_Some d f e)
       (subst (λ (l : List (ViewId × wire.Chunk)). HoldsPutOut (pool ++ packets) l) (sym none) (holds-none (pool ++ packets))))
       (λ f e. subst (λ (z : Core S). KeepsState meaning (t ++ events) z.view z.kept_state) (same_Some d f e) kept)
+      (λ f e. subst (λ (z : Core S). KeepsGiven z.sent_installs z.kept_state) (same_Some d f e) gives)
 
   -- where nothing is put out neither
   no-packets : (t : List Event) (n : ℕ) (m : Posted) → slice_get [] n ≡ Some m → Piecewise t m
@@ -185,6 +197,19 @@ module _ {S : Type 0} (meaning : Meaning S) where
   KeepsChunks act = (s : System S) (p : Address) (c : Core S) (which : Option ℕ) → ChunkFact meaning s → s.running p ≡ Some c → Allowed meaning (came_of c s.history.pool which) c act
       → Invariant meaning (acted meaning s p act c) → ChunkFact meaning (acted meaning s p act c)
 
+  -- who finishes a flush keeps its state where it gives that in chunks
+  finishes-gives : (c : Core S) (v : View) (f : FlushModel) (cuts : Cuts) (given : GivenState) (bytes : List ℕ) → KeepsGiven (instructions c v f cuts given) (kept_bytes given bytes)
+  finishes-gives c v f cuts given bytes q i total e is =
+      let g = λ (x : Address). instruction_for f cuts v.id given x in
+      let which = kept-which g q (others_of c.me f.members) i e in
+      by given bytes (option_eq same_view_id (unwrap_or (report_from q f.reports) wire.nothing_reported).previous (Some v.id)) (sym (ap (λ (y : wire.Install). y.state) which.1) ∙ is)
+    where
+      by : (h : GivenState) (bytes : List ℕ) (b : Bool) → cond b forms.Nothing h ≡ forms.Chunked total → is_some (kept_bytes h bytes) ≡ true
+      by h bytes true x = absurd (let n : forms.Nothing ≡ forms.Chunked total = x in cc)
+      by forms.Nothing bytes false x = absurd (let n : forms.Nothing ≡ forms.Chunked total = x in cc)
+      by (forms.Whole l) bytes false x = absurd (let n : forms.Whole l ≡ forms.Chunked total = x in cc)
+      by (forms.Chunked n) bytes false x = refl
+
   -- who finishes a flush puts out pieces of its state, and keeps it
   finishes-chunks : (v : View) (f : FlushModel) (cuts : Cuts) (given : GivenState) → KeepsChunks (Finishes v f cuts given)
   finishes-chunks v f cuts given s p c which x runs a inv =
@@ -199,7 +224,7 @@ module _ {S : Type 0} (meaning : Meaning S) where
       (instructing-each (Piecewise t) c.me w (meaning.encode z) g (others_of c.me f.members)
       (λ q k u chunk says. piece-of t w u z k chunk begun says)
       (λ q there u chunk says. absurd cc)) refl
-      (by given begun)
+      (by given begun) (finishes-gives c v f cuts given (meaning.encode z))
     where
       by : (h : GivenState) → entry_state meaning f.proposal (s.history.trace ++ events_of c (Finishes v f cuts given)) ≡ Some (state_after_cut meaning c v cuts)
           → KeepsState meaning (s.history.trace ++ events_of c (Finishes v f cuts given)) (Some (proposed f)) (kept_bytes h (meaning.encode (state_after_cut meaning c v cuts)))
@@ -212,42 +237,42 @@ module _ {S : Type 0} (meaning : Meaning S) where
 
   -- each act
   pub act-chunks : (act : Act) → KeepsChunks act
-  act-chunks Creates s p c which x runs a inv = chunks-gone s p _ [] _ x (no-packets _) refl (keeps-none _ _)
-  act-chunks Joins s p c which x runs a inv = chunks-still s p c _ [] [] x runs (no-packets _) (x.held p c runs) refl refl
+  act-chunks Creates s p c which x runs a inv = chunks-gone s p _ [] _ x (no-packets _) refl (keeps-none _ _) (gives-none None)
+  act-chunks Joins s p c which x runs a inv = chunks-still s p c _ [] [] x runs (no-packets _) (x.held p c runs) refl refl refl
   act-chunks (Puts q body) s p c which x runs a inv =
       chunks-still s p c c (packet c.me body q ∷ []) [] x runs
       (slice_get-one (Piecewise (s.history.trace ++ [])) (packet c.me body q) (λ w chunk says.
       piece-later s.history.trace [] w chunk (described s.history.trace c q w chunk (x.kept p c runs) (subst (λ (b : Body). Describes c q b) says a))))
-      (x.held p c runs) refl refl
-  act-chunks (Sends v payload) s p c which x runs a inv = chunks-still s p c _ [] _ x runs (no-packets _) (x.held p c runs) refl refl
-  act-chunks (Queues v e waiting) s p c which x runs a inv = chunks-still s p c _ [] _ x runs (no-packets _) (x.held p c runs) refl refl
-  act-chunks (Orders v e waiting held) s p c which x runs a inv = chunks-still s p c _ [] _ x runs (no-packets _) (x.held p c runs) refl refl
-  act-chunks (TakesAck v q n) s p c which x runs a inv = chunks-still s p c _ [] _ x runs (no-packets _) (x.held p c runs) refl refl
-  act-chunks (Collects v n held) s p c which x runs a inv = chunks-still s p c _ [] _ x runs (no-packets _) (x.held p c runs) refl refl
-  act-chunks (Holds v g e held) s p c which x runs a inv = chunks-still s p c _ [] _ x runs (no-packets _) (x.held p c runs) refl refl
-  act-chunks (Delivers v e) s p c which x runs a inv = chunks-still s p c _ [] _ x runs (no-packets _) (x.held p c runs) refl refl
+      (x.held p c runs) refl refl refl
+  act-chunks (Sends v payload) s p c which x runs a inv = chunks-still s p c _ [] _ x runs (no-packets _) (x.held p c runs) refl refl refl
+  act-chunks (Queues v e waiting) s p c which x runs a inv = chunks-still s p c _ [] _ x runs (no-packets _) (x.held p c runs) refl refl refl
+  act-chunks (Orders v e waiting held) s p c which x runs a inv = chunks-still s p c _ [] _ x runs (no-packets _) (x.held p c runs) refl refl refl
+  act-chunks (TakesAck v q n) s p c which x runs a inv = chunks-still s p c _ [] _ x runs (no-packets _) (x.held p c runs) refl refl refl
+  act-chunks (Collects v n held) s p c which x runs a inv = chunks-still s p c _ [] _ x runs (no-packets _) (x.held p c runs) refl refl refl
+  act-chunks (Holds v g e held) s p c which x runs a inv = chunks-still s p c _ [] _ x runs (no-packets _) (x.held p c runs) refl refl refl
+  act-chunks (Delivers v e) s p c which x runs a inv = chunks-still s p c _ [] _ x runs (no-packets _) (x.held p c runs) refl refl refl
   act-chunks (Promises w) s p c which x runs a inv =
       chunks-still s p c _ (packets_of meaning c (Promises w)) _ x runs (slice_get-one (Piecewise _) _ (λ u chunk says. absurd cc))
-      (holds-kept (option_eq same_view_id (id_of c.promise) (Some w.id)) s.history.pool c.chunks (x.held p c runs)) refl refl
+      (holds-kept (option_eq same_view_id (id_of c.promise) (Some w.id)) s.history.pool c.chunks (x.held p c runs)) refl refl refl
   act-chunks (Begins w) s p c which x runs a inv =
       chunks-still s p c _ (packets_of meaning c (Begins w)) _ x runs
       (map-each (Piecewise _) (packet c.me (bodies.Flush w)) (others_of c.me w.members) (λ q u chunk says. absurd cc))
-      (holds-kept (option_eq same_view_id (id_of c.promise) (Some w.id)) s.history.pool c.chunks (x.held p c runs)) refl refl
-  act-chunks (Records f q r) s p c which x runs a inv = chunks-still s p c _ [] _ x runs (no-packets _) (x.held p c runs) refl refl
+      (holds-kept (option_eq same_view_id (id_of c.promise) (Some w.id)) s.history.pool c.chunks (x.held p c runs)) refl refl refl
+  act-chunks (Records f q r) s p c which x runs a inv = chunks-still s p c _ [] _ x runs (no-packets _) (x.held p c runs) refl refl refl
   act-chunks (Gathers w chunk chunks) s p c which x runs a inv =
       let from = came-from c s.history.pool which (packet w.creator (bodies.State w chunk) c.me) a.sent in
       chunks-still s p c _ [] [] x runs (no-packets _)
       (λ k u y at.
       let in_either = place-of (c.chunks ++ (w, chunk) ∷ []) (u, y) (a.fewer k (u, y) at) in
       slice_get-split (λ (z : ViewId × wire.Chunk). WasPutOut s.history.pool z.0 z.1) c.chunks ((w, chunk) ∷ []) (λ j z there. x.held p c runs j z.0 z.1 there)
-      (slice_get-one (λ (z : ViewId × wire.Chunk). WasPutOut s.history.pool z.0 z.1) (w, chunk) (from.place, _, from.stands, refl)) in_either.0 (u, y) in_either.1) refl refl
+      (slice_get-one (λ (z : ViewId × wire.Chunk). WasPutOut s.history.pool z.0 z.1) (w, chunk) (from.place, _, from.stands, refl)) in_either.0 (u, y) in_either.1) refl refl refl
   act-chunks (Finishes v f cuts given) s p c which x runs a inv = finishes-chunks v f cuts given s p c which x runs a inv
-  act-chunks (Enters i given) s p c which x runs a inv = chunks-gone s p _ [] _ x (no-packets _) refl (keeps-none _ _)
-  act-chunks Leaves s p c which x runs a inv = chunks-move s p None [] _ x (no-packets _) (λ d e. absurd (none-some d e)) (λ d e. absurd (none-some d e))
+  act-chunks (Enters i given) s p c which x runs a inv = chunks-gone s p _ [] _ x (no-packets _) refl (keeps-none _ _) (gives-none None)
+  act-chunks Leaves s p c which x runs a inv = chunks-move s p None [] _ x (no-packets _) (λ d e. absurd (none-some d e)) (λ d e. absurd (none-some d e)) (λ d e. absurd (none-some d e))
 
   -- a start and a crash
   pub start-chunks : (s : System S) (p : Address) → ChunkFact meaning s → ChunkFact meaning (stepped meaning s (Start p))
-  start-chunks s p x = chunks-gone s p (idle meaning.opening p) [] (Started p ∷ []) x (no-packets _) refl (keeps-none _ _)
+  start-chunks s p x = chunks-gone s p (idle meaning.opening p) [] (Started p ∷ []) x (no-packets _) refl (keeps-none _ _) (gives-none None)
 
   pub crash-chunks : (s : System S) (p : Address) → ChunkFact meaning s → ChunkFact meaning (stepped meaning s (Crash p))
-  crash-chunks s p x = chunks-move s p None [] (Crashed p ∷ []) x (no-packets _) (λ d e. absurd (none-some d e)) (λ d e. absurd (none-some d e))
+  crash-chunks s p x = chunks-move s p None [] (Crashed p ∷ []) x (no-packets _) (λ d e. absurd (none-some d e)) (λ d e. absurd (none-some d e)) (λ d e. absurd (none-some d e))

@@ -125,6 +125,7 @@ answer-later h k p w r m x = record {
 
 pub led-later : (h k : History) (w : ViewId) (i : wire.Install) → Later h k → IsLed h w i → IsLed k w i
 led-later h k w i m x = record {
+  announced = m.flush w i.view.members x.announced;
   entered = entered-later h k w.creator w m x.entered;
   members = members-same h k w m x.entered ∙ x.members;
   from = λ e y. x.from e (sym (entry-same h k w.creator w m x.entered) ∙ y);
@@ -138,6 +139,7 @@ cut-later h k base items r v m x = record { low = x.low; high = x.high; order = 
 pub fitting-later : (h k : History) (w : ViewId) (q : Address) (i : wire.Install) (r : Report) → Later h k → IsLed h w i → IsFitting h w q i r → IsFitting k w q i r
 fitting-later h k w q i r m led x = record {
   cut = λ v from. cut-later h k i.base i.items r v m (x.cut v from);
+  newcomer = x.newcomer;
   together = x.together ∙ together-later h k w r.previous i.view.members m led.complete;
   same = λ n j s install report from.
       let was = sym (m.installs w n led.entered) ∙ install in

@@ -7,6 +7,7 @@ use Rattle.limits.specs.declared.TheConstants.{PAYLOAD}
 use Rattle.view.specs.Members.{View}
 use Rattle.wire_values.specs.Values as wire
 use Rattle.wire_values.specs.declared.packet.Body.TheVariants as bodies
+use Rattle.wire_values.specs.declared.values.state.GivenState.TheVariants as forms
 use Rattle.state_transfer.specs.Meanings.{Meaning}
 use Rattle.trace_props.specs.declared.event.Event.{Event}
 use Rattle.trace_props.specs.declared.event.Numbered.{Numbered}
@@ -16,7 +17,7 @@ use Rattle.trace_props.specs.State.{entry_state}
 use Rattle.trace_props.specs.Synchrony.{IsVirtuallySynchronous}
 use Rattle.acts.specs.Words.{tally_of, no_tally}
 use Rattle.acts.specs.Histories.{Posted, History, install_of}
-use Rattle.acts.specs.Cores.{Core}
+use Rattle.acts.specs.Cores.{Core, install_sent_to}
 use Rattle.agreement.specs.Steps.{System}
 use Rattle.agreement.specs.Packets.{PacketFact, IsEntry, GivesState, BeginsWith, IsPiece, WasPutOut}
 use Rattle.agreement.specs.Members.{MemberFact}
@@ -76,11 +77,16 @@ HoldsPutOut pool chunks = (k : ℕ) (w : ViewId) (chunk : wire.Chunk) → slice_
 abbrev pub KeepsState : {S : Type 0} → Meaning S → List Event → Option View → Option (List ℕ) → Type 0
 KeepsState meaning t view kept = ForSome kept (λ bytes. ForSome view (λ v. IsSomeAnd (entry_state meaning v.id t) (λ s. meaning.encode s ≡ bytes)))
 
+-- where an instruction that is kept gives its state in chunks, the state is kept
+abbrev pub KeepsGiven : List (Address × wire.Install) → Option (List ℕ) → Type 0
+KeepsGiven sent kept = (q : Address) (i : wire.Install) (total : ℕ) → install_sent_to q sent ≡ Some i → i.state ≡ forms.Chunked total → is_some kept ≡ true
+
 -- of the chunks that were put out, those that each member holds, and the state that it keeps
 pub record ChunkFact {S : Type 0} (meaning : Meaning S) (s : System S) : Type 0 where
   pub pieces : EachPiece meaning s.history
   pub held : (p : Address) (c : Core S) → s.running p ≡ Some c → HoldsPutOut s.history.pool c.chunks
   pub kept : (p : Address) (c : Core S) → s.running p ≡ Some c → KeepsState meaning s.history.trace c.view c.kept_state
+  pub gives : (p : Address) (c : Core S) → s.running p ≡ Some c → KeepsGiven c.sent_installs c.kept_state
 
 -- of the trace, of each packet, of each install, of states, of each member that runs
 pub record Invariant {S : Type 0} (meaning : Meaning S) (s : System S) : Type 0 where

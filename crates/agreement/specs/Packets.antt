@@ -1,5 +1,5 @@
 -- What holds of each packet that was put out, and of each install, from then on.
-use Rattle.std.specs.Prelude.{◌≡◌, ℕ, ◌+◌, ◌<◌, ◌≤◌, true, false, Option, None, Some, List, filter, length, is_some, slice_get, if◌then◌else◌}
+use Rattle.std.specs.Prelude.{◌≡◌, ℕ, ◌+◌, ◌<◌, ◌≤◌, true, false, Option, None, Some, List, [], filter, length, is_some, slice_get, if◌then◌else◌}
 use Rattle.std.specs.Option.{ForSome, IsSomeAnd, option_map, option_eq}
 use Rattle.address.specs.Ids.{Address, ViewId, same_address, same_view_id}
 use Rattle.view.specs.Members.{View, stands_in}
@@ -83,8 +83,10 @@ end_of i = i.base + length i.items
 abbrev pub AllAnswered : History → ViewId → List Address → Type 0
 AllAnswered h w members = (m : Address) → stands_in m members ≡ true → is_some (goes_from h w m) ≡ true
 
--- the coordinator of the view is in it, with the same members and from some view; all have reported, and so have those who are instructed to go into it
+-- the view was announced with its members, and its coordinator is in it, with the same members and from some view; all have reported, and so have those who are
+-- instructed to go into it
 pub record IsLed (h : History) (w : ViewId) (i : wire.Install) : Type 0 where
+  pub announced : flush_of w h.pool ≡ Some i.view.members
   pub entered : is_some (entry_of w.creator w h.trace) ≡ true
   pub members : members_of w h.trace ≡ i.view.members
   pub from : (e : Install) → entry_of w.creator w h.trace ≡ Some e → is_some e.previous ≡ true
@@ -94,6 +96,8 @@ pub record IsLed (h : History) (w : ViewId) (i : wire.Install) : Type 0 where
 -- the cut, and who comes along, for one who reported this
 pub record IsFitting (h : History) (w : ViewId) (q : Address) (i : wire.Install) (r : Report) : Type 0 where
   pub cut : ForSome r.previous (IsCutOf h.trace i.base i.items r)
+  -- who comes from no view is told of no message
+  pub newcomer : r.previous ≡ None → (i.base ≡ 0) × (i.items ≡ [])
   pub together : i.together ≡ filter (goes_with h w r.previous) i.view.members
   -- all who come from there go on at one end
   pub same : (m : Address) (j : wire.Install) (s : Report) → install_of w m h.pool ≡ Some j → report_of m w h.pool ≡ Some s → s.previous ≡ r.previous → end_of j ≡ end_of i

@@ -1,7 +1,7 @@
 //! What the program runs: receivers whose messages have words, and whose state has a line of text.
 #![tactic(auto)]
 
-ghost use Rattle.std.specs.Prelude.{◌≡◌, ◌++◌, ℕ, List, Option, Result, IfOk, OnOk, OnErr};
+ghost use Rattle.std.specs.Prelude.{◌≡◌, ◌++◌, ℕ, Bool, List, Option, Result, IfOk, OnOk, OnErr};
 ghost use Rattle.address.specs.Ids.{Address as AddressValue, ViewId as ViewIdValue};
 ghost use Rattle.view.specs.Members.{View as ViewValue};
 ghost use Rattle.script_reader.specs.declared.fault.Fault.{Fault as FaultValue};
@@ -27,6 +27,9 @@ pub trait Application: Receiver + Payloads {
     /// The payload that the coordinator of a view sends when it has installed it, if it sends one.
     ghost first_said: { ViewValue → Option (List ℕ) };
 
+    /// Whether a member says again what a view handed back to it.
+    ghost is_said_again: { Bool };
+
     /// Puts that line at the end of a buffer. Where memory is refused, what stood before is kept, and a part may have been appended.
     fn put_line(&self, member: &Address, out: &mut Vec<u8>) -> Result<(), AllocError>
         ensures text { OnOk result (out.new.items ≡ out.old.items ++ line_of member.now self.now) }
@@ -43,6 +46,11 @@ pub trait Application: Receiver + Payloads {
     /// The payload that the coordinator of a view sends when it has installed it, if it sends one.
     fn first_message(alloc: Global, view: &View) -> Result<Option<Bytes>, AllocError>
         ensures { IfOk result (λ payload. payload ≡ first_said view.now) };
+
+    /// Whether a member says again what a view handed back to it, in that view and before all else that it is to say: the same words, by `payload_in_view` of the view. A node
+    /// that finds its group does so for every receiver (docs/PROTOCOL.md, "Giving way").
+    fn says_again() -> bool
+        ensures { result ≡ is_said_again };
 }
 
 /// Appends the line that shows a member and the state of its copy.

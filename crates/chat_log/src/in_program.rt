@@ -20,7 +20,7 @@ impl<L: ChatSize> Payloads for LastLines<L> {
 }
 
 impl<L: ChatSize> Application for LastLines<L> {
-    ghost use Rattle.std.specs.Prelude.{None};
+    ghost use Rattle.std.specs.Prelude.{None, false};
     ghost use Rattle.script_reader.specs.Script.{as_written};
     ghost use Rattle.chat_log.specs.ChatText.{chat_line};
 
@@ -29,6 +29,8 @@ impl<L: ChatSize> Application for LastLines<L> {
     ghost payload_within = { λ view. as_written };
 
     ghost first_said = { λ view. None };
+
+    ghost is_said_again = { false };
 
     fn put_line(&self, member: &Address, out: &mut Vec<u8>) -> Result<(), AllocError> {
         put_chat(out, member, self)
@@ -41,5 +43,10 @@ impl<L: ChatSize> Application for LastLines<L> {
 
     fn first_message(_alloc: Global, _view: &View) -> Result<Option<Bytes>, AllocError> {
         Ok(None)
+    }
+
+    /// No: the other side of a partition may have it already, and a line would stand there twice.
+    fn says_again() -> bool {
+        false
     }
 }

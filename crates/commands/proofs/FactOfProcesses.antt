@@ -17,9 +17,9 @@ use Rattle.script_reader.specs.declared.fault.Unread.{Unread}
 use Rattle.script_reader.specs.declared.fault.Unread.TheVariants as one
 use Rattle.script_reader.specs.Texts.{IsUnread}
 use Rattle.script_reader.specs.Script.{fault_number}
-use Rattle.commands.specs.declared.status.Status.{Status}
-use Rattle.commands.specs.declared.status.Status.TheVariants.{Memory}
-use Rattle.commands.specs.Outcomes.{Ends, Written, memory_line}
+use Rattle.endings.specs.declared.status.Status.{Status}
+use Rattle.endings.specs.declared.status.Status.TheVariants.{Memory}
+use Rattle.endings.specs.Outcomes.{Ends, Written, memory_line}
 use Rattle.commands.specs.Processes.{bytes_in, texts_of, IsTraceOf, IsPlacedText, IsUnorderedText, IsFaultyText, IsJoinedText, HasFault, AreTracesOf, IsUnreadIn, unread_at, IsProcessesText}
 use Rattle.commands.specs.Processes.IsJoinedText.{Judged, Unordered, Unjudged}
 use Rattle.commands.specs.Processes.IsProcessesText.{Reads, Faulty, Lacking}

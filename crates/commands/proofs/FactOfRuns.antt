@@ -4,19 +4,22 @@ use Rattle.state_transfer.specs.Meanings.{Meaning}
 use Rattle.trace_props.specs.Places.{EachPlace}
 use Rattle.trace_props.specs.Synchrony.{IsWellOrdered, IsVirtuallySynchronous}
 use Rattle.replicas.specs.Replicas.{ReplicasAgree}
+use Rattle.trace_props.specs.declared.event.Event.{Event}
 use Rattle.world_model.specs.declared.WorldEvent.{WorldEvent}
+use Rattle.world_model.specs.declared.Reply.{Reply}
 use Rattle.world_step.specs.Worlds.{WorldModel, no_world, Runs as WorldRuns}
 use Rattle.world_model.specs.Faithful.{IsFaithful}
 use Rattle.world_model.specs.Histories.{History}
 use Rattle.script_reader.specs.declared.script.Script.{Script}
 use Rattle.vsync_text.specs.Runs.{lines_of_run}
-use Rattle.commands.specs.declared.status.Status.{Status}
-use Rattle.commands.specs.declared.status.Status.TheVariants.{Memory}
-use Rattle.commands.specs.Outcomes.{Ends, Ran, IsLinesText, IsRunText, IsEndText, Written, memory_line}
-use Rattle.commands.specs.Outcomes.IsLinesText.{Printed, Unprinted}
+use Rattle.endings.specs.declared.status.Status.{Status}
+use Rattle.endings.specs.declared.status.Status.TheVariants.{Memory}
+use Rattle.endings.specs.Outcomes.{Ends, IsLinesText, Written, memory_line}
+use Rattle.commands.specs.Outcomes.{Ran, IsRunText, IsEndText}
+use Rattle.endings.specs.Outcomes.IsLinesText.{Printed, Unprinted}
 use Rattle.commands.specs.Outcomes.IsRunText.{All, Part}
 use Rattle.commands.specs.Outcomes.IsEndText.{All as AllLines, Part as PartOfLines, Stopped}
-use Rattle.commands.proofs.FactOfTexts.{written-as}
+use Rattle.endings.proofs.FactOfTexts.{written-as}
 
 -- an answer that is no error
 on-ok : {A E : Type 0} (r : Result A E) (P : Type 0) (b : Bool) → OnOk r P → b ≡ is_ok r → b ≡ true → P
@@ -83,3 +86,10 @@ module _ {S : Type 0} (meaning : Meaning S) where
     -- the world could not run them all
     pub stopped : (a b : Option (List ℕ)) (status : Status) → Ends a b memory_line Memory status → Written (IsEndText meaning lines_of script) a b status
     stopped a b status e = record { meant = Memory; text = memory_line; says = Stopped; ends = e }
+
+-- the lines of a run by its replies and its trace
+pub printed-as : (lines : List ℕ) (ran : Bool) (replies replies' : List Reply) (trace trace' : List Event) (a b : Option (List ℕ)) (status : Status) → replies ≡ replies' → trace ≡ trace'
+    → Written (IsLinesText (lines_of_run lines replies trace) ran) a b status → Written (IsLinesText (lines_of_run lines replies' trace') ran) a b status
+printed-as lines ran replies replies' trace trace' a b status r t w =
+    subst (λ (x : List Event). Written (IsLinesText (lines_of_run lines replies' x) ran) a b status) t
+    (subst (λ (y : List Reply). Written (IsLinesText (lines_of_run lines y trace) ran) a b status) r w)

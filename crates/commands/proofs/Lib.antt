@@ -1,5 +1,5 @@
-pub mod FactOfTexts
 pub mod FactOfRuns
+pub mod SettledRuns
 pub mod FactOfStateLines
 pub mod FactOfVerdicts
 pub mod FactOfDrawings

@@ -11,9 +11,9 @@ use Rattle.trace_props.specs.Verdicts.{IsVerdict}
 use Rattle.script_reader.specs.declared.fault.Fault.{Fault}
 use Rattle.script_reader.specs.Script.{fault_number}
 use Rattle.trace_reader.specs.Traces.{trace_of}
-use Rattle.commands.specs.declared.status.Status.{Status}
-use Rattle.commands.specs.declared.status.Status.TheVariants.{Done, Broken, Memory}
-use Rattle.commands.specs.Outcomes.{IsFaultText, IsAnswer, memory_line}
+use Rattle.endings.specs.declared.status.Status.{Status}
+use Rattle.endings.specs.declared.status.Status.TheVariants.{Done, Broken, Memory}
+use Rattle.endings.specs.Outcomes.{IsFaultText, IsAnswer, memory_line}
 
 -- the code of a rule
 abbrev pub rule_code : Rule → List ℕ

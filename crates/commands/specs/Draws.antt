@@ -12,10 +12,11 @@ use Rattle.script_reader.specs.declared.fault.Fault.{Fault}
 use Rattle.script_reader.specs.Script.{script_of, fault_number}
 use Rattle.trace_reader.specs.Traces.{trace_of}
 use Rattle.world_step.specs.Worlds.{WorldModel}
-use Rattle.commands.specs.declared.status.Status.{Status}
-use Rattle.commands.specs.declared.status.Status.TheVariants.{Done, Refused, Memory}
+use Rattle.endings.specs.declared.status.Status.{Status}
+use Rattle.endings.specs.declared.status.Status.TheVariants.{Done, Refused, Memory}
 use Rattle.commands.specs.Asides.{HasAsides}
-use Rattle.commands.specs.Outcomes.{Ran, IsAnswer, fault_line}
+use Rattle.endings.specs.Outcomes.{IsAnswer, fault_line}
+use Rattle.commands.specs.Outcomes.{Ran}
 
 -- the texts of what happened: its picture, with what stands beside it, and with a mark where a rule breaks; or nothing, where memory is refused
 pub data IsPictureText (t : List Event) (asides : List Aside) (packets : List (List ℕ)) (verdict : Verdict) : Status → List ℕ → Type 0 where

@@ -6,3 +6,4 @@ pub mod Asides
 pub mod Draws
 pub mod MemberTexts
 pub mod Processes
+pub mod Settled

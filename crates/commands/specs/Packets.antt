@@ -3,9 +3,10 @@ use Rattle.std.specs.Prelude.{ℕ, List, Option}
 use Rattle.state_transfer.specs.Meanings.{Meaning}
 use Rattle.vsync_text.specs.PacketText.{packet_lines}
 use Rattle.script_reader.specs.declared.script.Script.{Script}
-use Rattle.commands.specs.declared.status.Status.{Status}
+use Rattle.endings.specs.declared.status.Status.{Status}
 use Rattle.script_reader.specs.Script.{as_written}
-use Rattle.commands.specs.Outcomes.{IsEndText, IsScriptText, IsAnswer}
+use Rattle.endings.specs.Outcomes.{IsScriptText, IsAnswer}
+use Rattle.commands.specs.Outcomes.{IsEndText}
 
 -- the texts of the packets that were put out in a script's run, in order
 abbrev pub IsPacketText : {S : Type 0} → Meaning S → Script → Status → List ℕ → Type 0

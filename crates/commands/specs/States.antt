@@ -9,8 +9,9 @@ use Rattle.trace_props.specs.State.{state_of}
 use Rattle.world_model.specs.Histories.{running}
 use Rattle.script_reader.specs.declared.script.Script.{Script}
 use Rattle.script_reader.specs.declared.fault.Fault.{Fault}
-use Rattle.commands.specs.declared.status.Status.{Status}
-use Rattle.commands.specs.Outcomes.{IsEndText, IsScriptText, IsAnswer}
+use Rattle.endings.specs.declared.status.Status.{Status}
+use Rattle.endings.specs.Outcomes.{IsScriptText, IsAnswer}
+use Rattle.commands.specs.Outcomes.{IsEndText}
 use Rattle.limits.specs.declared.TheConstants.{GREATEST_NODE}
 
 -- the line of the member that runs at a node, if one does: it shows the state that the trace says

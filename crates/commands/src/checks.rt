@@ -1,9 +1,8 @@
 ghost use Rattle.std.specs.Prelude.{◌≡◌};
-ghost use Rattle.commands.specs.Outcomes.{Written};
+ghost use Rattle.endings.specs.Outcomes.{Written};
 ghost use Rattle.commands.specs.Checks.{rule_code, IsVerdictText, IsJudgedText, ChecksTrace};
 
-use crate::Status;
-use crate::ends::{Unreadable, end_in_fault, end_in_memory, end_with, read_all};
+use endings::{Status, Unreadable, end_in_fault, end_in_memory, end_with, read_all};
 use script_reader::Unread;
 use state_transfer::Receiver;
 use std::alloc::Global;

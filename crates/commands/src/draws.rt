@@ -2,12 +2,11 @@
 
 ghost use Rattle.std.specs.Prelude.{[]};
 ghost use Rattle.script_reader.specs.Script.{fault_number};
-ghost use Rattle.commands.specs.Outcomes.{Ends, Written};
+ghost use Rattle.endings.specs.Outcomes.{Ends, Written};
 ghost use Rattle.commands.specs.Draws.{IsPictureText, IsRefusalText, IsDrawingText, TellsRun, IsJudgedAs, DrawsScript, DrawsTrace};
 
-use crate::Status;
 use crate::asides::play_events;
-use crate::ends::{Unreadable, end_with, read_all};
+use endings::{Status, Unreadable, end_with, read_all};
 use script_reader::{Fault, Script, Unread, read_script};
 use state_transfer::Receiver;
 use std::alloc::Global;

@@ -1,11 +1,10 @@
 ghost use Rattle.std.specs.Prelude.{true};
 ghost use Rattle.vsync_text.specs.PacketText.{packet_lines};
-ghost use Rattle.commands.specs.Outcomes.{Written, IsLinesText};
+ghost use Rattle.endings.specs.Outcomes.{Written, IsLinesText};
 ghost use Rattle.commands.specs.Packets.{IsPacketText, RunsPackets};
 
-use crate::Status;
-use crate::ends::{end_in_memory, end_with_lines};
 use crate::scripts::script_from;
+use endings::{Status, end_in_memory, end_with_lines};
 use script_reader::{AsWritten, Script};
 use state_transfer::Receiver;
 use std::alloc::Global;

@@ -4,14 +4,13 @@ ghost use Rattle.std.specs.Prelude.{◌≡◌, ◌++◌, IfOk, MatchResult};
 ghost use Rattle.std.specs.Option.{option_copied};
 ghost use Rattle.trace_merge.specs.Merges.{lists_of};
 ghost use Rattle.script_reader.specs.Script.{fault_number};
-ghost use Rattle.commands.specs.Outcomes.{Written};
+ghost use Rattle.endings.specs.Outcomes.{Written};
 ghost use Rattle.commands.specs.Checks.{broken_line};
 ghost use Rattle.commands.specs.Processes.{texts_of, AreTracesOf, unread_at, IsPlacedText, event_at, line_with, IsUnorderedText, IsFaultyText, IsJoinedText, IsUnreadIn, IsProcessesText, ChecksProcesses};
 
-use crate::Status;
 use crate::checks::code_of;
-use crate::ends::{end_in_memory, end_with};
 use crate::member_texts::read_member_trace;
+use endings::{Status, end_in_memory, end_with};
 use script_reader::{Fault, Unread};
 use state_transfer::Receiver;
 use std::alloc::{AllocError, Global};

@@ -1,8 +1,8 @@
 ghost use Rattle.vsync_text.specs.Runs.{lines_of_run};
-ghost use Rattle.commands.specs.Outcomes.{Written, IsLinesText, IsRunText, ReadsScript, RunsScript};
+ghost use Rattle.endings.specs.Outcomes.{Written, IsLinesText, ReadsScript};
+ghost use Rattle.commands.specs.Outcomes.{IsRunText, RunsScript};
 
-use crate::Status;
-use crate::ends::{Unreadable, end_in_fault, end_in_memory, end_with, read_all};
+use endings::{Status, Unreadable, end_in_fault, end_in_memory, end_with, read_all};
 use script_reader::{AsWritten, Payloads, Script, Unread, read_script_by};
 use state_transfer::Receiver;
 use std::alloc::Global;
@@ -32,7 +32,7 @@ pub fn script_from<P: Payloads, I: Read, W: Write>(
 
 /// Writes what happened in a world that ran events of these lines: all of it, or with `# memory` at its end where
 /// the world could not run them all.
-fn print_run<R: Receiver, W: Write>(
+pub(crate) fn print_run<R: Receiver, W: Write>(
     alloc: Global,
     world: &World<R>,
     ran: bool,

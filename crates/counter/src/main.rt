@@ -4,14 +4,13 @@
 #![tactic(auto)]
 
 mod counter;
-mod incarnation;
 mod messages;
 mod node;
 mod story;
 
 use address::{Address, Node};
 pub use counter::Counter;
-use incarnation::next_incarnation;
+use incarnations::next_incarnation;
 pub use messages::Unsent;
 pub use node::CountingNode;
 use std::io::ErrorKind;

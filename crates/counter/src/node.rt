@@ -98,13 +98,16 @@ impl<N: Net> CountingNode<N> {
         Ok(())
     }
 
-    // What comes after each call of the runner: what happened is taken first, since messages that were handed back go before others; then what waits is sent.
+    // What comes after each call of the runner: what happened is taken first, since messages that were handed back go before others; then what waits is sent; and last the
+    // packets go out that all this put out.
     fn goes_on(&mut self, answer: Result<(), Error>) -> io::Result<()> {
         if answer.is_err() {
             self.has_ended = true;
         }
         taken_back(self.runner.channel(), &mut self.unsent)?;
-        self.send_all()
+        self.send_all()?;
+        self.runner.offer();
+        Ok(())
     }
 
     // Sends what waits, in order. A message that is refused waits on, and what is behind it too.

@@ -17,10 +17,10 @@ use Rattle.deployment.specs.Known.{MembersKnow, CopiesAgree}
 use Rattle.deployed_channels.specs.Plays.{IsReady}
 use Rattle.deployed_channels.specs.Known.{ChannelKnows}
 use Rattle.deployed_channels.proofs.FactOfKnown.{connected-knows}
-use Rattle.deployed_runners.specs.Items.{steps_in}
-use Rattle.deployed_runners.specs.Runs.{running_in}
+use Rattle.deployed_runners.specs.Items.{Item, steps_in}
+use Rattle.deployed_runners.specs.Runs.{running_in, StandsWith}
 use Rattle.deployed_runners.specs.Merged.{items_of}
-use Rattle.deployed_runners.specs.Known.{RunnersKnow, RunnersAgree, ReceiversAgree}
+use Rattle.deployed_runners.specs.Known.{KnowsAmong, RunnersKnow, RunnersAgree, ReceiversAgree}
 use Rattle.deployed_runners.proofs.FactOfMerged.{history, members-are}
 
 module _ {S : Type 0} (meaning : Meaning S) (group : List ℕ) (t : List Event) (p : Address) where
@@ -51,6 +51,11 @@ module _ {S : Type 0} (meaning : Meaning S) where
   runners-know known group all merged p stage x =
       stage-knows meaning group (trace_of (steps_in (items_of all))) p x.member stage x.is_new x.ready
       (λ n runs. known group (steps_in (items_of all)) (history meaning group all merged) p n (members-are meaning group all merged.processes p ∙ x.running ∙ runs))
+
+  -- a process that a channel stands with, wherever it stands
+  pub knows-among : RunnersKnow meaning → (group : List ℕ) (p : Address) (own : List (Item S)) (stage : Stage S) → StandsWith meaning group p own stage → KnowsAmong meaning group p own stage
+  knows-among know group p own stage stands all merged same =
+      know group all merged p stage (subst (λ (l : List (Item S)). StandsWith meaning group p l stage) (sym same) stands)
 
   pub runners-agree : CopiesAgree meaning → RunnersAgree meaning
   runners-agree copies group all merged = copies group (steps_in (items_of all)) (history meaning group all merged)

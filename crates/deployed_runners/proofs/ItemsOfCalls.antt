@@ -15,7 +15,7 @@ use Rattle.deployment.specs.Processes.{all_told}
 use Rattle.deployed_channels.specs.Plays.{IsReady, falls, crash_of}
 use Rattle.deployed_channels.proofs.CallIsStep.{lent-calls-are, creates-are, joins-are}
 use Rattle.deployed_runners.specs.Items.{Follow, stands_after, steps_in}
-use Rattle.deployed_runners.specs.Runs.{listed, with_channel, Makes, Listen, Round, Seek, Wait, Create, Join, Send, Hand, Take, Drives, Begun, Further, running_in, happened_by, Adds, CallsAddItems, new_channel, IsRun, RunsAreProcesses}
+use Rattle.deployed_runners.specs.Runs.{listed, with_channel, Makes, Listen, Round, Seek, Offer, Wait, Create, Join, Send, Hand, Take, Drives, Begun, Further, running_in, happened_by, Adds, CallsAddItems, new_channel, IsRun, RunsAreProcesses}
 use Rattle.deployed_runners.proofs.StepsOfCalls.{call-does, connect-does, again-does}
 use Rattle.deployment.proofs.NewMembers.{new_member, is-new}
 use Rattle.deployed_runners.proofs.ItemsOfRounds
@@ -44,9 +44,10 @@ module _ {N S : Type 0} (log : N → Option Log) (failed : N → ℕ) (meaning :
 
   call-adds : (old : Driven N S) (taken : List Event) (failure : Option Error) (new : Driven N S) → IsAddress old.channel.address → IsReady meaning old.channel.stage
       → Makes log failed meaning group old taken failure new → Adds log meaning group old taken (falls old.channel.stage failure) new
-  call-adds old _ _ _ real ready (Listen answer new l) = ItemsOfRounds.listen-on log meaning group failed old new answer l ready
+  call-adds old _ _ _ real ready (Listen answer new h) = ItemsOfRounds.hears-on log meaning group failed old answer new h ready
   call-adds old _ _ _ real ready (Round failure new r) = ItemsOfRounds.round-on log meaning group failed old new failure r ready
   call-adds old _ _ _ real ready (Seek failure new s) = ItemsOfRounds.seek-on log meaning group failed old new failure s ready
+  call-adds old _ _ _ real ready (Offer new o) = none-adds old [] new (ItemsOfRounds.offers-on log meaning group failed old new o ready)
   call-adds old _ _ _ real ready (Wait new lists same) = none-adds old [] new (ItemsOfRounds.still log meaning group old new same lists ready)
   call-adds old _ _ _ real ready (Create failure channel c left) =
       let x = creates-are meaning group old.channel channel failure real ready c left in

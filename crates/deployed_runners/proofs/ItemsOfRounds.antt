@@ -22,7 +22,7 @@ use Rattle.udp_member.specs.Offers.{Offers}
 use Rattle.udp_member.specs.Turns.{Handed, Datagram, Suspect, Tick, Hint, CallsBy, Driven, Comes, Takes, TakesAll, goes_on, watched_at}
 use Rattle.udp_member.specs.Turns.TakesAll.{Nothing, Next}
 use Rattle.udp_member.specs.Notes.{Notes}
-use Rattle.udp_member.specs.Rounds.{PassesOver, Asks, ComesNone, Cuts, Hears, counting, silent_of, after_suspicions, SuspectsAll, Suspects, Ticks, SuspectsAndTicks, Listens, Rounds}
+use Rattle.udp_member.specs.Rounds.{PassesOver, Asks, ComesNone, Cuts, Hears, counting, silent_of, after_suspicions, SuspectsAll, Suspects, Ticks, SuspectsAndTicks, Rounds}
 use Rattle.udp_member.specs.Seeking.{Hints, Seeks, sought, turned}
 use Rattle.deployment.specs.Deployments.{Step, IsNew, bytes_of, happens_by}
 use Rattle.deployment.specs.Processes.{all_told}
@@ -33,10 +33,6 @@ use Rattle.deployed_runners.specs.Runs.{is_start, running_in, standing, happened
 use Rattle.deployed_runners.proofs.FactOfItems
 use Rattle.deployed_runners.proofs.StepsOfCalls.{Does, call-does, falls-as, falls-not}
 use Rattle.deployed_runners.proofs.StaysRunning.{goes-on, ends-not}
-
-or-false : (b : Bool) → (b || false) ≡ b
-or-false true = refl
-or-false false = refl
 
 module _ {N S : Type 0} (log : N → Option Log) (meaning : Meaning S) (group : List ℕ) where
   abbrev Ready : Driven N S → Type 0
@@ -233,17 +229,14 @@ module _ {N S : Type 0} (log : N → Option Log) (meaning : Meaning S) (group : 
 
   -- ---- offers
 
-  offers-goes : (failed : N → ℕ) (old new : Driven N S) → Offers log failed old.net old.channel new.net new.channel → Ready old → Goes old new
-  offers-goes failed old new o ready =
+  pub offers-on : (failed : N → ℕ) (old new : Driven N S) → Offers log failed old.net old.channel new.net new.channel → Ready old → On old false new
+  offers-on failed old new o ready =
       let packets = old.channel.outgoing in
-      record {
-        adds = quiet-adds old new [] (FactOfItems.items_offered packets) (ap (λ (c : ChannelModel S). c.stage) o.channel_is) (FactOfItems.steps-offered packets)
-            (λ r. FactOfItems.follow-offered meaning group old.channel.address r None packets) (λ r. FactOfItems.running-offered r None packets)
-            (λ r. FactOfItems.waiting-offered r None packets ∙ sym (ap (λ (c : ChannelModel S). map bytes_of c.outgoing) o.channel_is))
-            (subst (λ (l : List NetEvent). Lists (log old.net) (λ k. k ++ l) (log new.net)) (sym (FactOfItems.events-offered S packets)) o.lists)
-            (ap (λ (c : ChannelModel S). c.happened) o.channel_is) (ap (λ (c : ChannelModel S). c.address) o.channel_is) ready;
-        same = ap (λ (c : ChannelModel S). is_over c.stage) o.channel_is;
-      }
+      quiet-adds old new [] (FactOfItems.items_offered packets) (ap (λ (c : ChannelModel S). c.stage) o.channel_is) (FactOfItems.steps-offered packets)
+      (λ r. FactOfItems.follow-offered meaning group old.channel.address r None packets) (λ r. FactOfItems.running-offered r None packets)
+      (λ r. FactOfItems.waiting-offered r None packets ∙ sym (ap (λ (c : ChannelModel S). map bytes_of c.outgoing) o.channel_is))
+      (subst (λ (l : List NetEvent). Lists (log old.net) (λ k. k ++ l) (log new.net)) (sym (FactOfItems.events-offered S packets)) o.lists)
+      (ap (λ (c : ChannelModel S). c.happened) o.channel_is) (ap (λ (c : ChannelModel S). c.address) o.channel_is) ready
 
   -- ---- a turn
 
@@ -262,30 +255,25 @@ module _ {N S : Type 0} (log : N → Option Log) (meaning : Meaning S) (group : 
 
   module _ (failed : N → ℕ) where
     -- what is handed in is taken by the channel
-    handed-on : (handed : Handed) (old mid : Driven N S) (answer : Option Error) → Comes log failed handed old.net mid.net → CallsBy meaning handed old.channel answer mid.channel
-        → LeftBy answer old.channel mid.channel → Ready old → On old (falls old.channel.stage answer) mid
-    handed-on (Datagram bytes) old mid answer comes c left ready =
-        let p = lent-calls-are meaning group input.Datagram bytes old.channel mid.channel answer ready c left in
-        given-on old mid (falls old.channel.stage answer) bytes
-        (call-does meaning group (Some bytes) old.channel answer mid.channel left (input.Datagram p.0) (ap Some (sym p.1)) p.2.0 p.2.2 p.2.3 p.2.1) comes.0
-    handed-on (Suspect q) old mid answer comes c left ready = call-on (input.Suspect q) old mid answer refl (same-net old mid comes) c left ready
-    handed-on Tick old mid answer comes c left ready = call-on input.Tick old mid answer refl (same-net old mid comes) c left ready
-    handed-on (Hint q) old mid answer comes c left ready = call-on (input.MergeHint q) old mid answer refl (same-net old mid comes) c left ready
+    handed-on : (handed : Handed) (old new : Driven N S) (answer : Option Error) → Comes log failed handed old.net new.net → CallsBy meaning handed old.channel answer new.channel
+        → LeftBy answer old.channel new.channel → Ready old → On old (falls old.channel.stage answer) new
+    handed-on (Datagram bytes) old new answer comes c left ready =
+        let p = lent-calls-are meaning group input.Datagram bytes old.channel new.channel answer ready c left in
+        given-on old new (falls old.channel.stage answer) bytes
+        (call-does meaning group (Some bytes) old.channel answer new.channel left (input.Datagram p.0) (ap Some (sym p.1)) p.2.0 p.2.2 p.2.3 p.2.1) comes.0
+    handed-on (Suspect q) old new answer comes c left ready = call-on (input.Suspect q) old new answer refl (same-net old new comes) c left ready
+    handed-on Tick old new answer comes c left ready = call-on input.Tick old new answer refl (same-net old new comes) c left ready
+    handed-on (Hint q) old new answer comes c left ready = call-on (input.MergeHint q) old new answer refl (same-net old new comes) c left ready
 
-    -- a turn: it is taken, and what waits is offered
     takes-on : (handed : Handed) (old : Driven N S) (answer : Option Error) (new : Driven N S) → Takes log failed meaning handed old answer new → Ready old
         → On old (falls old.channel.stage answer) new
-    takes-on handed old answer new t ready =
-        let mid : Driven N S = record { net = t.net; channel = t.turn.called; faults = old.faults; notes = old.notes } in
-        let x = handed-on handed old mid answer t.comes t.turn.calls t.turn.left ready in
-        subst (λ (f : Bool). On old f new) (or-false (falls old.channel.stage answer))
-        (then-adds old mid new [] [] (falls old.channel.stage answer) false x (offers-goes failed mid new t.turn.offers x.ready).adds)
+    takes-on handed old answer new t ready = handed-on handed old new answer t.comes t.turn.calls t.turn.left ready
 
     takes-goes : (handed : Handed) (old : Driven N S) (answer : Option Error) (new : Driven N S) → Takes log failed meaning handed old answer new → goes_on answer ≡ true → Ready old
         → Goes old new
     takes-goes handed old answer new t goes ready = record {
       adds = subst (λ (f : Bool). On old f new) (falls-not old.channel.stage answer (ends-not answer goes)) (takes-on handed old answer new t ready);
-      same = ap (λ (c : ChannelModel S). is_over c.stage) t.turn.offers.channel_is ∙ goes-on meaning handed old.channel answer t.turn.called t.turn.calls t.turn.left goes;
+      same = goes-on meaning handed old.channel answer new.channel t.turn.calls t.turn.left goes;
     }
 
     takes-all-goes : {X : Type 0} (as_handed : X → Handed) (may : X → Type 0) (old : Driven N S) (xs : List X) (new : Driven N S)
@@ -314,7 +302,7 @@ module _ {N S : Type 0} (log : N → Option Log) (meaning : Meaning S) (group : 
     hears-goes : (old : Driven N S) (count : ℕ) (new : Driven N S) → Hears log failed meaning old (Ok count) new → Ready old → Goes old new
     hears-goes old count new h ready = until-goes old h.heard new _ _ (takes-all-goes Datagram _ old h.datagrams h.heard h.takes ready) h.until
 
-    hears-on : (old : Driven N S) (answer : Result ℕ Error) (new : Driven N S) → Hears log failed meaning old answer new → Ready old → On old (falls old.channel.stage (result_err answer)) new
+    pub hears-on : (old : Driven N S) (answer : Result ℕ Error) (new : Driven N S) → Hears log failed meaning old answer new → Ready old → On old (falls old.channel.stage (result_err answer)) new
     hears-on old (Ok count) new h ready = goes-none old new (hears-goes old count new h ready).adds
     hears-on old (Err e) new h ready = cuts-on Datagram _ old e new h ready
 
@@ -364,29 +352,16 @@ module _ {N S : Type 0} (log : N → Option Log) (meaning : Meaning S) (group : 
 
     -- ---- calls
 
-    begins-goes : (old new : Driven N S) (answer : Result ℕ Error) (l : Listens log failed meaning old answer new) → Ready old → Goes old l.begun
-    begins-goes old new answer l ready = offers-goes failed old l.begun l.offers ready
-
-    pub listen-on : (old new : Driven N S) (answer : Result ℕ Error) → Listens log failed meaning old answer new → Ready old → On old (falls old.channel.stage (result_err answer)) new
-    listen-on old new answer l ready =
-        let a = begins-goes old new answer l ready in
-        then-on old l.begun new (result_err answer) a (hears-on l.begun answer new l.hears a.adds.ready)
-
-    listen-goes : (old new : Driven N S) (count : ℕ) → Listens log failed meaning old (Ok count) new → Ready old → Goes old new
-    listen-goes old new count l ready =
-        let a = begins-goes old new (Ok count) l ready in
-        then-goes old l.begun new a (hears-goes l.begun count new l.hears a.adds.ready)
-
-    round-by : (old mid new : Driven N S) (heard : Result ℕ Error) (failure : Option Error) → Listens log failed meaning old heard mid
+    round-by : (old mid new : Driven N S) (heard : Result ℕ Error) (failure : Option Error) → Hears log failed meaning old heard mid
         → ((count : ℕ) → heard ≡ Ok count → SuspectsAndTicks log failed meaning mid failure new) → ((e : Error) → heard ≡ Err e → (failure ≡ Some e) × (new ≡ mid)) → Ready old
         → On old (falls old.channel.stage failure) new
-    round-by old mid new (Ok count) failure l both stops ready =
-        let a = listen-goes old mid count l ready in
+    round-by old mid new (Ok count) failure h both stops ready =
+        let a = hears-goes old count mid h ready in
         then-on old mid new failure a (both-on mid new failure (both count refl) a.adds.ready)
-    round-by old mid new (Err e) failure l both stops ready = stops-on old mid new e failure (listen-on old mid (Err e) l ready) (stops e refl)
+    round-by old mid new (Err e) failure h both stops ready = stops-on old mid new e failure (hears-on old (Err e) mid h ready) (stops e refl)
 
     pub round-on : (old new : Driven N S) (failure : Option Error) → Rounds log failed meaning old failure new → Ready old → On old (falls old.channel.stage failure) new
-    round-on old new failure r ready = round-by old r.mid new r.heard failure r.listens r.then_suspects r.stops ready
+    round-on old new failure r ready = round-by old r.mid new r.heard failure r.hears r.then_suspects r.stops ready
 
     turns-goes : (old : Driven N S) → Ready old → Goes old (turned old)
     turns-goes old ready = record { adds = still old (turned old) refl (lists-self (log old.net)) ready; same = refl }

@@ -10,3 +10,4 @@ pub mod FactOfPlayed
 pub mod FactOfHands
 pub mod FactOfStarts
 pub mod FactOfOwn
+pub mod FactOfSaid

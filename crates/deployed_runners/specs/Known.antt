@@ -8,13 +8,18 @@ use Rattle.channel.specs.declared.stage.Stage.{Stage}
 use Rattle.channel.specs.Channels.{receiver_in}
 use Rattle.deployment.specs.Deployments.{trace_of}
 use Rattle.deployed_channels.specs.Known.{ChannelKnows}
-use Rattle.deployed_runners.specs.Items.{steps_in}
+use Rattle.deployed_runners.specs.Items.{Item, steps_in}
 use Rattle.deployed_runners.specs.Runs.{StandsWith}
 use Rattle.deployed_runners.specs.Merged.{Done, own_items, items_of, AreMerged}
 
 -- after any call or round of a runner its channel knows itself: it shows its receiver in the state that the trace gives, and what it knows to be stable each member of its view has delivered
 abbrev pub RunnersKnow : {S : Type 0} → Meaning S → Type 0
 RunnersKnow {S} meaning = (group : List ℕ) (all : List (Done S)) → AreMerged meaning group all → (p : Address) (stage : Stage S) → StandsWith meaning group p (own_items p all) stage
+    → ChannelKnows meaning (trace_of (steps_in (items_of all))) p stage
+
+-- wherever a process stands in one order with others, a channel that it stands with knows itself
+abbrev pub KnowsAmong : {S : Type 0} → Meaning S → List ℕ → Address → List (Item S) → Stage S → Type 0
+KnowsAmong {S} meaning group p own stage = (all : List (Done S)) → AreMerged meaning group all → own_items p all ≡ own
     → ChannelKnows meaning (trace_of (steps_in (items_of all))) p stage
 
 -- copies agree at every place

@@ -1,8 +1,9 @@
 -- What a runner does, call by call, and the items that this adds.
-use Rattle.std.specs.Prelude.{◌≡◌, ℕ, Bool, true, false, ◌||◌, List, [], ◌∷◌, ◌++◌, map, flat_map, Option, None, Some, Result}
+use Rattle.std.specs.Prelude.{◌≡◌, ⊤, ℕ, Bool, true, false, ◌||◌, List, [], ◌∷◌, ◌++◌, map, flat_map, Option, None, Some, Result}
 use Rattle.std.specs.Result.{result_err}
 use Rattle.std.specs.List.{AllByRecursion}
-use Rattle.address.specs.Ids.{Address, IsAddress}
+use Rattle.address.specs.Ids.{Address, ViewId, IsAddress}
+use Rattle.view.specs.Members.{View}
 use Rattle.state_transfer.specs.Meanings.{Meaning}
 use Rattle.trace_props.specs.declared.event.Event.{Event}
 use Rattle.member.specs.declared.error.Error.{Error}
@@ -11,15 +12,17 @@ use Rattle.member.specs.declared.input.Input.TheVariants as input
 use Rattle.member.specs.Members.{MemberModel}
 use Rattle.channel.specs.declared.stage.Stage.{Stage}
 use Rattle.channel.specs.declared.stage.Stage.TheVariants.{Apart, Connected, Ended}
-use Rattle.channel.specs.Channels.{ChannelModel}
+use Rattle.channel.specs.Channels.{ChannelModel, view_in}
 use Rattle.channel.specs.Calls.{Calls, CallsLent, Connects, Reconnects}
 use Rattle.channel.specs.Queues.{TakesFirst}
 use Rattle.udp_net.specs.Logs.{Log, Lists}
 use Rattle.udp_member.specs.Turns.{Driven}
-use Rattle.udp_member.specs.Rounds.{Listens, Rounds}
+use Rattle.udp_member.specs.Offers.{Offers}
+use Rattle.udp_member.specs.Rounds.{Hears, Rounds}
 use Rattle.udp_member.specs.Seeking.{Seeks}
 use Rattle.deployment.specs.Deployments.{Step, Start, Call, Crash, IsNew, bytes_of, happens_by}
 use Rattle.deployment.specs.Processes.{all_told}
+use Rattle.deployment.specs.Said.{Says}
 use Rattle.deployed_channels.specs.Plays.{IsReady, LeftBy, falls, crash_of}
 use Rattle.deployed_runners.specs.Items.{Item, OfMember, Standing, not_begun, stands_after, datagram_in, Follow, IsProcess, net_events, steps_in}
 
@@ -35,11 +38,13 @@ abbrev pub with_channel : {N S : Type 0} → Driven N S → ChannelModel S → D
 with_channel r channel = record { net = r.net; channel = channel; faults = r.faults; notes = r.notes }
 
 -- one call of a runner, by its contract, or of the channel or the net that it lends; what is taken by it of what the channel tells; and the error that it is answered, if it is
--- one. A connect is under the name of the group; a datagram comes from the net alone, and packets go to it alone; and of the net only what it lists nothing of is called, as a wait.
+-- one. A connect is under the name of the group; a datagram comes from the net alone, and packets go to it alone, by an offer; and of the net only what it lists nothing of is
+-- called, as a wait.
 pub data Makes {N S : Type 0} (log : N → Option Log) (failed : N → ℕ) (meaning : Meaning S) (group : List ℕ) (old : Driven N S) : List Event → Option Error → Driven N S → Type 0 where
-  Listen : (answer : Result ℕ Error) (new : Driven N S) → Listens log failed meaning old answer new → Makes log failed meaning group old [] (result_err answer) new
+  Listen : (answer : Result ℕ Error) (new : Driven N S) → Hears log failed meaning old answer new → Makes log failed meaning group old [] (result_err answer) new
   Round : (failure : Option Error) (new : Driven N S) → Rounds log failed meaning old failure new → Makes log failed meaning group old [] failure new
   Seek : (failure : Option Error) (new : Driven N S) → Seeks log failed meaning old failure new → Makes log failed meaning group old [] failure new
+  Offer : (new : Driven N S) → Offers log failed old.net old.channel new.net new.channel → Makes log failed meaning group old [] None new
   Wait : (new : Driven N S) → Lists (log old.net) (λ l. l) (log new.net) → new.channel ≡ old.channel → Makes log failed meaning group old [] None new
   Create : (failure : Option Error) (channel : ChannelModel S) → Connects meaning input.Create group old.channel failure channel → LeftBy failure old.channel channel
       → Makes log failed meaning group old [] failure (with_channel old channel)
@@ -58,6 +63,48 @@ pub data Drives {N S : Type 0} (log : N → Option Log) (failed : N → ℕ) (me
   Begun : Drives log failed meaning group first [] false first
   Further : (taken more : List Event) (fell : Bool) (failure : Option Error) (mid new : Driven N S) → Drives log failed meaning group first taken fell mid
       → Makes log failed meaning group mid more failure new → Drives log failed meaning group first (taken ++ more) (fell || falls mid.channel.stage failure) new
+
+-- whether a call offers what waits
+abbrev pub is_offer : {N S : Type 0} {log : N → Option Log} {failed : N → ℕ} {meaning : Meaning S} {group : List ℕ} {old : Driven N S} {taken : List Event} {failure : Option Error}
+    {new : Driven N S} → Makes log failed meaning group old taken failure new → Bool
+is_offer (Listen answer new hears) = false
+is_offer (Round failure new rounds) = false
+is_offer (Seek failure new seeks) = false
+is_offer (Offer new offers) = true
+is_offer (Wait new lists same) = false
+is_offer (Create failure channel connects left) = false
+is_offer (Join contact failure channel connects left) = false
+is_offer (Send payload failure channel calls left) = false
+is_offer (Hand input failure channel no_datagram calls left) = false
+is_offer (Take event channel first others) = false
+
+-- the payload that a call sends, if it sends one, may be said in the view in which the channel's member is
+abbrev pub SaysOnly : {N S : Type 0} {log : N → Option Log} {failed : N → ℕ} {meaning : Meaning S} {group : List ℕ} {old : Driven N S} {taken : List Event} {failure : Option Error}
+    {new : Driven N S} → (ViewId → List ℕ → Type 0) → Makes log failed meaning group old taken failure new → Type 0
+SaysOnly May (Listen answer new hears) = ⊤
+SaysOnly May (Round failure new rounds) = ⊤
+SaysOnly May (Seek failure new seeks) = ⊤
+SaysOnly May (Offer new offers) = ⊤
+SaysOnly May (Wait new lists same) = ⊤
+SaysOnly May (Create failure channel connects left) = ⊤
+SaysOnly May (Join contact failure channel connects left) = ⊤
+SaysOnly {old} May (Send payload failure channel calls left) = (v : View) → view_in old.channel.stage ≡ Some v → May v.id payload
+SaysOnly {old} May (Hand input failure channel no_datagram calls left) = (v : View) → view_in old.channel.stage ≡ Some v → Says May input v.id
+SaysOnly May (Take event channel first others) = ⊤
+
+-- one call that is no offer: what the channel puts out by it waits in it; and what it sends, if it sends a payload, may be said
+pub record MakesNoOffer {N S : Type 0} (log : N → Option Log) (failed : N → ℕ) (May : ViewId → List ℕ → Type 0) (meaning : Meaning S) (group : List ℕ) (old : Driven N S)
+    (taken : List Event) (failure : Option Error) (new : Driven N S) : Type 0 where
+  pub call : Makes log failed meaning group old taken failure new
+  pub no_offer : is_offer call ≡ false
+  pub says : SaysOnly May call
+
+-- any number of such calls
+pub data DrivesWithoutOffer {N S : Type 0} (log : N → Option Log) (failed : N → ℕ) (May : ViewId → List ℕ → Type 0) (meaning : Meaning S) (group : List ℕ) (first : Driven N S) : List Event → Bool → Driven N S
+    → Type 0 where
+  Still : DrivesWithoutOffer log failed May meaning group first [] false first
+  Called : (taken more : List Event) (fell : Bool) (failure : Option Error) (mid new : Driven N S) → DrivesWithoutOffer log failed May meaning group first taken fell mid
+      → MakesNoOffer log failed May meaning group mid more failure new → DrivesWithoutOffer log failed May meaning group first (taken ++ more) (fell || falls mid.channel.stage failure) new
 
 -- ---- what they add
 

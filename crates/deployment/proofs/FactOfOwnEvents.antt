@@ -58,11 +58,11 @@ module _ {S : Type 0} (meaning : Meaning S) where
   own-act c (Enters i given) = own-entering c _ i.view i.together given
   own-act c Leaves = ((refl, refl), tt)
 
-  abbrev me_of : Core S → Address
+  abbrev pub me_of : Core S → Address
   me_of c = c.me
 
   -- an act leaves a member its address
-  me-stays : (c d : Core S) (a : Act) → after meaning c a ≡ Some d → d.me ≡ c.me
+  pub me-stays : (c d : Core S) (a : Act) → after meaning c a ≡ Some d → d.me ≡ c.me
   me-stays c d Creates e = sym (ap me_of (same_Some _ d e))
   me-stays c d Joins e = sym (ap me_of (same_Some _ d e))
   me-stays c d (Puts q body) e = sym (ap me_of (same_Some _ d e))

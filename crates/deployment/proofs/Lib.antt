@@ -8,3 +8,6 @@ pub mod NewMembers
 pub mod FactOfReadable
 pub mod FactOfKnown
 pub mod FactOfOwnEvents
+pub mod FactOfComing
+pub mod FactOfCarried
+pub mod FactOfSaid

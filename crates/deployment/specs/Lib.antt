@@ -1,4 +1,6 @@
 pub mod Deployments
 pub mod Processes
 pub mod Known
+pub mod Carried
+pub mod Said
 pub mod Law

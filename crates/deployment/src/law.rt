@@ -1,4 +1,5 @@
 ghost use Rattle.agreement.specs.Known.{StableStays};
+ghost use Rattle.deployment.specs.Carried.{CoordinatorsKeepTheirs, DeliverShort};
 ghost use Rattle.deployment.specs.Known.{CopiesAgree, MembersKnow, NeverClosed, ProcessesAgree};
 ghost use Rattle.deployment.specs.Law.{AreSynchronous, MergedAreSynchronous, TellAll};
 
@@ -11,7 +12,7 @@ use state_transfer::Receiver;
 ///
 /// What a member that runs knows is what the trace says: the state of its receiver, its view, how much of it it delivered; and each member of its view has delivered what it knows
 /// to be stable, for ever. So two processes in one view that have delivered as much of it have receivers in the same state. And no member that runs is closed by what it is handed:
-/// each state that it is given can be read. For every receiver that keeps the laws. It does nothing.
+/// each state that it is given can be read. What is delivered is short, and an address sent it; and the coordinator of a view enters it with its own state. For every receiver that keeps the laws. It does nothing.
 pub fn deployments_are_synchronous<R: Receiver>()
     ensures histories { AreSynchronous R.meaning }
     ensures processes { MergedAreSynchronous R.meaning }
@@ -21,6 +22,8 @@ pub fn deployments_are_synchronous<R: Receiver>()
     ensures level { ProcessesAgree R.meaning }
     ensures stable { StableStays }
     ensures open { NeverClosed R.meaning }
+    ensures short { DeliverShort R.meaning }
+    ensures own { CoordinatorsKeepTheirs R.meaning }
 {
     replicas_agree::<R>();
 }

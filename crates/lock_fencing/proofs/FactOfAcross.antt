@@ -25,16 +25,17 @@ use Rattle.trace_props.proofs.FactOfRisingViews.{by_pushes, IsUpTo, IsUpTo-below
 use Rattle.trace_props.proofs.RuleOfEntry.{state_of-push, entry_state-push}
 use Rattle.replicas.specs.Replicas as copies
 use Rattle.replicas.proofs.FactOfStates.{Grounds, state-made}
-use Rattle.lock_table.specs.declared.token.Token.{Token}
+use Rattle.tokens.specs.declared.token.Token.{Token}
 use Rattle.lock_table.specs.declared.command.Command.{Command}
-use Rattle.lock_table.specs.Locks.{Table, IsViewId, least_token, view_of, carried_out}
+use Rattle.tokens.specs.Tokens.{IsViewId, least_token}
+use Rattle.lock_table.specs.Locks.{Table, view_of, carried_out}
 use Rattle.lock_table.specs.Commands.{command_of, after_command, table_apply}
 use Rattle.lock_table.specs.CommandLaws.{command_is_spelled, view-fits}
 use Rattle.lock_table.specs.Meanings.{table_meaning}
 use Rattle.keyed_entries.specs.Entries.{Rises}
 use Rattle.lock_table.proofs.FactOfTokens.{token-in}
 use Rattle.lock_table.proofs.FactOfOneMessage.{IsNew}
-use Rattle.lock_fencing.proofs.FactOfComing.{comes-at, was-sent}
+use Rattle.deployment.proofs.FactOfComing.{comes-at, was-sent}
 use Rattle.lock_fencing.specs.Fencing.{Grant, view_at, token_at, IsOfTables, SpellsViews, TokensOfViews}
 use Rattle.lock_fencing.proofs.FactOfTables.{all-from, past, states-are}
 use Rattle.lock_fencing.proofs.FactOfTokenViews.{least-up, carried-stays, carried-new}
@@ -136,7 +137,7 @@ module _ (t : List Event) (is : IsOfTables t) (spells : SpellsViews t) where
 
   message-spells : (k : ℕ) (d : Delivery) → slice_get t k ≡ Some (Delivered d) → Spells d.view d.message.payload
   message-spells k d at =
-      let from = was-sent table_meaning t is.synchronous k d at in
+      let from = (was-sent table_meaning t is.synchronous k d at).sent in
       sent-spells d.message.sender d.view (numbered d.message) from.place from.it from.stands from.gives
 
   event-spells : (p : Address) (v : ViewId) (m : Carried) (k : ℕ) (h : Event) → slice_get t k ≡ Some h → delivered_message p v h ≡ Some m → Spells v m.payload

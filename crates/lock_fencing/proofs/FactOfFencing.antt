@@ -23,10 +23,11 @@ use Rattle.replicas.specs.Replicas as copies
 use Rattle.replicas.proofs.FactOfStates.{state-made, entry-later}
 use Rattle.keyed_entries.specs.Entries.{key_cmp}
 use Rattle.keyed_entries.specs.EntryLaws.{flipped}
-use Rattle.lock_table.specs.declared.token.Token.{Token}
-use Rattle.lock_table.specs.Locks.{Lock, Table, IsTable, IsBelow, lock_of, token_cmp}
+use Rattle.tokens.specs.declared.token.Token.{Token}
+use Rattle.tokens.specs.Tokens.{IsBelow, token_cmp}
+use Rattle.lock_table.specs.Locks.{Lock, Table, IsTable, lock_of}
 use Rattle.lock_table.specs.Meanings.{table_meaning}
-use Rattle.lock_table.specs.TokenLaws.{not-below-itself}
+use Rattle.tokens.specs.TokenLaws.{not-below-itself}
 use Rattle.lock_table.specs.Turns.{Message, after, after_all, Grants}
 use Rattle.lock_table.proofs.FactOfTurns.{same-name}
 use Rattle.lock_table.proofs.FactOfTokens.{later-above}

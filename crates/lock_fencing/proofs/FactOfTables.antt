@@ -13,7 +13,7 @@ use Rattle.trace_props.specs.Observed.{delivered_message, delivered_in}
 use Rattle.trace_props.specs.State.{state_of}
 use Rattle.trace_props.proofs.FactOfPlaces.{take-next}
 use Rattle.trace_props.proofs.RuleOfEntry.{state_of-push}
-use Rattle.lock_fencing.proofs.FactOfComing.{comes-at}
+use Rattle.deployment.proofs.FactOfComing.{comes-at}
 use Rattle.lock_table.specs.Locks.{Table, IsTable}
 use Rattle.lock_table.specs.Encoding.{table_decode}
 use Rattle.lock_table.specs.Commands.{table_apply}

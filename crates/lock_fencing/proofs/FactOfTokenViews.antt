@@ -16,10 +16,11 @@ use Rattle.trace_props.proofs.FactOfRisingViews.{IsUpTo}
 use Rattle.keyed_entries.specs.declared.Entry.{Entry}
 use Rattle.keyed_entries.specs.Entries.{key_cmp, value_of, put, Rises}
 use Rattle.keyed_entries.proofs.FactOfLookUps.{found-put, found-without}
-use Rattle.lock_table.specs.declared.token.Token.{Token}
+use Rattle.tokens.specs.declared.token.Token.{Token}
 use Rattle.lock_table.specs.declared.command.Command.{Command}
 use Rattle.lock_table.specs.declared.command.Command.TheVariants.{Acquire, Release, Roll}
-use Rattle.lock_table.specs.Locks.{Lock, Table, IsViewId, lock_of, queue, table_size, within, granted, joined_by, left_to, others, members, passed_on, with_lock, next_token, least_token, before, acquired, asked, gone_from, rolled, view_of, is_used_up, obeyed, carried_out}
+use Rattle.tokens.specs.Tokens.{IsViewId, next_token, least_token}
+use Rattle.lock_table.specs.Locks.{Lock, Table, lock_of, queue, table_size, within, granted, joined_by, left_to, others, members, passed_on, with_lock, before, acquired, asked, gone_from, rolled, view_of, is_used_up, obeyed, carried_out}
 use Rattle.lock_table.proofs.FactOfTurns.{came, left_at, found-rolled, same-name, acquired-beside, gone-beside}
 use Rattle.lock_table.proofs.FactOfTokens.{token-in, some-lock, left-token}
 use Rattle.lock_table.proofs.FactOfOneMessage.{IsNew}

@@ -12,8 +12,9 @@ use Rattle.trace_props.specs.Rules.{IsBelow as IsViewBelow}
 use Rattle.trace_props.specs.State.{state_of}
 use Rattle.trace_props.specs.Synchrony.{IsVirtuallySynchronous}
 use Rattle.lock_table.specs.declared.command.Command.{Command}
-use Rattle.lock_table.specs.declared.token.Token.{Token}
-use Rattle.lock_table.specs.Locks.{Lock, IsBelow, view_of}
+use Rattle.tokens.specs.declared.token.Token.{Token}
+use Rattle.tokens.specs.Tokens.{IsBelow}
+use Rattle.lock_table.specs.Locks.{Lock, view_of}
 use Rattle.lock_table.specs.Commands.{command_of}
 use Rattle.lock_table.specs.Meanings.{table_meaning}
 use Rattle.lock_table.specs.Turns.{Message, IsMessage, Grants}

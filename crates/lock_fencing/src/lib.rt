@@ -5,4 +5,4 @@ mod guard;
 mod law;
 
 pub use guard::Guard;
-pub use law::{guards_refuse_older, tokens_fence};
+pub use law::{deployments_fence, guards_refuse_older, tokens_fence};

@@ -2,8 +2,9 @@
 use Rattle.std.proofs.Common.{◌≡◌, Bool, true, false, cond, List, [], ◌∷◌, Some, refl, sym, ap, subst, ◌∙◌}
 use Rattle.std.specs.List.{filter}
 use Rattle.address.specs.Ids.{Address, ViewId}
-use Rattle.lock_table.specs.declared.token.Token.{Token}
-use Rattle.lock_table.specs.Locks.{Lock, passed, passed_to, passed_on, left_to, next_token, IsLeft}
+use Rattle.tokens.specs.declared.token.Token.{Token}
+use Rattle.tokens.specs.Tokens.{next_token}
+use Rattle.lock_table.specs.Locks.{Lock, passed, passed_to, passed_on, left_to, IsLeft}
 
 abbrev with_waiters : Lock → List Address → Lock
 with_waiters l ps = record { holder = l.holder; token = l.token; waiters = ps }

@@ -17,7 +17,8 @@ use Rattle.keyed_entries.specs.declared.Entry.{Entry}
 use Rattle.keyed_entries.specs.Entries.{key_cmp, entry_of, value_of, put, Rises}
 use Rattle.keyed_entries.proofs.FactOfLookUps.{found-put, found-without}
 use Rattle.lock_table.specs.declared.command.Command.TheVariants.{Acquire, Roll}
-use Rattle.lock_table.specs.Locks.{Lock, Table, queue, granted, joined_by, left_to, others, members, with_lock, table_size, lock_size, lock_of, asked, gone_from, released, rolled, within, next_token, is_used_up, obeyed}
+use Rattle.tokens.specs.Tokens.{next_token}
+use Rattle.lock_table.specs.Locks.{Lock, Table, queue, granted, joined_by, left_to, others, members, with_lock, table_size, lock_size, lock_of, asked, gone_from, released, rolled, within, is_used_up, obeyed}
 use Rattle.lock_table.specs.Commands.{command_of, after_command}
 use Rattle.lock_table.specs.StepLaws.{size-put}
 use Rattle.lock_table.specs.Moves.{FreeIsGranted, HeldIsWaitedFor, ReleasedIsLeft, RolledIsLeft}

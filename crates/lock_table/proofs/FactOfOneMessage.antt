@@ -8,12 +8,13 @@ use Rattle.limits.specs.declared.TheConstants.{STATE}
 use Rattle.address.specs.Ids.{Address, ViewId, same_address}
 use Rattle.keyed_entries.specs.declared.Entry.{Entry}
 use Rattle.keyed_entries.specs.Entries.{key_cmp, value_of, Rises}
-use Rattle.lock_table.specs.declared.token.Token.{Token}
+use Rattle.tokens.specs.declared.token.Token.{Token}
 use Rattle.lock_table.specs.declared.command.Command.{Command}
 use Rattle.lock_table.specs.declared.command.Command.TheVariants.{Acquire, Release, Roll}
-use Rattle.lock_table.specs.Locks.{Lock, Table, IsTable, lock_of, table_size, left_to, passed_on, next_token, members, rolled, acquired, gone_from, view_of, is_used_up, obeyed, carried_out, is_up_to, IsBelow}
+use Rattle.tokens.specs.Tokens.{next_token, is_up_to, IsBelow}
+use Rattle.lock_table.specs.Locks.{Lock, Table, IsTable, lock_of, table_size, left_to, passed_on, members, rolled, acquired, gone_from, view_of, is_used_up, obeyed, carried_out}
 use Rattle.lock_table.specs.Commands.{command_of, after_command}
-use Rattle.lock_table.specs.TokenLaws.{up-below, next-above}
+use Rattle.tokens.specs.TokenLaws.{up-below, next-above}
 use Rattle.lock_table.specs.Turns.{Message, token_of, Grants}
 use Rattle.lock_table.proofs.FactOfTurns.{came, came-up, left_at, found-rolled, same-name, acquired-beside, gone-beside}
 use Rattle.lock_table.proofs.FactOfTokens.{token-in, some-lock, left-token}

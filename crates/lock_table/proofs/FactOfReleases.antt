@@ -10,9 +10,10 @@ use Rattle.address.specs.Ids.{Address, ViewId, same_address}
 use Rattle.view.specs.Members.{View, stands_in}
 use Rattle.keyed_entries.specs.declared.Entry.{Entry}
 use Rattle.keyed_entries.specs.Entries.{key_cmp, entry_of, value_of, put}
-use Rattle.lock_table.specs.declared.token.Token.{Token}
+use Rattle.tokens.specs.declared.token.Token.{Token}
 use Rattle.lock_table.specs.declared.command.Command.TheVariants.{Release, Roll}
-use Rattle.lock_table.specs.Locks.{Lock, Outcome, Table, queue, left_to, passed_on, next_token, others, members, gone_from, released, with_lock, table_of, before, rolled, is_used_up, obeyed, carried_out}
+use Rattle.tokens.specs.Tokens.{next_token}
+use Rattle.lock_table.specs.Locks.{Lock, Outcome, Table, queue, left_to, passed_on, others, members, gone_from, released, with_lock, table_of, before, rolled, is_used_up, obeyed, carried_out}
 use Rattle.lock_table.specs.Commands.{command_of, after_command}
 use Rattle.lock_table.specs.Turns.{Message, after, queue_of}
 

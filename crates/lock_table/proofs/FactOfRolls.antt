@@ -6,7 +6,7 @@ use Rattle.std.proofs.lemmas.List.Elements.{filter-append}
 use Rattle.address.specs.Ids.{Address, ViewId}
 use Rattle.keyed_entries.specs.declared.Entry.{Entry}
 use Rattle.keyed_entries.specs.Entries.{entry_of}
-use Rattle.lock_table.specs.declared.token.Token.{Token}
+use Rattle.tokens.specs.declared.token.Token.{Token}
 use Rattle.lock_table.specs.Locks.{Lock, Table, table_of, left_to, rolled, before, holder_in, IsLeft}
 use Rattle.lock_table.specs.StepLaws.{MayRoll, first-sound, roll-goes-on}
 

@@ -9,8 +9,9 @@ use Rattle.address.specs.Ids.{Address, ViewId, same_address}
 use Rattle.view.specs.Members.{stands_in}
 use Rattle.keyed_entries.specs.declared.Entry.{Entry}
 use Rattle.keyed_entries.specs.Entries.{entry_of, value_of, put, IsHeldAt, IsFreeAt}
-use Rattle.lock_table.specs.declared.token.Token.{Token}
-use Rattle.lock_table.specs.Locks.{Lock, Table, queue, granted, joined_by, left_to, others, with_lock, table_of, lock_size, table_size, acquired, asked, gone_from, released, within, next_token, IsLeft}
+use Rattle.tokens.specs.declared.token.Token.{Token}
+use Rattle.tokens.specs.Tokens.{next_token}
+use Rattle.lock_table.specs.Locks.{Lock, Table, queue, granted, joined_by, left_to, others, with_lock, table_of, lock_size, table_size, acquired, asked, gone_from, released, within, IsLeft}
 use Rattle.lock_table.specs.StepLaws.{size-put}
 
 remove-set : {X : Type 0} (xs : List X) (i : ℕ) (y : X) → remove (set xs i y) i ≡ remove xs i

@@ -16,12 +16,13 @@ use Rattle.keyed_entries.specs.declared.Entry.{Entry}
 use Rattle.keyed_entries.specs.Entries.{key_cmp, value_of, put, Rises}
 use Rattle.keyed_entries.specs.EntryLaws.{IsBelowAll, below-all, equal-all}
 use Rattle.keyed_entries.proofs.FactOfLookUps.{found-put, found-without}
-use Rattle.lock_table.specs.declared.token.Token.{Token}
+use Rattle.tokens.specs.declared.token.Token.{Token}
 use Rattle.lock_table.specs.declared.command.Command.{Command}
 use Rattle.lock_table.specs.declared.command.Command.TheVariants.{Acquire, Release, Roll}
-use Rattle.lock_table.specs.Locks.{Lock, Outcome, Table, queue, granted, joined_by, passed_on, left_to, others, members, with_lock, table_of, table_size, lock_of, acquired, asked, gone_from, released, before, rolled, within, next_token, view_of, is_used_up, obeyed, carried_out, is_up_to}
+use Rattle.tokens.specs.Tokens.{next_token, is_up_to}
+use Rattle.lock_table.specs.Locks.{Lock, Outcome, Table, queue, granted, joined_by, passed_on, left_to, others, members, with_lock, table_of, table_size, lock_of, acquired, asked, gone_from, released, before, rolled, within, view_of, is_used_up, obeyed, carried_out}
 use Rattle.lock_table.specs.Commands.{after_command}
-use Rattle.lock_table.specs.TokenLaws.{up-refl, up-trans}
+use Rattle.tokens.specs.TokenLaws.{up-refl, up-trans}
 use Rattle.lock_table.specs.StepLaws.{next-up}
 use Rattle.lock_table.specs.Turns.{leaves_by, comes_by}
 

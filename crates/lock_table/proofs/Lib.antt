@@ -9,3 +9,4 @@ pub mod FactOfTokens
 pub mod FactOfReleases
 pub mod FactOfOneMessage
 pub mod FactOfMoves
+pub mod FactOfStamps

@@ -18,9 +18,10 @@ use Rattle.keyed_entries.specs.Keys.{key_bytes, key_at}
 use Rattle.keyed_entries.specs.KeyLaws.{key_takes, key_again}
 use Rattle.lock_table.specs.declared.command.Command.{Command}
 use Rattle.lock_table.specs.declared.command.Command.TheVariants.{Acquire, Release, Roll}
-use Rattle.lock_table.specs.Locks.{Table, IsTable, members, rolled, next_token, view_of, is_used_up, obeyed, carried_out, IsViewId}
-use Rattle.lock_table.specs.Encoding.{view_id_bytes, view_id_at}
-use Rattle.lock_table.specs.EncodingLaws.{view_id_part}
+use Rattle.tokens.specs.Tokens.{next_token, IsViewId}
+use Rattle.lock_table.specs.Locks.{Table, IsTable, members, rolled, view_of, is_used_up, obeyed, carried_out}
+use Rattle.tokens.specs.Spelling.{view_id_bytes, view_id_at}
+use Rattle.tokens.specs.SpellingLaws.{view_id_part}
 use Rattle.lock_table.specs.StepLaws.{acquired-is-table, released-is-table, rolled-is-table}
 use Rattle.lock_table.specs.Commands.{IsView, view_bytes, view_at, command_bytes, acquire_at, release_at, roll_at, command_at, command_of, IsCommand, after_command, table_apply}
 

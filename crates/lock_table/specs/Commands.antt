@@ -3,7 +3,7 @@ use Rattle.std.specs.Prelude.{◌≡◌, ℕ, List, ◌++◌, length, Option, So
 use Rattle.std.specs.Option.{is_none}
 use Rattle.std.specs.List.{flat_map, AllByRecursion}
 use Rattle.byteorder.specs.Endian.{big_bytes}
-use Rattle.address.specs.Ids.{Address, IsAddress}
+use Rattle.address.specs.Ids.{Address, ViewId, same_view_id, IsAddress}
 use Rattle.view.specs.Members.{View}
 use Rattle.view.specs.View.{view_refusal}
 use Rattle.limits.specs.declared.TheConstants.{MEMBERS}
@@ -12,8 +12,9 @@ use Rattle.reading.specs.Reading.{Read, ◌>>=◌, number_at, address_at, list_a
 use Rattle.keyed_entries.specs.Keys.{IsKey, key_bytes, key_at}
 use Rattle.lock_table.specs.declared.command.Command.{Command}
 use Rattle.lock_table.specs.declared.command.Command.TheVariants.{Acquire, Release, Roll}
-use Rattle.lock_table.specs.Locks.{Table, IsViewId, carried_out}
-use Rattle.lock_table.specs.Encoding.{view_id_bytes, view_id_at}
+use Rattle.tokens.specs.Tokens.{IsViewId}
+use Rattle.lock_table.specs.Locks.{Table, carried_out}
+use Rattle.tokens.specs.Spelling.{view_id_bytes, view_id_at}
 
 -- ---- a view: its id, the number of its members in a byte, and they
 
@@ -72,6 +73,12 @@ abbrev pub IsCommand : Command → Type 0
 IsCommand (Acquire view name) = IsViewId view × IsKey name
 IsCommand (Release view name) = IsViewId view × IsKey name
 IsCommand (Roll view) = IsView view
+
+-- a command as it is sent in the view of an id: a roll is sent in the view that it names alone
+abbrev pub in_view : ViewId → Command → Option Command
+in_view v (Acquire view name) = Some (Acquire v name)
+in_view v (Release view name) = Some (Release v name)
+in_view v (Roll view) = if same_view_id view.id v then Some (Roll view) else None
 
 -- a payload that is no command changes nothing
 abbrev pub after_command : Address → Table → Option Command → Table

@@ -2,37 +2,17 @@
 use Rattle.std.specs.Prelude.{ℕ, List, ◌++◌, length, Option, Some, None, ◌==◌, ◌&&◌, Bool, nat_le, if◌then◌else◌}
 use Rattle.std.specs.List.{flat_map, list_all}
 use Rattle.byteorder.specs.Endian.{big_bytes}
-use Rattle.address.specs.Ids.{Address, ViewId}
-use Rattle.limits.specs.declared.TheConstants.{STATE, GREATEST_NUMBER}
+use Rattle.address.specs.Ids.{Address}
+use Rattle.limits.specs.declared.TheConstants.{STATE}
 use Rattle.big_endian.specs.Spelled.{address_bytes}
 use Rattle.reading.specs.Reading.{Read, ◌>>=◌, number_at, address_at, list_at}
 use Rattle.keyed_entries.specs.declared.Entry.{Entry}
 use Rattle.keyed_entries.specs.Keys.{key_bytes, key_at}
 use Rattle.keyed_entries.specs.Entries.{entry_of, rises}
-use Rattle.lock_table.specs.declared.token.Token.{Token}
-use Rattle.lock_table.specs.Locks.{Lock, Table, is_up_to}
-
--- ---- a view id: its counter in eight bytes, and its creator
-
-abbrev pub view_id_bytes : ViewId → List ℕ
-view_id_bytes v = big_bytes 8 v.counter ++ address_bytes v.creator
-
-unfoldable pub view_id_at : List ℕ → Read ViewId
-view_id_at bytes = do
-  counter ← number_at 8 1 GREATEST_NUMBER bytes
-  creator ← address_at counter.1
-  Some (record { counter = counter.0; creator = creator.0 }, creator.1)
-
--- ---- a token: its view, and its count in eight bytes
-
-abbrev pub token_bytes : Token → List ℕ
-token_bytes t = view_id_bytes t.view ++ big_bytes 8 t.count
-
-unfoldable pub token_at : List ℕ → Read Token
-token_at bytes = do
-  view ← view_id_at bytes
-  count ← number_at 8 0 GREATEST_NUMBER view.1
-  Some (record { view = view.0; count = count.0 }, count.1)
+use Rattle.tokens.specs.declared.token.Token.{Token}
+use Rattle.tokens.specs.Tokens.{is_up_to}
+use Rattle.tokens.specs.Spelling.{token_bytes, token_at}
+use Rattle.lock_table.specs.Locks.{Lock, Table}
 
 -- ---- those who wait: their number in four bytes, and they
 

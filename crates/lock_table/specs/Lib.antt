@@ -4,10 +4,10 @@ pub mod Commands
 pub mod Meanings
 pub mod Turns
 pub mod Moves
-pub mod TokenLaws
 pub mod EncodingLaws
 pub mod TableLaws
 pub mod StepLaws
 pub mod CommandLaws
 pub mod Words
 pub mod TableText
+pub mod Stamps

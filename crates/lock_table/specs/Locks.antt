@@ -3,38 +3,16 @@ use Rattle.std.specs.Prelude.{◌≡◌, ℕ, ◌+◌, ◌*◌, ◌≤◌, Bool,
 use Rattle.std.specs.List.{AllByRecursion, filter, sum_by}
 use Rattle.std.specs.Option.{option_map}
 use Rattle.std.specs.Borrow.{Bor}
-use Rattle.std.specs.Ordering.{nat_cmp, ordering_then, is_lt, is_le}
-use Rattle.std.specs.declared.cmp.Ordering.{Ordering}
-use Rattle.address.specs.Ids.{Address, ViewId, view_id_cmp, same_address, IsAddress}
+use Rattle.address.specs.Ids.{Address, ViewId, same_address, IsAddress}
 use Rattle.view.specs.Members.{View, stands_in}
 use Rattle.limits.specs.declared.TheConstants.{STATE, GREATEST_NUMBER}
 use Rattle.keyed_entries.specs.declared.Entry.{Entry}
 use Rattle.keyed_entries.specs.Entries.{entry_of, value_of, put, without, Rises}
 use Rattle.keyed_entries.specs.Keys.{IsKey}
-use Rattle.lock_table.specs.declared.token.Token.{Token}
+use Rattle.tokens.specs.declared.token.Token.{Token}
+use Rattle.tokens.specs.Tokens.{is_up_to, next_token, IsToken}
 use Rattle.lock_table.specs.declared.command.Command.{Command}
 use Rattle.lock_table.specs.declared.command.Command.TheVariants.{Acquire, Release, Roll}
-
--- ---- tokens
-
--- the order of tokens: by their views, then by their counts
-abbrev pub token_cmp : Token → Token → Ordering
-token_cmp a b = ordering_then (view_id_cmp a.view b.view) (nat_cmp a.count b.count)
-
-abbrev pub IsBelow : Token → Token → Type 0
-IsBelow a b = is_lt (token_cmp a b) ≡ true
-
--- whether a token is another one or below it
-abbrev pub is_up_to : Token → Token → Bool
-is_up_to a b = is_le (token_cmp a b)
-
--- the least token, which none is granted
-abbrev pub least_token : Token
-least_token = record { view = record { counter = 1; creator = record { node = 1; incarnation = 1 } }; count = 0 }
-
--- the token of the next grant, by a command of a view: the view's first where it is above that of the last token, or else the one after the last
-abbrev pub next_token : ViewId → Token → Token
-next_token view last = if is_lt (view_id_cmp last.view view) then record { view = view; count = 1 } else record { view = last.view; count = last.count + 1 }
 
 -- ---- locks
 
@@ -184,15 +162,6 @@ abbrev pub carried_out : Address → Command → Table → Table
 carried_out from c s = if is_used_up (view_of c) s then s else obeyed from c s
 
 -- ---- the tables that there are
-
-pub record IsViewId (v : ViewId) : Type 0 where
-  pub counter : 1 ≤ v.counter
-  pub counter_fits : v.counter ≤ GREATEST_NUMBER
-  pub creator : IsAddress v.creator
-
-pub record IsToken (t : Token) : Type 0 where
-  pub view : IsViewId t.view
-  pub count : t.count ≤ GREATEST_NUMBER
 
 pub record IsLock (l : Lock) : Type 0 where
   pub holder : IsAddress l.holder

@@ -5,7 +5,8 @@ use Rattle.address.specs.Ids.{ViewId, same_address}
 use Rattle.view.specs.Members.{View}
 use Rattle.limits.specs.declared.TheConstants.{STATE}
 use Rattle.lock_table.specs.declared.command.Command.TheVariants.{Acquire, Release, Roll}
-use Rattle.lock_table.specs.Locks.{Lock, Table, IsTable, granted, is_used_up, joined_by, lock_of, members, next_token, others, table_size}
+use Rattle.tokens.specs.Tokens.{next_token}
+use Rattle.lock_table.specs.Locks.{Lock, Table, IsTable, granted, is_used_up, joined_by, lock_of, members, others, table_size}
 use Rattle.lock_table.specs.Commands.{command_of}
 use Rattle.lock_table.specs.Turns.{Message, after, queue_of, Grants}
 

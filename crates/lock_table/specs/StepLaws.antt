@@ -13,9 +13,10 @@ use Rattle.keyed_entries.specs.declared.Entry.{Entry}
 use Rattle.keyed_entries.specs.Entries.{key_cmp, entry_of, value_of, put, without, Rises}
 use Rattle.keyed_entries.specs.EntryLaws.{all-put, all-without, rises-put, rises-without, IsBelowAll}
 use Rattle.keyed_entries.specs.Keys.{IsKey}
-use Rattle.lock_table.specs.declared.token.Token.{Token}
-use Rattle.lock_table.specs.Locks.{Lock, Outcome, Table, queue, granted, joined_by, passed_on, left_to, table_of, lock_size, table_size, next_token, acquired, asked, with_lock, others, gone_from, released, before, rolled, within, is_up_to, IsViewId, IsToken, IsLock, IsEntry, AreUpTo, IsTable}
-use Rattle.lock_table.specs.TokenLaws.{up-trans, up-refl, below-is-up, next-above, next-next, next-is-token}
+use Rattle.tokens.specs.declared.token.Token.{Token}
+use Rattle.tokens.specs.Tokens.{next_token, is_up_to, IsViewId, IsToken}
+use Rattle.lock_table.specs.Locks.{Lock, Outcome, Table, queue, granted, joined_by, passed_on, left_to, table_of, lock_size, table_size, acquired, asked, with_lock, others, gone_from, released, before, rolled, within, IsLock, IsEntry, AreUpTo, IsTable}
+use Rattle.tokens.specs.TokenLaws.{up-trans, up-refl, below-is-up, next-above, next-next, next-is-token}
 
 -- ---- lists
 

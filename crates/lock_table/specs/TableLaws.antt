@@ -16,10 +16,13 @@ use Rattle.keyed_entries.specs.declared.Entry.{Entry}
 use Rattle.keyed_entries.specs.Entries.{rises}
 use Rattle.keyed_entries.specs.EntryLaws.{rises-found, rises-tested}
 use Rattle.keyed_entries.specs.Keys.{key_bytes}
-use Rattle.lock_table.specs.declared.token.Token.{Token}
-use Rattle.lock_table.specs.Locks.{Lock, Table, IsToken, IsEntry, IsTable, AreUpTo, is_up_to, lock_size, table_size, table_of}
-use Rattle.lock_table.specs.Encoding.{view_id_bytes, token_bytes, token_at, waiters_bytes, lock_bytes, entry_bytes, entry_at, table_encode, table_at, table_decode, are_up_to}
-use Rattle.lock_table.specs.EncodingLaws.{token_part, entry_part, IsShortEntry}
+use Rattle.tokens.specs.declared.token.Token.{Token}
+use Rattle.tokens.specs.Tokens.{IsToken, is_up_to}
+use Rattle.lock_table.specs.Locks.{Lock, Table, IsEntry, IsTable, AreUpTo, lock_size, table_size, table_of}
+use Rattle.tokens.specs.Spelling.{token_bytes, token_at}
+use Rattle.lock_table.specs.Encoding.{waiters_bytes, lock_bytes, entry_bytes, entry_at, table_encode, table_at, table_decode, are_up_to}
+use Rattle.tokens.specs.SpellingLaws.{token_part, length-token}
+use Rattle.lock_table.specs.EncodingLaws.{entry_part, IsShortEntry}
 use Rattle.lock_table.specs.Meanings.{no_locks}
 
 -- ---- sizes
@@ -27,10 +30,6 @@ use Rattle.lock_table.specs.Meanings.{no_locks}
 pub length-addresses : (ps : List Address) → length (flat_map address_bytes ps) ≡ 6 * length ps
 length-addresses [] = refl
 length-addresses (p ∷ ps) = let rest = length-addresses ps in omega (arith, length-append (address_bytes p) (flat_map address_bytes ps), length-append (big_bytes 2 p.node) (big_bytes 4 p.incarnation), rest)
-
-length-token : (t : Token) → length (token_bytes t) ≡ 22
-length-token t =
-    omega (arith, length-append (view_id_bytes t.view) (big_bytes 8 t.count), length-append (big_bytes 8 t.view.counter) (address_bytes t.view.creator), length-append (big_bytes 2 t.view.creator.node) (big_bytes 4 t.view.creator.incarnation))
 
 pub length_entry : (e : Entry Lock) → length (entry_bytes e) ≡ lock_size e
 length_entry e =

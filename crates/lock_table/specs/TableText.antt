@@ -1,15 +1,10 @@
 -- The line of a table of locks.
 use Rattle.std.specs.Prelude.{ℕ, ◌∷◌, [], ◌++◌, List, codes, flat_map}
-use Rattle.std.specs.Fmt.{decimal}
-use Rattle.address.specs.Ids.{Address, text_of_address, text_of_view_id}
+use Rattle.address.specs.Ids.{Address, text_of_address}
 use Rattle.keyed_entries.specs.declared.Entry.{Entry}
 use Rattle.vsync_text.specs.TraceText.{hex_of, dash, field, line_with, text_of_addresses}
-use Rattle.lock_table.specs.declared.token.Token.{Token}
+use Rattle.tokens.specs.TokenText.{text_of_token}
 use Rattle.lock_table.specs.Locks.{Lock, Table}
-
--- a token: `VIEW/COUNT`
-abbrev pub text_of_token : Token → List ℕ
-text_of_token t = text_of_view_id t.view ++ 47 ∷ decimal t.count
 
 -- who holds a lock, with which token, and who waits, joined by commas: `:HOLDER:TOKEN:WAITERS`
 abbrev pub text_of_queue : Lock → List ℕ

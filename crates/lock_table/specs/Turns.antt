@@ -7,7 +7,7 @@ use Rattle.address.specs.Ids.{Address, same_address, IsAddress}
 use Rattle.limits.specs.declared.TheConstants.{PAYLOAD}
 use Rattle.view.specs.Members.{stands_in}
 use Rattle.keyed_entries.specs.Entries.{key_cmp}
-use Rattle.lock_table.specs.declared.token.Token.{Token}
+use Rattle.tokens.specs.declared.token.Token.{Token}
 use Rattle.lock_table.specs.declared.command.Command.{Command}
 use Rattle.lock_table.specs.declared.command.Command.TheVariants.{Acquire, Release, Roll}
 use Rattle.lock_table.specs.Locks.{Lock, Table, queue, lock_of}

@@ -54,12 +54,11 @@ command_said text =
 abbrev pub lock_payload : List ℕ → Result (List ℕ) Fault
 lock_payload text = made command_bytes (command_said text)
 
--- the command that a text says at a member in the view of an id: `acquire NAME` or `release NAME`, sent in that view, or `roll VIEW MEMBERS`
+-- the command that a text says at a member in the view of an id: `acquire NAME` or `release NAME`, sent in that view
 abbrev pub command_said_in : ViewId → List ℕ → Result Command Fault
 command_said_in view text =
     if bytes_eq (field_of text) (codes "acquire") then made (Acquire view) (last (key_field (behind_field text)))
     else if bytes_eq (field_of text) (codes "release") then made (Release view) (last (key_field (behind_field text)))
-    else if bytes_eq (field_of text) (codes "roll") then roll_said (behind_field text)
     else Err BadNumber
 
 abbrev pub lock_payload_within : ViewId → List ℕ → Result (List ℕ) Fault

@@ -1,9 +1,9 @@
 //! What a payload asks of the table.
 
-ghost use Rattle.std.specs.Prelude.{◌≡◌, ◌++◌, IfOk, OnOk, OnErr, Some};
+ghost use Rattle.std.specs.Prelude.{◌≡◌, ◌++◌, IfOk, IfSome, OnOk, OnErr, Some};
 ghost use Rattle.reading.specs.Reading.{IsReadOrNone};
 ghost use Rattle.lock_table.specs.Locks.{view_of};
-ghost use Rattle.lock_table.specs.Commands.{command_bytes, command_of};
+ghost use Rattle.lock_table.specs.Commands.{command_bytes, command_of, in_view};
 
 use crate::LONGEST_COMMAND;
 use crate::decoding::command_from;
@@ -59,6 +59,25 @@ impl<'a> Command<'a> {
             Command::Acquire { view, .. } => *view,
             Command::Release { view, .. } => *view,
             Command::Roll(view) => view.id(),
+        }
+    }
+
+    /// The same command, stamped anew with the view in which it is sent: so a command that was handed back is sent again. `None` for a roll of another view: that one has a
+    /// coordinator of its own, who rolls it (docs/FORMATS.md, "The commands of the table of locks").
+    pub fn in_view(self, view: ViewId) -> Option<Command<'a>>
+        ensures gives { result ≡ in_view view self.entry }
+        ensures spells { IfSome result (λ c. view_of c ≡ view) }
+    {
+        match self {
+            Command::Acquire { name, .. } => Some(Command::Acquire { view, name }),
+            Command::Release { name, .. } => Some(Command::Release { view, name }),
+            Command::Roll(roll) => {
+                if roll.id() == view {
+                    Some(Command::Roll(roll))
+                } else {
+                    None
+                }
+            }
         }
     }
 

@@ -2,38 +2,21 @@
 
 ghost use Rattle.std.specs.Prelude.{◌≡◌, IfOk};
 ghost use Rattle.reading.specs.Reading.{IsReadOrNone, list_at, address_at};
-ghost use Rattle.lock_table.specs.Encoding.{view_id_at, token_at, waiters_at, lock_at, entry_at, table_at, table_decode, are_up_to};
+ghost use Rattle.lock_table.specs.Encoding.{waiters_at, lock_at, entry_at, table_at, table_decode, are_up_to};
 ghost use Rattle.lock_table.specs.Commands.{view_at, acquire_at, release_at, roll_at, command_at};
 ghost use Rattle.lock_table.specs.Locks.{table_of};
 
 use crate::held::Held;
 use crate::{Command, Lock, Token};
-use address::{Address, ViewId};
+use address::Address;
 use keyed_entries::{Entry, is_rising, key_from};
-use limits::{GREATEST_NUMBER, MEMBERS, STATE};
+use limits::{MEMBERS, STATE};
 use reading::Reader;
 use std::alloc::{AllocError, Global};
 use std::cmp::Ordering;
+use tokens::{token_from, view_id_from};
 use trace_props::Bytes;
 use view::{Addresses, View};
-
-#[tactic(auto, unfolding(crate::specs::Encoding::view_id_at))]
-fn view_id_from(from: &mut Reader<'_>) -> Option<ViewId>
-    ensures { IsReadOrNone (λ x. (x, from.new)) result (view_id_at from.old) }
-{
-    let counter = from.u64(1, GREATEST_NUMBER)?;
-    let creator = from.address()?;
-    ViewId::new(counter, creator)
-}
-
-#[tactic(auto, unfolding(crate::specs::Encoding::token_at))]
-fn token_from(from: &mut Reader<'_>) -> Option<Token>
-    ensures { IsReadOrNone (λ x. (x, from.new)) result (token_at from.old) }
-{
-    let view = view_id_from(from)?;
-    let count = from.u64(0, GREATEST_NUMBER)?;
-    Some(Token { view, count })
-}
 
 fn some_addresses(
     alloc: Global,

@@ -6,38 +6,20 @@ ghost use Rattle.address.specs.Ids.{IsAddress};
 ghost use Rattle.big_endian.specs.Spelled.{address_bytes};
 ghost use Rattle.keyed_entries.specs.Keys.{IsKey};
 ghost use Rattle.limits.specs.declared.TheConstants.{MEMBERS, STATE};
-ghost use Rattle.lock_table.specs.Locks.{IsEntry, IsViewId, IsTable, table_of, table_size, lock_size};
-ghost use Rattle.lock_table.specs.Encoding.{view_id_bytes, token_bytes, waiters_bytes, lock_bytes, entry_bytes, table_encode};
+ghost use Rattle.lock_table.specs.Locks.{IsEntry, IsTable, table_of, table_size, lock_size};
+ghost use Rattle.lock_table.specs.Encoding.{waiters_bytes, lock_bytes, entry_bytes, table_encode};
 ghost use Rattle.lock_table.specs.Commands.{IsCommand, IsView, view_bytes, command_bytes};
 ghost use Rattle.lock_table.specs.declared.TheConstants.{LONGEST_COMMAND};
 ghost use Rattle.lock_table.specs.declared.command.Command.TheVariants.{Roll};
 
 use crate::size::size_of_all;
 use crate::{Command, Lock, Token};
-use address::{Address, ViewId};
-use big_endian::{put_address, put_u8, put_u32, put_u64};
+use address::Address;
+use big_endian::{put_address, put_u8, put_u32};
 use keyed_entries::{Entry, put_key};
 use std::alloc::AllocError;
+use tokens::{put_token, put_view_id};
 use view::View;
-
-fn put_view_id(view: ViewId, out: &mut Vec<u8>)
-    requires { vec_len out.old + 14 ≤ vec_capacity out.old }
-    ensures items { out.new.items ≡ out.old.items ++ view_id_bytes view }
-    ensures room { vec_capacity out.old ≤ vec_capacity out.new }
-    ensures fits { IsViewId view }
-{
-    put_u64(view.counter(), out);
-    put_address(view.creator(), out);
-}
-
-fn put_token(token: Token, out: &mut Vec<u8>)
-    requires { vec_len out.old + 22 ≤ vec_capacity out.old }
-    ensures items { out.new.items ≡ out.old.items ++ token_bytes token }
-    ensures room { vec_capacity out.old ≤ vec_capacity out.new }
-{
-    put_view_id(token.view, out);
-    put_u64(token.count, out);
-}
 
 fn put_addresses(list: &[Address], out: &mut Vec<u8>)
     requires { vec_len out.old + 6 * length list.now ≤ vec_capacity out.old }

@@ -3,7 +3,7 @@
 ghost use Rattle.std.specs.Prelude.{◌≡◌, false, length, IfOk, OnOk, OnErr};
 ghost use Rattle.address.specs.Ids.{IsAddress};
 ghost use Rattle.keyed_entries.specs.Entries.{entry_of};
-ghost use Rattle.lock_table.specs.Locks.{IsTable, IsViewId, within, acquired, released, rolled, members, is_used_up, table_of, granted, holder_in};
+ghost use Rattle.lock_table.specs.Locks.{IsTable, within, acquired, released, rolled, members, is_used_up, table_of, granted, holder_in};
 ghost use Rattle.lock_table.specs.StepLaws.{MayRoll};
 ghost use Rattle.std.specs.List.{filter};
 
@@ -13,6 +13,7 @@ use address::{Address, ViewId};
 use keyed_entries::{Entry, KeyBytes, Place, find};
 use limits::STATE;
 use std::alloc::{AllocError, Global};
+use tokens::known_view_id;
 use trace_props::Bytes;
 use view::View;
 
@@ -29,14 +30,6 @@ fn known_address(address: Address)
 {
     let _node = address.node().number();
     let _incarnation = address.incarnation();
-}
-
-// What a program holds as a view id is one. It does nothing; its clause is a fact for proofs.
-fn known_view_id(view: ViewId)
-    ensures { IsViewId view }
-{
-    let _counter = view.counter();
-    known_address(view.creator());
 }
 
 // The entry of a lock that is granted, and that nobody waits for.

@@ -48,7 +48,7 @@ impl Payloads for LockTable {
 }
 
 impl Application for LockTable {
-    ghost use Rattle.std.specs.Prelude.{Some};
+    ghost use Rattle.std.specs.Prelude.{Some, true};
     ghost use Rattle.lock_table.specs.declared.command.Command.TheVariants.{Roll};
     ghost use Rattle.lock_table.specs.Commands.{command_bytes};
     ghost use Rattle.lock_table.specs.Words.{lock_payload_within};
@@ -60,13 +60,15 @@ impl Application for LockTable {
 
     ghost first_said = { λ view. Some (command_bytes (Roll view)) };
 
+    ghost is_said_again = { true };
+
     fn put_line(&self, member: &Address, out: &mut Vec<u8>) -> Result<(), AllocError> {
         put_table_line(out, member, &self.last(), self.locks())
     }
 
-    /// The spelling of `acquire NAME` and `release NAME`, sent in this view, or of `roll VIEW MEMBERS`.
+    /// The spelling of `acquire NAME` and `release NAME`, sent in this view.
     fn payload_in_view(alloc: Global, view: ViewId, text: &[u8]) -> Result<Bytes, Unheard> {
-        match command_said_in(alloc, view, text) {
+        match command_said_in(view, text) {
             Err(unheard) => Err(unheard),
             Ok(command) => Ok(spelled(alloc, &command)?),
         }
@@ -76,5 +78,10 @@ impl Application for LockTable {
     fn first_message(alloc: Global, view: &View) -> Result<Option<Bytes>, AllocError> {
         let payload = spelled_roll(alloc, view)?;
         Ok(Some(payload))
+    }
+
+    /// Yes: without a lost release its lock would be held for ever. A command that is carried out twice does what it does once.
+    fn says_again() -> bool {
+        true
     }
 }

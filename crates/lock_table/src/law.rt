@@ -7,10 +7,12 @@ ghost use Rattle.lock_table.specs.declared.command.Command.{Command as CommandVa
 ghost use Rattle.std.specs.declared.cmp.Ordering.TheVariants.{Less};
 ghost use Rattle.keyed_entries.specs.Entries.{key_cmp};
 ghost use Rattle.lock_table.specs.declared.command.Command.TheVariants.{Release, Roll};
-ghost use Rattle.lock_table.specs.Locks.{Lock, Table, IsTable, IsBelow, lock_of, queue};
+ghost use Rattle.tokens.specs.Tokens.{IsBelow};
+ghost use Rattle.lock_table.specs.Locks.{Lock, Table, IsTable, lock_of, queue};
 ghost use Rattle.lock_table.specs.Encoding.{table_encode, table_decode};
 ghost use Rattle.lock_table.specs.Commands.{IsCommand, command_bytes, command_of};
 ghost use Rattle.lock_table.specs.Moves.{FreeIsGranted, HeldIsWaitedFor, ReleasedIsLeft, RolledIsLeft};
+ghost use Rattle.lock_table.specs.Stamps.{FirstSpells, SaidSpells, StampedSpells};
 ghost use Rattle.lock_table.specs.Turns.{Message, IsMessage, after, after_all, queue_of, Grants, leaves, stays, comes, StandsOn};
 ghost use Rattle.limits.specs.declared.TheConstants.{STATE};
 
@@ -64,4 +66,12 @@ pub fn release_by_another()
 /// The law of rolls: the same roll a second time changes nothing.
 pub fn roll_again()
     ensures { (s : Table) (m : Message) (view : ViewValue) → command_of m.payload ≡ Some (Roll view) → after (after s m) m ≡ after s m }
+{}
+
+/// The law of stamps: each command that a member sends spells the view in which it is sent. So do a command that `Command::in_view` stamps anew, the words that are said at a
+/// member, and the roll that the coordinator of a view sends first in it. It does nothing.
+pub fn stamps_spell()
+    ensures stamped { StampedSpells }
+    ensures said { SaidSpells }
+    ensures first { FirstSpells }
 {}

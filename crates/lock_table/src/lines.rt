@@ -3,23 +3,15 @@
 ghost use Rattle.std.specs.Prelude.{◌≡◌, ◌++◌, ◌∷◌, OnOk};
 ghost use Rattle.vsync_text.specs.TraceText.{GoesOnFrom, field};
 ghost use Rattle.lock_table.specs.Locks.{table_of};
-ghost use Rattle.lock_table.specs.TableText.{text_of_token, text_of_queue, text_of_lock, text_of_more, text_of_locks, table_line};
+ghost use Rattle.tokens.specs.TokenText.{text_of_token};
+ghost use Rattle.lock_table.specs.TableText.{text_of_queue, text_of_lock, text_of_more, text_of_locks, table_line};
 
 use crate::{Lock, Token};
 use address::Address;
 use keyed_entries::Entry;
 use std::alloc::AllocError;
-use vsync_text::{put, put_address, put_addresses, put_hex, put_number, put_view_id};
-
-// Appends a token behind one byte.
-#[tactic(auto, using(vsync_text::proofs::KeepFront::goes_on))]
-fn put_token(out: &mut Vec<u8>, before: u8, token: &Token) -> Result<(), AllocError>
-    ensures text { OnOk result (out.new.items ≡ out.old.items ++ before ∷ text_of_token token.now) }
-    ensures kept { GoesOnFrom out.old.items out.new.items }
-{
-    put_view_id(out, before, &token.view)?;
-    put_number(out, b'/', token.count)
-}
+use tokens::put_token_text;
+use vsync_text::{put, put_address, put_addresses, put_hex};
 
 // Appends who holds a lock, with which token, and who waits.
 #[tactic(auto, using(vsync_text::proofs::KeepFront::goes_on))]
@@ -28,7 +20,7 @@ fn put_queue(out: &mut Vec<u8>, lock: &Lock) -> Result<(), AllocError>
     ensures kept { GoesOnFrom out.old.items out.new.items }
 {
     put_address(out, b':', &lock.holder())?;
-    put_token(out, b':', &lock.token())?;
+    put_token_text(out, b':', &lock.token())?;
     put_addresses(out, b':', lock.waiters())
 }
 
@@ -79,7 +71,7 @@ pub(crate) fn put_table_line(
 {
     put(out, b"locks")?;
     put_address(out, b' ', member)?;
-    put_token(out, b' ', last)?;
+    put_token_text(out, b' ', last)?;
     put_locks(out, locks)?;
     put(out, b"\n")
 }

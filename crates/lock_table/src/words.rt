@@ -133,12 +133,8 @@ pub(crate) fn command_said(alloc: Global, text: &[u8]) -> Result<Command<'_>, Un
     }
 }
 
-// The command that a text says in the view of an id: `acquire NAME` or `release NAME`, sent in this view, or `roll VIEW MEMBERS`.
-pub(crate) fn command_said_in(
-    alloc: Global,
-    view: ViewId,
-    text: &[u8],
-) -> Result<Command<'_>, Unheard>
+// The command that a text says in the view of an id: `acquire NAME` or `release NAME`, sent in this view.
+pub(crate) fn command_said_in(view: ViewId, text: &[u8]) -> Result<Command<'_>, Unheard>
     ensures { IsReadUnlessRefused (λ x. x) result (command_said_in view text.now) }
 {
     let (word, rest) = first_field(text);
@@ -146,8 +142,6 @@ pub(crate) fn command_said_in(
         acquired_in(view, rest)
     } else if word == b"release".as_slice() {
         released_in(view, rest)
-    } else if word == b"roll".as_slice() {
-        roll_said(alloc, rest)
     } else {
         Err(Unheard::Fault(Fault::BadNumber))
     }

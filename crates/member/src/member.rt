@@ -1,8 +1,12 @@
-ghost use Rattle.std.specs.Prelude.{◌≡◌, ◌≤◌, length, false, Some, IfOk};
+ghost use Rattle.std.specs.Prelude.{◌≡◌, ◌≤◌, ◌&&◌, not, length, false, None, Some, IfOk};
+ghost use Rattle.std.specs.List.{list_any};
 ghost use Rattle.std.specs.Option.{IsSomeAnd, option_copied, option_and_then, option_map, option_map_or};
 ghost use Rattle.trace_props.specs.Recorded.{IsRecordable};
+ghost use Rattle.view.specs.View.{view_refusal};
+ghost use Rattle.view_install.specs.Promises.{offered, is_accept};
 ghost use Rattle.acts.specs.Cores.{idle, id_of, is_frozen};
-ghost use Rattle.membership.specs.MemberStates.{idle_member};
+ghost use Rattle.acts.specs.Acts.{proposed, others_of};
+ghost use Rattle.membership.specs.MemberStates.{idle_member, is_connected, is_complete, is_sent_to};
 ghost use Rattle.member.specs.Running.{IsAlive};
 ghost use Rattle.member.specs.Members.{core_of, refusal_of, is_unreadable};
 ghost use Rattle.member.specs.Doing.{Does};
@@ -18,14 +22,16 @@ use crate::handling::{
 use crate::watching::watched_in;
 use crate::{Error, Input, Taken};
 use address::{Address, ViewId};
+use flush::Flush;
 use limits::STEP_EVENTS;
-use membership::MemberState;
+use membership::{MemberState, SentInstall};
 use state_transfer::Receiver;
 use std::alloc::{AllocError, Global};
 use std::marker::Model;
 use step_output::{Identity, Output, OwnedName};
 use view::View;
-use wire_values::GroupName;
+use view_install::OfferAnswer;
+use wire_values::{GroupName, Roster};
 
 /// A member of a group, with the receiver that it gives messages and views. Contracts see its address, its group and, while it runs, what it keeps
 /// (docs/PROTOCOL.md, "What a member keeps") and the core by which it decides (docs/PROOF.md, "Agreement over acts").
@@ -45,6 +51,45 @@ impl<R: Receiver> Model for Member<R> {
     ghost view = { λ m. record { address = m.identity.address; group = m.identity.group; member_state = m.member_state } };
 
     ghost invariant = { λ m. IsAlive (who_of m.identity) m.member_state };
+}
+
+// What a flush proposes.
+fn proposal_of(flush: &Flush) -> Roster
+    requires list { view_refusal flush.now.proposal flush.now.members ≡ None }
+    ensures { result ≡ proposed flush.now }
+{
+    Roster::new(flush.proposal(), flush.members().as_slice()).unwrap()
+}
+
+// How many of its list are another than this address.
+fn others_listed(flush: &Flush, address: Address) -> u64
+    ensures { result ≡ length (others_of address flush.now.members) }
+{
+    let mut others = 0;
+    for member in flush.members().as_slice() {
+        if *member != address {
+            others += 1;
+        }
+    }
+    others
+}
+
+// Whether all of its list have reported.
+fn have_reported(flush: &Flush) -> bool
+    ensures { result ≡ is_complete flush.now }
+{
+    flush
+        .members()
+        .as_slice()
+        .iter()
+        .all(|member| flush.has_reported(member))
+}
+
+// Whether an INSTALL among these was sent to an address.
+fn was_sent(sent: &[SentInstall], member: &Address) -> bool
+    ensures { result ≡ list_any (is_sent_to member.now) sent.now }
+{
+    sent.iter().any(|sent| sent.packet.destination == *member)
 }
 
 impl<R: Receiver> Member<R> {
@@ -132,6 +177,69 @@ impl<R: Receiver> Member<R> {
         match &self.member_state {
             None => None,
             Some(member_state) => Some(&member_state.receiver),
+        }
+    }
+
+    /// What it proposes by a flush of its own, while that goes on; `None` where none does, and after its end. Takes no memory.
+    pub fn proposal(&self) -> Option<Roster>
+        ensures { result ≡ option_and_then (λ l. option_map proposed l.flush) self.now.member_state }
+    {
+        match &self.member_state {
+            None => None,
+            Some(member_state) => match &member_state.flush {
+                None => None,
+                Some(flush) => Some(proposal_of(flush)),
+            },
+        }
+    }
+
+    /// Whether a flush of its own goes on and waits for somebody's report.
+    pub fn awaits_reports(&self) -> bool
+        ensures { result ≡ option_map_or (λ l. option_map_or (λ f. not (is_complete f)) l.flush false) self.now.member_state false }
+    {
+        match &self.member_state {
+            None => false,
+            Some(member_state) => match &member_state.flush {
+                None => false,
+                Some(flush) => !have_reported(flush),
+            },
+        }
+    }
+
+    /// How many others stand on the list of a flush of its own, which it put a FLUSH out to; 0 without one.
+    pub fn announced(&self) -> u64
+        ensures { result ≡ option_map_or (λ l. option_map_or (λ f. length (others_of self.now.address f.members)) l.flush 0) self.now.member_state 0 }
+    {
+        match &self.member_state {
+            None => 0,
+            Some(member_state) => match &member_state.flush {
+                None => 0,
+                Some(flush) => others_listed(flush, self.identity.address),
+            },
+        }
+    }
+
+    /// Whether it is joining or in a view, and would accept a proposal: it stands in its list, has promised none that is greater, and did not install it.
+    pub fn would_follow(&self, proposal: &Roster) -> bool
+        ensures { result ≡ option_map_or (λ l. is_connected l && is_accept (offered proposal.now l.promise)) self.now.member_state false }
+    {
+        match &self.member_state {
+            None => false,
+            Some(member_state) => {
+                member_state.is_connected()
+                    && member_state.promise.answer_to(proposal) == OfferAnswer::Accept
+            }
+        }
+    }
+
+    /// Whether it keeps an INSTALL of its view for an address: it made the view, and sends that one the INSTALL again whenever its REPORT comes again
+    /// (docs/PROTOCOL.md, "Install"). False without a view that it made, and after its end.
+    pub fn keeps_install(&self, member: &Address) -> bool
+        ensures { result ≡ option_map_or (λ l. list_any (is_sent_to member.now) l.sent_installs.items) self.now.member_state false }
+    {
+        match &self.member_state {
+            None => false,
+            Some(member_state) => was_sent(member_state.sent_installs.as_slice(), member),
         }
     }
 

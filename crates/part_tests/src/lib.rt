@@ -1,5 +1,5 @@
-//! The tests of the crates that a member is made of, a module for each crate. They stand apart from what they test,
-//! so that it is proved once and not twice.
+//! The tests of the crates that a member is made of, a module for each crate, and of the packets, by hand from the
+//! format's tables, to the byte. They stand apart from what they test, so that it is proved once and not twice.
 #![tactic(auto)]
 
 #[cfg(test)]
@@ -28,3 +28,15 @@ mod trace_props_tests;
 mod view_install_tests;
 #[cfg(test)]
 mod view_tests;
+#[cfg(test)]
+mod wire_changes;
+#[cfg(test)]
+mod wire_fields;
+#[cfg(test)]
+mod wire_longest;
+#[cfg(test)]
+mod wire_samples;
+#[cfg(test)]
+mod wire_states;
+#[cfg(test)]
+mod wire_vectors;

@@ -1,7 +1,8 @@
 use address::{Address, Node, ViewId};
-use lock_fencing::{Guard, guards_refuse_older, tokens_fence};
-use lock_table::{Token, moves};
+use lock_fencing::{Guard, deployments_fence, guards_refuse_older, tokens_fence};
+use lock_table::moves;
 use replicated_map::{replaces, sizes};
+use tokens::Token;
 
 // The token of this count in the view 1@1.1.
 fn token(count: u64) -> Token {
@@ -14,6 +15,7 @@ fn token(count: u64) -> Token {
 #[test]
 fn a_guard_refuses_lower_tokens(rt: HostRuntime) {
     tokens_fence();
+    deployments_fence();
     guards_refuse_older();
     let mut guard = Guard::new(None);
     assert!(rt; guard.greatest().is_none());

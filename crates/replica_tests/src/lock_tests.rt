@@ -4,7 +4,7 @@ use address::{Address, Node, ViewId};
 use keyed_entries::KeyBytes;
 use lock_table::{
     Command, LockTable, in_turn, one_encoding, one_holder, one_spelling, release_by_another,
-    roll_again, tokens_rise,
+    roll_again, stamps_spell, tokens_rise,
 };
 use state_transfer::Receiver;
 use std::alloc::{AllocError, Global};
@@ -332,6 +332,27 @@ fn roll(alloc: Global) -> Option<Command<'static>> {
     let members = Vec::from_slice(alloc, &[member(2), member(3)]).ok()?;
     let view = View::new(id, Addresses::from_vec(members)).ok()?;
     Some(Command::Roll(view))
+}
+
+#[test]
+fn an_acquire_is_stamped_anew(rt: HostRuntime) {
+    stamps_spell();
+    let acquire = Command::Acquire {
+        view: ViewId::first_of(member(1)),
+        name: KeyBytes::new(b"a").unwrap(),
+    };
+    match acquire.in_view(ViewId::new(2, member(2)).unwrap()) {
+        Some(acquire) => assert!(rt; is_spelled(rt.alloc(), &acquire, ACQUIRE_A_LATE)),
+        None => assert!(rt; false, "an acquire"),
+    }
+}
+
+#[test]
+fn a_roll_is_of_its_view_alone(rt: HostRuntime) {
+    match roll(rt.alloc()) {
+        Some(roll) => assert!(rt; roll.in_view(ViewId::first_of(member(1))).is_none()),
+        None => assert!(rt; false, "a roll"),
+    }
 }
 
 #[test]

@@ -1,4 +1,4 @@
-use address::{Address, Node};
+use address::{Address, Node, ViewId};
 use application::{Application, append_line};
 use lock_table::LockTable;
 use replicated_map::ReplicatedMap;
@@ -41,13 +41,58 @@ fn prints<A: Application>(alloc: Global, text: &[u8], wanted: &[u8]) -> bool {
 fn the_words_of_the_map_are_spelled(rt: HostRuntime) {
     let alloc = rt.alloc();
     assert!(rt;
-        says::<ReplicatedMap>(alloc, b"put a x y", b"\x01\x01a\x00\x03x y"),
+        says::<ReplicatedMap>(
+            alloc,
+            b"put a x y",
+            b"\x01\x00\x00\x00\x00\x00\x00\x00\x01\x00\x01\x00\x00\x00\x01\x01a\x00\x03x\x20y"
+        ),
         "put"
     );
     assert!(rt;
-        says::<ReplicatedMap>(alloc, b"replace a - x", b"\x03\x00\x01a\x00\x01x"),
+        says::<ReplicatedMap>(
+            alloc,
+            b"replace a - x",
+            b"\x03\x00\x00\x00\x00\x00\x00\x00\x01\x00\x01\x00\x00\x00\x01\x00\x01a\x00\x01x"
+        ),
         "replace, none expected"
     );
+    assert!(rt;
+        says::<ReplicatedMap>(
+            alloc,
+            b"replace_at a 1@1.1/1 z",
+            b"\x05\x00\x00\x00\x00\x00\x00\x00\x01\x00\x01\x00\x00\x00\x01\x00\x00\x00\x00\x00\x00\x00\x01\x00\x01\x00\x00\x00\x01\x00\x00\x00\x00\x00\x00\x00\x01\x01a\x00\x01z"
+        ),
+        "replace a version"
+    );
+    assert!(rt;
+        says::<ReplicatedMap>(
+            alloc,
+            b"remove_at a 1@1.1/1",
+            b"\x06\x00\x00\x00\x00\x00\x00\x00\x01\x00\x01\x00\x00\x00\x01\x00\x00\x00\x00\x00\x00\x00\x01\x01a"
+        ),
+        "remove a version"
+    );
+    assert!(rt;
+        ReplicatedMap::payload(alloc, b"remove_at a 1@1.1").is_err(),
+        "no version"
+    );
+    assert!(rt;
+        ReplicatedMap::payload(alloc, b"remove_at a 1@1.1/1 z").is_err(),
+        "more"
+    );
+}
+
+#[test]
+fn a_put_spells_the_view_in_which_it_is_said(rt: HostRuntime) {
+    let alloc = rt.alloc();
+    let view = ViewId::new(3, Address::first_at(Node::new(2).unwrap())).unwrap();
+    match ReplicatedMap::payload_in_view(alloc, view, b"put a q") {
+        Ok(payload) => assert!(rt;
+            payload.as_slice()
+                == b"\x01\x00\x00\x00\x00\x00\x00\x00\x03\x00\x02\x00\x00\x00\x01\x01a\x00\x01q".as_slice()
+        ),
+        Err(_) => assert!(rt; false, "it is said"),
+    }
 }
 
 #[test]

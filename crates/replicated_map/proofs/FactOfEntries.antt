@@ -1,80 +1,122 @@
 -- What a put and a removal make of a map and of the number of bytes that it is encoded in.
-use Rattle.std.proofs.Common.{◌≡◌, ℕ, ◌+◌, ◌-◌, ◌<◌, ◌≤◌, Bool, true, false, List, length, set, get_or, cond, leb, Some, refl, sym, ap, subst, ◌∙◌, arith}
-use Rattle.std.specs.List.{slice_get, insert, remove}
-use Rattle.std.proofs.lemmas.Option.{get_or_from_slice_get}
-use Rattle.std.proofs.lemmas.Bool.{leb-true, le-leb, cond-true}
-use Rattle.std.proofs.lemmas.List.Sums.{sum_by-set, sum_by-insert, sum_by-remove}
-use Rattle.limits.specs.declared.TheConstants.{STATE}
+use Rattle.std.proofs.Common.{◌≡◌, ℕ, ◌+◌, ◌-◌, ◌<◌, ◌≤◌, Bool, true, false, List, [], ◌∷◌, ◌&&◌, length, set, get_or, cond, leb, Option, None, Some, refl, sym, ap, subst, ◌∙◌, arith}
+use Rattle.std.specs.List.{slice_get, insert, remove, sum_by}
+use Rattle.std.specs.Ordering.{match_ordering, is_eq}
+use Rattle.std.specs.declared.cmp.Ordering.{Ordering}
+use Rattle.std.specs.declared.cmp.Ordering.TheVariants.{Less, Equal, Greater}
+use Rattle.std.proofs.lemmas.Option.{get_or_from_slice_get, none-some, same_Some}
+use Rattle.std.proofs.lemmas.Bool.{leb-true, le-leb, and_parts}
+use Rattle.std.proofs.lemmas.List.Sums.{sum_by-cons, sum_by-set, sum_by-insert, sum_by-remove}
+use Rattle.std.proofs.lemmas.Map.Text.{is_eq-slice_cmp}
+use Rattle.std.proofs.lemmas.Slice.Eq.{bytes_eq-Decides}
+use Rattle.address.specs.Ids.{ViewId}
+use Rattle.limits.specs.declared.TheConstants.{STATE, GREATEST_NUMBER}
 use Rattle.keyed_entries.specs.declared.Entry.{Entry}
-use Rattle.keyed_entries.specs.Entries.{entry_of, put, without, IsHeldAt, IsFreeAt}
 use Rattle.keyed_entries.specs.Keys.{IsKey}
-use Rattle.replicated_map.specs.Entries.{entry_size, map_size, IsValue, IsMap, put_within}
-use Rattle.replicated_map.specs.MapLaws.{put_is_map, without_is_map}
+use Rattle.keyed_entries.specs.Entries.{key_cmp, entry_of, value_of, put, without, IsHeldAt, IsFreeAt}
+use Rattle.tokens.specs.declared.token.Token.{Token}
+use Rattle.tokens.specs.Tokens.{next_token, IsViewId}
+use Rattle.replicated_map.specs.declared.entries.Held.{Held}
+use Rattle.replicated_map.specs.Entries.{MapState, state_of, held, entry_size, map_size, IsValue, IsMap, given, is_within, put_within, removed}
+use Rattle.replicated_map.specs.MapLaws.{given_is_map, removed_is_map}
+
+abbrev pub Entries : Type 0
+Entries = List (Entry Held)
 
 -- a map, and in how many bytes it is encoded
-abbrev pub IsCountedMap : List (Entry (List ℕ)) → ℕ → Type 0
-IsCountedMap s n = IsMap s × (n ≡ map_size s)
+abbrev pub IsCountedMap : MapState → ℕ → Type 0
+IsCountedMap s n = IsMap s × (n ≡ map_size s.entries)
 
-pub put-goes : (s : List (Entry (List ℕ))) (k v : List ℕ) → map_size (put k v s) ≤ STATE → put k v s ≡ put_within k v s
-put-goes s k v fits = sym (cond-true (leb (map_size (put k v s)) STATE) (put k v s) s (le-leb _ _ fits))
+-- ---- limits
 
-put-stays : (s : List (Entry (List ℕ))) (k v : List ℕ) → STATE < map_size (put k v s) → s ≡ put_within k v s
-put-stays s k v more = by (leb (map_size (put k v s)) STATE) refl where
-  by : (b : Bool) → leb (map_size (put k v s)) STATE ≡ b → s ≡ cond b (put k v s) s
-  by true test = let small : map_size (put k v s) ≤ STATE = leb-true _ _ test in absurd (omega (arith, small, more))
-  by false test = refl
+pub is-within : (s : MapState) → map_size s.entries ≤ STATE → s.last.count ≤ GREATEST_NUMBER → is_within s ≡ true
+is-within s small few = rw (le-leb (map_size s.entries) STATE small, le-leb s.last.count GREATEST_NUMBER few) refl
 
--- the size with a value for a key that has one, in the place where its entry stands
-size-held : (s : List (Entry (List ℕ))) (k v : List ℕ) (i : ℕ) (x : Entry (List ℕ)) (n : ℕ) → IsHeldAt k s i → slice_get s i ≡ Some x → n ≡ map_size s → n - length x.value + length v ≡ map_size (put k v s)
-size-held s k v i x n held stands is =
-    let e = entry_of x.key v in
-    let at : x ≡ get_or s i x = sym (get_or_from_slice_get s i x x stands) in
-    let sums = sum_by-set entry_size s i e x held.within in
-    let same : entry_size x ≡ entry_size (get_or s i x) = ap entry_size at in
-    let puts : map_size (put k v s) ≡ map_size (set s i e) = ap map_size (held.puts x v stands) in
-    let part = sum_by-remove entry_size s i x held.within in
-    omega (arith, sums, same, puts, part, is)
+pub within-is : (s : MapState) → is_within s ≡ true → (map_size s.entries ≤ STATE) × (s.last.count ≤ GREATEST_NUMBER)
+within-is s e = let both = and_parts (leb (map_size s.entries) STATE) (leb s.last.count GREATEST_NUMBER) e in (leb-true _ _ both.0, leb-true _ _ both.1)
 
--- and with one for a key that has none
-size-free : (s : List (Entry (List ℕ))) (k v : List ℕ) (i n : ℕ) → IsFreeAt k s i → n ≡ map_size s → n + 3 + length k + length v ≡ map_size (put k v s)
-size-free s k v i n free is =
-    let sums = sum_by-insert entry_size s i (entry_of k v) in
-    let puts : map_size (put k v s) ≡ map_size (insert s i (entry_of k v)) = ap map_size (free.puts v) in
-    omega (arith, sums, puts, is)
+pub put-goes : (view : ViewId) (k v : List ℕ) (s : MapState) → is_within (given view k v s) ≡ true → put_within view k v s ≡ given view k v s
+put-goes view k v s e = ap (λ (b : Bool). cond b (given view k v s) s) e
 
--- a state with a put that fits, and its size
-pub record IsPutIn (k v : List ℕ) (s u : List (Entry (List ℕ))) (m : ℕ) : Type 0 where
-  pub counted : IsCountedMap u m
-  pub put : u ≡ put_within k v s
+pub put-stays : (view : ViewId) (k v : List ℕ) (s : MapState) → is_within (given view k v s) ≡ false → put_within view k v s ≡ s
+put-stays view k v s e = ap (λ (b : Bool). cond b (given view k v s) s) e
 
-puts-in : (s u : List (Entry (List ℕ))) (k v : List ℕ) (m : ℕ) → IsMap s → IsKey k → IsValue v → u ≡ put k v s → m ≡ map_size (put k v s) → m ≤ STATE → IsPutIn k v s u m
-puts-in s u k v m is key value same size fits =
-    let within : u ≡ put_within k v s = same ∙ put-goes s k v (omega (arith, size, fits)) in
-    record { counted = (subst IsMap (sym within) (put_is_map k v s is key value), size ∙ ap map_size (sym same)); put = within }
+-- a state that exceeds one of its limits
+pub too-large : (s : MapState) → STATE < map_size s.entries → is_within s ≡ false
+too-large s more = by (is_within s) refl where
+  by : (b : Bool) → is_within s ≡ b → b ≡ false
+  by true e = absurd (let small = (within-is s e).0 in omega (arith, small, more))
+  by false e = refl
 
-pub puts-held : (s : List (Entry (List ℕ))) (k v : List ℕ) (i : ℕ) (x : Entry (List ℕ)) (n : ℕ) → IsHeldAt k s i → slice_get s i ≡ Some x → IsCountedMap s n → IsKey k → IsValue v → n - length x.value + length v ≤ STATE
-    → IsPutIn k v s (set s i (entry_of x.key v)) (n - length x.value + length v)
-puts-held s k v i x n held stands kept key value fits =
-    puts-in s (set s i (entry_of x.key v)) k v (n - length x.value + length v) kept.0 key value (sym (held.puts x v stands)) (size-held s k v i x n held stands kept.1) fits
+pub too-many : (s : MapState) → GREATEST_NUMBER < s.last.count → is_within s ≡ false
+too-many s more = by (is_within s) refl where
+  by : (b : Bool) → is_within s ≡ b → b ≡ false
+  by true e = absurd (let few = (within-is s e).1 in omega (arith, few, more))
+  by false e = refl
 
-pub puts-free : (s : List (Entry (List ℕ))) (k v : List ℕ) (i n : ℕ) → IsFreeAt k s i → IsCountedMap s n → IsKey k → IsValue v → n + 3 + length k + length v ≤ STATE
-    → IsPutIn k v s (insert s i (entry_of k v)) (n + 3 + length k + length v)
-puts-free s k v i n free kept key value fits =
-    puts-in s (insert s i (entry_of k v)) k v (n + 3 + length k + length v) kept.0 key value (sym (free.puts v)) (size-free s k v i n free kept.1) fits
+-- ---- sizes
 
--- a put that does not fit
-pub stays-held : (s : List (Entry (List ℕ))) (k v : List ℕ) (i : ℕ) (x : Entry (List ℕ)) (n : ℕ) → IsHeldAt k s i → slice_get s i ≡ Some x → n ≡ map_size s → STATE < n - length x.value + length v → s ≡ put_within k v s
-stays-held s k v i x n held stands is more = put-stays s k v (let size = size-held s k v i x n held stands is in omega (arith, size, more))
+size-new : (k : List ℕ) (h : Held) (s : Entries) → value_of k s ≡ None → sum_by entry_size (put k h s) ≡ sum_by entry_size s + entry_size (entry_of k h)
+size-new k h [] at = omega (arith, sum_by-cons entry_size (entry_of k h) [])
+size-new k h (x ∷ xs) at = by (key_cmp k x.key) (size-new k h xs) at where
+  by : (o : Ordering) → (value_of k xs ≡ None → sum_by entry_size (put k h xs) ≡ sum_by entry_size xs + entry_size (entry_of k h)) → match_ordering o None (Some x.value) (value_of k xs) ≡ None
+      → sum_by entry_size (match_ordering o (entry_of k h ∷ x ∷ xs) (entry_of x.key h ∷ xs) (x ∷ put k h xs)) ≡ sum_by entry_size (x ∷ xs) + entry_size (entry_of k h)
+  by Less rest at = omega (arith, sum_by-cons entry_size (entry_of k h) (x ∷ xs))
+  by Equal rest at = absurd cc
+  by Greater rest at = let more = rest at in omega (arith, more, sum_by-cons entry_size x (put k h xs), sum_by-cons entry_size x xs)
 
-pub stays-free : (s : List (Entry (List ℕ))) (k v : List ℕ) (i n : ℕ) → IsFreeAt k s i → n ≡ map_size s → STATE < n + 3 + length k + length v → s ≡ put_within k v s
-stays-free s k v i n free is more = put-stays s k v (let size = size-free s k v i n free is in omega (arith, size, more))
+size-held : (k : List ℕ) (h old : Held) (s : Entries) → value_of k s ≡ Some old → sum_by entry_size (put k h s) + length old.value ≡ sum_by entry_size s + length h.value
+size-held k h old [] at = absurd (none-some old at)
+size-held k h old (x ∷ xs) at = by (key_cmp k x.key) (size-held k h old xs) at where
+  by : (o : Ordering) → (value_of k xs ≡ Some old → sum_by entry_size (put k h xs) + length old.value ≡ sum_by entry_size xs + length h.value) → match_ordering o None (Some x.value) (value_of k xs) ≡ Some old
+      → sum_by entry_size (match_ordering o (entry_of k h ∷ x ∷ xs) (entry_of x.key h ∷ xs) (x ∷ put k h xs)) + length old.value ≡ sum_by entry_size (x ∷ xs) + length h.value
+  by Less rest at = absurd (none-some old at)
+  by Equal rest at =
+      let same = ap (λ (y : Held). length y.value) (same_Some x.value old at) in
+      omega (arith, same, sum_by-cons entry_size (entry_of x.key h) xs, sum_by-cons entry_size x xs)
+  by Greater rest at = let more = rest at in omega (arith, more, sum_by-cons entry_size x (put k h xs), sum_by-cons entry_size x xs)
 
--- without the value of a key that has one
-pub removes-held : (s u : List (Entry (List ℕ))) (k : List ℕ) (i : ℕ) (x : Entry (List ℕ)) (n : ℕ) → IsHeldAt k s i → slice_get s i ≡ Some x → u ≡ remove s i → IsCountedMap s n → IsCountedMap u (n - (3 + length x.key + length x.value))
-removes-held s u k i x n held stands same kept =
+size-without : (k : List ℕ) (old : Held) (s : Entries) → value_of k s ≡ Some old → sum_by entry_size (without k s) + 25 + length k + length old.value ≡ sum_by entry_size s
+size-without k old [] at = absurd (none-some old at)
+size-without k old (x ∷ xs) at = by (key_cmp k x.key) refl (size-without k old xs) at where
+  by : (o : Ordering) → key_cmp k x.key ≡ o → (value_of k xs ≡ Some old → sum_by entry_size (without k xs) + 25 + length k + length old.value ≡ sum_by entry_size xs)
+      → match_ordering o None (Some x.value) (value_of k xs) ≡ Some old → sum_by entry_size (match_ordering o (x ∷ xs) xs (x ∷ without k xs)) + 25 + length k + length old.value ≡ sum_by entry_size (x ∷ xs)
+  by Less is rest at = absurd (none-some old at)
+  by Equal is rest at =
+      let value = ap (λ (y : Held). length y.value) (same_Some x.value old at) in
+      let key = ap length ((bytes_eq-Decides k x.key).0 (sym (is_eq-slice_cmp k x.key) ∙ ap is_eq is)) in
+      omega (arith, value, key, sum_by-cons entry_size x xs)
+  by Greater is rest at = let more = rest at in omega (arith, more, sum_by-cons entry_size x (without k xs), sum_by-cons entry_size x xs)
+
+pub new-key : (s : Entries) (k : List ℕ) (h : Held) → value_of k s ≡ None → map_size (put k h s) ≡ map_size s + 25 + length k + length h.value
+new-key s k h free = let size = size-new k h s free in omega (arith, size)
+
+pub new-value : (s : Entries) (k : List ℕ) (h old : Held) → value_of k s ≡ Some old → map_size (put k h s) + length old.value ≡ map_size s + length h.value
+new-value s k h old at = let size = size-held k h old s at in omega (arith, size)
+
+pub removal-size : (s : Entries) (k : List ℕ) (old : Held) → value_of k s ≡ Some old → map_size (without k s) + 25 + length k + length old.value ≡ map_size s
+removal-size s k old at = let size = size-without k old s at in omega (arith, size)
+
+-- without what a key has, at the place where its entry stands
+pub removes-held : (last : Token) (s u : Entries) (k : List ℕ) (i : ℕ) (x : Entry Held) (n : ℕ) → IsHeldAt k s i → slice_get s i ≡ Some x → u ≡ remove s i → IsCountedMap (state_of last s) n
+    → IsCountedMap (state_of last u) (n - (25 + length x.key + length x.value.value))
+removes-held last s u k i x n held stands same kept =
     let without_it : u ≡ without k s = same ∙ sym held.takes in
     let sums = sum_by-remove entry_size s i x held.within in
     let at : entry_size (get_or s i x) ≡ entry_size x = ap entry_size (get_or_from_slice_get s i x x stands) in
     let sizes : map_size u ≡ map_size (remove s i) = ap map_size same in
     let size : n ≡ map_size s = kept.1 in
-    (subst IsMap (sym without_it) (without_is_map k s kept.0), omega (arith, sums, at, sizes, size))
+    (subst (λ (e : Entries). IsMap (state_of last e)) (sym without_it) (removed_is_map k (state_of last s) kept.0), omega (arith, sums, at, sizes, size))
+
+-- with a value at its place, if the state has room for it
+pub puts-in : (last t : Token) (view : ViewId) (k v : List ℕ) (s u : Entries) (n : ℕ) → IsMap (state_of last s) → IsViewId view → IsKey k → IsValue v → t ≡ next_token view last → u ≡ put k (held t v) s → n ≡ map_size (put k (held t v) s)
+    → leb n STATE && leb t.count GREATEST_NUMBER ≡ true → IsCountedMap (state_of t u) n
+puts-in last t view k v s u n is id key value next same size room =
+    let both = and_parts (leb n STATE) (leb t.count GREATEST_NUMBER) room in
+    let fits : n ≤ STATE = leb-true _ _ both.0 in
+    let few : t.count ≤ GREATEST_NUMBER = leb-true _ _ both.1 in
+    let sizes : map_size (put k (held t v) s) ≡ map_size (put k (held (next_token view last) v) s) = ap (λ (x : Token). map_size (put k (held x v) s)) next in
+    let counts : t.count ≡ (next_token view last).count = ap (λ (x : Token). x.count) next in
+    let made = given_is_map view k v (state_of last s) is id key value (omega (arith, size, sizes, fits)) (omega (arith, counts, few)) in
+    let there = subst (λ (x : Token). IsMap (state_of x (put k (held x v) s))) (sym next) made in
+    (subst (λ (e : Entries). IsMap (state_of t e)) (sym same) there, size ∙ ap map_size (sym same))

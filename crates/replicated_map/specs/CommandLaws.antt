@@ -5,21 +5,22 @@ use Rattle.std.proofs.lemmas.List.{append-nil, nil_from_length}
 use Rattle.std.proofs.lemmas.Option.{cond_some}
 use Rattle.byteorder.specs.Endian.{big_bytes}
 use Rattle.big_endian.proofs.Bytes.{wide1}
-use Rattle.address.specs.Ids.{Address, IsAddress}
+use Rattle.address.specs.Ids.{Address, ViewId, IsAddress}
 use Rattle.limits.specs.declared.TheConstants.{PAYLOAD}
 use Rattle.reading.specs.Reading.{number_at, ◌>>=◌}
 use Rattle.reading.specs.PartLaws.{bind_some, some_is, joined, IsPart, IsWithin, number_part}
-use Rattle.keyed_entries.specs.declared.Entry.{Entry}
-use Rattle.replicated_map.specs.declared.command.Command.{Command}
-use Rattle.replicated_map.specs.declared.command.Command.TheVariants.{Put, Remove, Replace, Clear}
-use Rattle.keyed_entries.specs.Entries.{value_of}
-use Rattle.replicated_map.specs.Entries.{IsMap, put_within}
-use Rattle.keyed_entries.specs.Keys.{key_bytes, key_at}
-use Rattle.replicated_map.specs.Encoding.{value_bytes, value_at}
-use Rattle.replicated_map.specs.Commands.{is_expected, carried_out, expected_bytes, command_bytes, expected_at, put_at, remove_at, replace_at, command_at, command_of, IsExpected, IsCommand, after_command, map_apply}
+use Rattle.keyed_entries.specs.Keys.{IsKey, key_bytes, key_at}
 use Rattle.keyed_entries.specs.KeyLaws.{key_takes, key_again}
+use Rattle.tokens.specs.declared.token.Token.{Token}
+use Rattle.tokens.specs.Spelling.{view_id_bytes, view_id_at, token_bytes, token_at}
+use Rattle.tokens.specs.SpellingLaws.{view_id_part, token_part}
+use Rattle.replicated_map.specs.declared.command.Command.{Command}
+use Rattle.replicated_map.specs.declared.command.Command.TheVariants.{Put, Remove, Replace, Clear, ReplaceAt, RemoveAt}
+use Rattle.replicated_map.specs.Entries.{MapState, IsMap, held_of, value_in, put_within, removed}
+use Rattle.replicated_map.specs.Encoding.{value_bytes, value_at}
+use Rattle.replicated_map.specs.Commands.{is_expected, has_version, carried_out, expected_bytes, pair_bytes, command_bytes, expected_at, pair_at, put_at, remove_at, replace_at, replace_version_at, remove_version_at, command_at, command_of, IsExpected, IsPair, IsCommand, after_command, map_apply}
 use Rattle.replicated_map.specs.EncodingLaws.{value_takes, value_again}
-use Rattle.replicated_map.specs.MapLaws.{nothing_is_map, put_is_map, without_is_map}
+use Rattle.replicated_map.specs.MapLaws.{nothing_is_map, cleared_is_map, put_is_map, removed_is_map}
 
 -- ---- an expected value
 
@@ -67,18 +68,36 @@ expected_again (Some w) rest fits =
     ap expected_at (append_assoc (big_bytes 1 1) (value_bytes w) rest)
     ∙ rw (flag_part.again 1 (value_bytes w ++ rest) (omega arith, omega arith), value_again w rest fits) refl
 
+-- ---- a key and its value
+
+pair_takes : (bytes : List ℕ) (p : List ℕ × List ℕ) (rest : List ℕ) → pair_at bytes ≡ Some (p, rest) → (bytes ≡ pair_bytes p.0 p.1 ++ rest) × IsPair p
+unfolding pair_at
+pair_takes bytes p rest e =
+    let a = bind_some (key_at bytes) (λ key. value_at key.1 >>= λ value. Some ((key.0, value.0), value.1)) (p, rest) e in
+    let b = bind_some (value_at a.0.1) (λ value. Some ((a.0.0, value.0), value.1)) (p, rest) a.2 in
+    let t = key_takes bytes a.0.0 a.0.1 a.1 in
+    let u = value_takes a.0.1 b.0.0 b.0.1 b.1 in
+    subst (λ (q : (List ℕ × List ℕ) × List ℕ). (bytes ≡ pair_bytes q.0.0 q.0.1 ++ q.1) × IsPair q.0) (some_is ((a.0.0, b.0.0), b.0.1) (p, rest) b.2)
+    (joined bytes (key_bytes a.0.0) a.0.1 (value_bytes b.0.0) b.0.1 t.0 u.0, (t.1, u.1))
+
+pair_again : (k v rest : List ℕ) → IsPair (k, v) → pair_at (pair_bytes k v ++ rest) ≡ Some ((k, v), rest)
+unfolding pair_at
+pair_again k v rest fits =
+    ap pair_at (append_assoc (key_bytes k) (value_bytes v) rest)
+    ∙ rw (key_again k (value_bytes v ++ rest) fits.0, value_again v rest fits.1) refl
+
 -- ---- the commands, behind their kind
 
 put_takes : (bytes : List ℕ) (c : Command) (rest : List ℕ) → put_at bytes ≡ Some (c, rest) → Follows command_bytes IsCommand 1 bytes (c, rest)
 unfolding put_at
 put_takes bytes c rest e =
-    let a = bind_some (key_at bytes) (λ key. value_at key.1 >>= λ value. Some (Put key.0 value.0, value.1)) (c, rest) e in
-    let b = bind_some (value_at a.0.1) (λ value. Some (Put a.0.0 value.0, value.1)) (c, rest) a.2 in
-    let t = key_takes bytes a.0.0 a.0.1 a.1 in
-    let u = value_takes a.0.1 b.0.0 b.0.1 b.1 in
-    let parts = joined bytes (key_bytes a.0.0) a.0.1 (value_bytes b.0.0) b.0.1 t.0 u.0 in
-    let whole = joined (big_bytes 1 1 ++ bytes) (big_bytes 1 1) bytes (key_bytes a.0.0 ++ value_bytes b.0.0) b.0.1 refl parts in
-    subst (λ (p : Command × List ℕ). Follows command_bytes IsCommand 1 bytes p) (some_is (Put a.0.0 b.0.0, b.0.1) (c, rest) b.2) (whole, (t.1, u.1))
+    let a = bind_some (view_id_at bytes) (λ view. pair_at view.1 >>= λ pair. Some (Put view.0 pair.0.0 pair.0.1, pair.1)) (c, rest) e in
+    let b = bind_some (pair_at a.0.1) (λ pair. Some (Put a.0.0 pair.0.0 pair.0.1, pair.1)) (c, rest) a.2 in
+    let t = view_id_part.takes bytes a.0.0 a.0.1 a.1 in
+    let u = pair_takes a.0.1 b.0.0 b.0.1 b.1 in
+    let parts = joined bytes (view_id_bytes a.0.0) a.0.1 (pair_bytes b.0.0.0 b.0.0.1) b.0.1 t.0 u.0 in
+    let whole = joined (big_bytes 1 1 ++ bytes) (big_bytes 1 1) bytes (view_id_bytes a.0.0 ++ pair_bytes b.0.0.0 b.0.0.1) b.0.1 refl parts in
+    subst (λ (p : Command × List ℕ). Follows command_bytes IsCommand 1 bytes p) (some_is (Put a.0.0 b.0.0.0 b.0.0.1, b.0.1) (c, rest) b.2) (whole, (t.1, u.1))
 
 remove_takes : (bytes : List ℕ) (c : Command) (rest : List ℕ) → remove_at bytes ≡ Some (c, rest) → Follows command_bytes IsCommand 2 bytes (c, rest)
 unfolding remove_at
@@ -91,73 +110,131 @@ remove_takes bytes c rest e =
 replace_takes : (bytes : List ℕ) (c : Command) (rest : List ℕ) → replace_at bytes ≡ Some (c, rest) → Follows command_bytes IsCommand 3 bytes (c, rest)
 unfolding replace_at
 replace_takes bytes c rest e =
-    let w = bind_some (expected_at bytes) (λ expected. key_at expected.1 >>= λ key. value_at key.1 >>= λ value. Some (Replace expected.0 key.0 value.0, value.1)) (c, rest) e in
-    let a = bind_some (key_at w.0.1) (λ key. value_at key.1 >>= λ value. Some (Replace w.0.0 key.0 value.0, value.1)) (c, rest) w.2 in
-    let b = bind_some (value_at a.0.1) (λ value. Some (Replace w.0.0 a.0.0 value.0, value.1)) (c, rest) a.2 in
-    let s = expected_takes bytes w.0.0 w.0.1 w.1 in
-    let t = key_takes w.0.1 a.0.0 a.0.1 a.1 in
-    let u = value_takes a.0.1 b.0.0 b.0.1 b.1 in
-    let parts = joined w.0.1 (key_bytes a.0.0) a.0.1 (value_bytes b.0.0) b.0.1 t.0 u.0 in
-    let more = joined bytes (expected_bytes w.0.0) w.0.1 (key_bytes a.0.0 ++ value_bytes b.0.0) b.0.1 s.0 parts in
-    let whole = joined (big_bytes 1 3 ++ bytes) (big_bytes 1 3) bytes (expected_bytes w.0.0 ++ (key_bytes a.0.0 ++ value_bytes b.0.0)) b.0.1 refl more in
-    subst (λ (p : Command × List ℕ). Follows command_bytes IsCommand 3 bytes p) (some_is (Replace w.0.0 a.0.0 b.0.0, b.0.1) (c, rest) b.2) (whole, (s.1, t.1, u.1))
+    let a = bind_some (view_id_at bytes) (λ view. expected_at view.1 >>= λ expected. pair_at expected.1 >>= λ pair. Some (Replace view.0 expected.0 pair.0.0 pair.0.1, pair.1)) (c, rest) e in
+    let w = bind_some (expected_at a.0.1) (λ expected. pair_at expected.1 >>= λ pair. Some (Replace a.0.0 expected.0 pair.0.0 pair.0.1, pair.1)) (c, rest) a.2 in
+    let b = bind_some (pair_at w.0.1) (λ pair. Some (Replace a.0.0 w.0.0 pair.0.0 pair.0.1, pair.1)) (c, rest) w.2 in
+    let t = view_id_part.takes bytes a.0.0 a.0.1 a.1 in
+    let s = expected_takes a.0.1 w.0.0 w.0.1 w.1 in
+    let u = pair_takes w.0.1 b.0.0 b.0.1 b.1 in
+    let parts = joined a.0.1 (expected_bytes w.0.0) w.0.1 (pair_bytes b.0.0.0 b.0.0.1) b.0.1 s.0 u.0 in
+    let more = joined bytes (view_id_bytes a.0.0) a.0.1 (expected_bytes w.0.0 ++ pair_bytes b.0.0.0 b.0.0.1) b.0.1 t.0 parts in
+    let whole = joined (big_bytes 1 3 ++ bytes) (big_bytes 1 3) bytes (view_id_bytes a.0.0 ++ (expected_bytes w.0.0 ++ pair_bytes b.0.0.0 b.0.0.1)) b.0.1 refl more in
+    subst (λ (p : Command × List ℕ). Follows command_bytes IsCommand 3 bytes p) (some_is (Replace a.0.0 w.0.0 b.0.0.0 b.0.0.1, b.0.1) (c, rest) b.2) (whole, (t.1, s.1, u.1))
 
-put_again : (k v rest : List ℕ) → IsCommand (Put k v) → put_at ((key_bytes k ++ value_bytes v) ++ rest) ≡ Some (Put k v, rest)
+replace_version_takes : (bytes : List ℕ) (c : Command) (rest : List ℕ) → replace_version_at bytes ≡ Some (c, rest) → Follows command_bytes IsCommand 5 bytes (c, rest)
+unfolding replace_version_at
+replace_version_takes bytes c rest e =
+    let a = bind_some (view_id_at bytes) (λ view. token_at view.1 >>= λ version. pair_at version.1 >>= λ pair. Some (ReplaceAt view.0 version.0 pair.0.0 pair.0.1, pair.1)) (c, rest) e in
+    let w = bind_some (token_at a.0.1) (λ version. pair_at version.1 >>= λ pair. Some (ReplaceAt a.0.0 version.0 pair.0.0 pair.0.1, pair.1)) (c, rest) a.2 in
+    let b = bind_some (pair_at w.0.1) (λ pair. Some (ReplaceAt a.0.0 w.0.0 pair.0.0 pair.0.1, pair.1)) (c, rest) w.2 in
+    let t = view_id_part.takes bytes a.0.0 a.0.1 a.1 in
+    let s = token_part.takes a.0.1 w.0.0 w.0.1 w.1 in
+    let u = pair_takes w.0.1 b.0.0 b.0.1 b.1 in
+    let parts = joined a.0.1 (token_bytes w.0.0) w.0.1 (pair_bytes b.0.0.0 b.0.0.1) b.0.1 s.0 u.0 in
+    let more = joined bytes (view_id_bytes a.0.0) a.0.1 (token_bytes w.0.0 ++ pair_bytes b.0.0.0 b.0.0.1) b.0.1 t.0 parts in
+    let whole = joined (big_bytes 1 5 ++ bytes) (big_bytes 1 5) bytes (view_id_bytes a.0.0 ++ (token_bytes w.0.0 ++ pair_bytes b.0.0.0 b.0.0.1)) b.0.1 refl more in
+    subst (λ (p : Command × List ℕ). Follows command_bytes IsCommand 5 bytes p) (some_is (ReplaceAt a.0.0 w.0.0 b.0.0.0 b.0.0.1, b.0.1) (c, rest) b.2) (whole, (t.1, s.1, u.1))
+
+remove_version_takes : (bytes : List ℕ) (c : Command) (rest : List ℕ) → remove_version_at bytes ≡ Some (c, rest) → Follows command_bytes IsCommand 6 bytes (c, rest)
+unfolding remove_version_at
+remove_version_takes bytes c rest e =
+    let a = bind_some (token_at bytes) (λ version. key_at version.1 >>= λ key. Some (RemoveAt version.0 key.0, key.1)) (c, rest) e in
+    let b = bind_some (key_at a.0.1) (λ key. Some (RemoveAt a.0.0 key.0, key.1)) (c, rest) a.2 in
+    let t = token_part.takes bytes a.0.0 a.0.1 a.1 in
+    let u = key_takes a.0.1 b.0.0 b.0.1 b.1 in
+    let parts = joined bytes (token_bytes a.0.0) a.0.1 (key_bytes b.0.0) b.0.1 t.0 u.0 in
+    let whole = joined (big_bytes 1 6 ++ bytes) (big_bytes 1 6) bytes (token_bytes a.0.0 ++ key_bytes b.0.0) b.0.1 refl parts in
+    subst (λ (p : Command × List ℕ). Follows command_bytes IsCommand 6 bytes p) (some_is (RemoveAt a.0.0 b.0.0, b.0.1) (c, rest) b.2) (whole, (t.1, u.1))
+
+put_again : (view : ViewId) (k v rest : List ℕ) → IsCommand (Put view k v) → put_at ((view_id_bytes view ++ pair_bytes k v) ++ rest) ≡ Some (Put view k v, rest)
 unfolding put_at
-put_again k v rest fits =
-    ap put_at (append_assoc (key_bytes k) (value_bytes v) rest)
-    ∙ rw (key_again k (value_bytes v ++ rest) fits.0, value_again v rest fits.1) refl
+put_again view k v rest fits =
+    ap put_at (append_assoc (view_id_bytes view) (pair_bytes k v) rest)
+    ∙ rw (view_id_part.again view (pair_bytes k v ++ rest) fits.0, pair_again k v rest fits.1) refl
 
 remove_again : (k rest : List ℕ) → IsCommand (Remove k) → remove_at (key_bytes k ++ rest) ≡ Some (Remove k, rest)
 unfolding remove_at
 remove_again k rest fits = rw (key_again k rest fits) refl
 
-replace_again : (w : Option (List ℕ)) (k v rest : List ℕ) → IsCommand (Replace w k v) → replace_at ((expected_bytes w ++ (key_bytes k ++ value_bytes v)) ++ rest) ≡ Some (Replace w k v, rest)
+replace_again : (view : ViewId) (w : Option (List ℕ)) (k v rest : List ℕ) → IsCommand (Replace view w k v) → replace_at ((view_id_bytes view ++ (expected_bytes w ++ pair_bytes k v)) ++ rest) ≡ Some (Replace view w k v, rest)
 unfolding replace_at
-replace_again w k v rest fits =
-    ap replace_at (append_assoc (expected_bytes w) (key_bytes k ++ value_bytes v) rest ∙ ap (λ (t : List ℕ). expected_bytes w ++ t) (append_assoc (key_bytes k) (value_bytes v) rest))
-    ∙ rw (expected_again w (key_bytes k ++ (value_bytes v ++ rest)) fits.0, key_again k (value_bytes v ++ rest) fits.1, value_again v rest fits.2) refl
+replace_again view w k v rest fits =
+    ap replace_at (append_assoc (view_id_bytes view) (expected_bytes w ++ pair_bytes k v) rest ∙ ap (λ (t : List ℕ). view_id_bytes view ++ t) (append_assoc (expected_bytes w) (pair_bytes k v) rest))
+    ∙ rw (view_id_part.again view (expected_bytes w ++ (pair_bytes k v ++ rest)) fits.0, expected_again w (pair_bytes k v ++ rest) fits.1, pair_again k v rest fits.2) refl
+
+replace_version_again : (view : ViewId) (t : Token) (k v rest : List ℕ) → IsCommand (ReplaceAt view t k v) → replace_version_at ((view_id_bytes view ++ (token_bytes t ++ pair_bytes k v)) ++ rest) ≡ Some (ReplaceAt view t k v, rest)
+unfolding replace_version_at
+replace_version_again view t k v rest fits =
+    ap replace_version_at (append_assoc (view_id_bytes view) (token_bytes t ++ pair_bytes k v) rest ∙ ap (λ (l : List ℕ). view_id_bytes view ++ l) (append_assoc (token_bytes t) (pair_bytes k v) rest))
+    ∙ rw (view_id_part.again view (token_bytes t ++ (pair_bytes k v ++ rest)) fits.0, token_part.again t (pair_bytes k v ++ rest) fits.1, pair_again k v rest fits.2) refl
+
+remove_version_again : (t : Token) (k rest : List ℕ) → IsCommand (RemoveAt t k) → remove_version_at ((token_bytes t ++ key_bytes k) ++ rest) ≡ Some (RemoveAt t k, rest)
+unfolding remove_version_at
+remove_version_again t k rest fits =
+    ap remove_version_at (append_assoc (token_bytes t) (key_bytes k) rest)
+    ∙ rw (token_part.again t (key_bytes k ++ rest) fits.0, key_again k rest fits.1) refl
 
 -- ---- the commands
 
-abbrev kind_part : IsPart (number_at 1 1 4) (big_bytes 1) (IsWithin 1 4)
-kind_part = number_part 1 1 4 wide1 (omega arith)
+abbrev kind_part : IsPart (number_at 1 1 6) (big_bytes 1) (IsWithin 1 6)
+kind_part = number_part 1 1 6 wide1 (omega arith)
+
+abbrev by_later_kind : ℕ → List ℕ → Option (Command × List ℕ)
+by_later_kind n at = cond (eqb n 4) (Some (Clear, at)) (cond (eqb n 5) (replace_version_at at) (remove_version_at at))
 
 abbrev by_kind : ℕ → List ℕ → Option (Command × List ℕ)
-by_kind n at = cond (eqb n 1) (put_at at) (cond (eqb n 2) (remove_at at) (cond (eqb n 3) (replace_at at) (Some (Clear, at))))
+by_kind n at = cond (eqb n 1) (put_at at) (cond (eqb n 2) (remove_at at) (cond (eqb n 3) (replace_at at) (by_later_kind n at)))
+
+abbrev FollowsKind : ℕ → List ℕ → Command × List ℕ → Type 0
+FollowsKind n at p = Follows command_bytes IsCommand n at p
+
+as_kind : (n m : ℕ) (at : List ℕ) (p : Command × List ℕ) → n ≡ m → FollowsKind m at p → FollowsKind n at p
+as_kind n m at p same f = subst (λ (i : ℕ). FollowsKind i at p) (sym same) f
+
+later_kind_takes : (n : ℕ) (at : List ℕ) (c : Command) (rest : List ℕ) → IsWithin 4 6 n → by_later_kind n at ≡ Some (c, rest) → FollowsKind n at (c, rest)
+later_kind_takes n at c rest within = by (eqb n 4) (eqb n 5) refl refl where
+  by : (x y : Bool) → eqb n 4 ≡ x → eqb n 5 ≡ y → cond x (Some (Clear, at)) (cond y (replace_version_at at) (remove_version_at at)) ≡ Some (c, rest) → FollowsKind n at (c, rest)
+  by true y p q f = as_kind n 4 at (c, rest) (eqb-true n 4 p) (subst (λ (b : Command × List ℕ). FollowsKind 4 at b) (some_is (Clear, at) (c, rest) f) (refl, tt))
+  by false true p q f = as_kind n 5 at (c, rest) (eqb-true n 5 q) (replace_version_takes at c rest f)
+  by false false p q f =
+      let six : n ≡ 6 = let four = eqb-false n 4 p in let five = eqb-false n 5 q in omega (arith, four, five, within.0, within.1) in
+      as_kind n 6 at (c, rest) six (remove_version_takes at c rest f)
 
 command_takes : (bytes : List ℕ) (c : Command) (rest : List ℕ) → command_at bytes ≡ Some (c, rest) → (bytes ≡ command_bytes c ++ rest) × IsCommand c
 unfolding command_at
 command_takes bytes c rest e =
-    let a = bind_some (number_at 1 1 4 bytes) (λ kind. by_kind kind.0 kind.1) (c, rest) e in
+    let a = bind_some (number_at 1 1 6 bytes) (λ kind. by_kind kind.0 kind.1) (c, rest) e in
     let t = kind_part.takes bytes a.0.0 a.0.1 a.1 in
     let f = by a.0.0 a.0.1 (eqb a.0.0 1) (eqb a.0.0 2) (eqb a.0.0 3) refl refl refl t.1 a.2 in
     (t.0 ∙ f.0, f.1)
   where
-    as_kind : (n m : ℕ) (at : List ℕ) → n ≡ m → Follows command_bytes IsCommand m at (c, rest) → Follows command_bytes IsCommand n at (c, rest)
-    as_kind n m at same f = subst (λ (i : ℕ). Follows command_bytes IsCommand i at (c, rest)) (sym same) f
-
-    by : (n : ℕ) (at : List ℕ) (x y z : Bool) → eqb n 1 ≡ x → eqb n 2 ≡ y → eqb n 3 ≡ z → IsWithin 1 4 n
-        → cond x (put_at at) (cond y (remove_at at) (cond z (replace_at at) (Some (Clear, at)))) ≡ Some (c, rest) → Follows command_bytes IsCommand n at (c, rest)
-    by n at true y z p q r within f = as_kind n 1 at (eqb-true n 1 p) (put_takes at c rest f)
-    by n at false true z p q r within f = as_kind n 2 at (eqb-true n 2 q) (remove_takes at c rest f)
-    by n at false false true p q r within f = as_kind n 3 at (eqb-true n 3 r) (replace_takes at c rest f)
+    by : (n : ℕ) (at : List ℕ) (x y z : Bool) → eqb n 1 ≡ x → eqb n 2 ≡ y → eqb n 3 ≡ z → IsWithin 1 6 n
+        → cond x (put_at at) (cond y (remove_at at) (cond z (replace_at at) (by_later_kind n at))) ≡ Some (c, rest) → FollowsKind n at (c, rest)
+    by n at true y z p q r within f = as_kind n 1 at (c, rest) (eqb-true n 1 p) (put_takes at c rest f)
+    by n at false true z p q r within f = as_kind n 2 at (c, rest) (eqb-true n 2 q) (remove_takes at c rest f)
+    by n at false false true p q r within f = as_kind n 3 at (c, rest) (eqb-true n 3 r) (replace_takes at c rest f)
     by n at false false false p q r within f =
-        let four : n ≡ 4 = let one = eqb-false n 1 p in let two = eqb-false n 2 q in let three = eqb-false n 3 r in omega (arith, one, two, three, within.0, within.1) in
-        as_kind n 4 at four (subst (λ (b : Command × List ℕ). Follows command_bytes IsCommand 4 at b) (some_is (Clear, at) (c, rest) f) (refl, tt))
+        let later : 4 ≤ n = let one = eqb-false n 1 p in let two = eqb-false n 2 q in let three = eqb-false n 3 r in omega (arith, one, two, three, within.0) in
+        later_kind_takes n at c rest (later, within.1) f
 
 command_again : (c : Command) (rest : List ℕ) → IsCommand c → command_at (command_bytes c ++ rest) ≡ Some (c, rest)
 unfolding command_at
-command_again (Put k v) rest fits =
-    ap command_at (append_assoc (big_bytes 1 1) (key_bytes k ++ value_bytes v) rest)
-    ∙ rw (kind_part.again 1 ((key_bytes k ++ value_bytes v) ++ rest) (omega arith, omega arith)) (put_again k v rest fits)
+command_again (Put view k v) rest fits =
+    ap command_at (append_assoc (big_bytes 1 1) (view_id_bytes view ++ pair_bytes k v) rest)
+    ∙ rw (kind_part.again 1 ((view_id_bytes view ++ pair_bytes k v) ++ rest) (omega arith, omega arith)) (put_again view k v rest fits)
 command_again (Remove k) rest fits =
     ap command_at (append_assoc (big_bytes 1 2) (key_bytes k) rest)
     ∙ rw (kind_part.again 2 (key_bytes k ++ rest) (omega arith, omega arith)) (remove_again k rest fits)
-command_again (Replace w k v) rest fits =
-    ap command_at (append_assoc (big_bytes 1 3) (expected_bytes w ++ (key_bytes k ++ value_bytes v)) rest)
-    ∙ rw (kind_part.again 3 ((expected_bytes w ++ (key_bytes k ++ value_bytes v)) ++ rest) (omega arith, omega arith)) (replace_again w k v rest fits)
+command_again (Replace view w k v) rest fits =
+    ap command_at (append_assoc (big_bytes 1 3) (view_id_bytes view ++ (expected_bytes w ++ pair_bytes k v)) rest)
+    ∙ rw (kind_part.again 3 ((view_id_bytes view ++ (expected_bytes w ++ pair_bytes k v)) ++ rest) (omega arith, omega arith)) (replace_again view w k v rest fits)
 command_again Clear rest fits = rw (kind_part.again 4 rest (omega arith, omega arith)) refl
+command_again (ReplaceAt view t k v) rest fits =
+    ap command_at (append_assoc (big_bytes 1 5) (view_id_bytes view ++ (token_bytes t ++ pair_bytes k v)) rest)
+    ∙ rw (kind_part.again 5 ((view_id_bytes view ++ (token_bytes t ++ pair_bytes k v)) ++ rest) (omega arith, omega arith)) (replace_version_again view t k v rest fits)
+command_again (RemoveAt t k) rest fits =
+    ap command_at (append_assoc (big_bytes 1 6) (token_bytes t ++ key_bytes k) rest)
+    ∙ rw (kind_part.again 6 ((token_bytes t ++ key_bytes k) ++ rest) (omega arith, omega arith)) (remove_version_again t k rest fits)
 
 -- what a payload says is spelled by it
 pub command_is_spelled : (payload : List ℕ) (c : Command) → command_of payload ≡ Some c → IsCommand c × (command_bytes c ≡ payload)
@@ -178,16 +255,24 @@ spelled_is_read c fits =
 
 -- ---- a message leaves a map a map
 
-pub carried_out_is_map : (s : List (Entry (List ℕ))) (c : Command) → IsMap s → IsCommand c → IsMap (carried_out s c)
-carried_out_is_map s (Put k v) is fits = put_is_map k v s is fits.0 fits.1
-carried_out_is_map s (Remove k) is fits = without_is_map k s is
-carried_out_is_map s (Replace w k v) is fits = by (is_expected (value_of k s) w) where
-  by : (b : Bool) → IsMap (cond b (put_within k v s) s)
-  by true = put_is_map k v s is fits.1 fits.2
+pub carried_out_is_map : (s : MapState) (c : Command) → IsMap s → IsCommand c → IsMap (carried_out s c)
+carried_out_is_map s (Put view k v) is fits = put_is_map view k v s is fits.0 fits.1.0 fits.1.1
+carried_out_is_map s (Remove k) is fits = removed_is_map k s is
+carried_out_is_map s (Replace view w k v) is fits = by (is_expected (value_in (held_of k s)) w) where
+  by : (b : Bool) → IsMap (cond b (put_within view k v s) s)
+  by true = put_is_map view k v s is fits.0 fits.2.0 fits.2.1
   by false = is
-carried_out_is_map s Clear is fits = nothing_is_map
+carried_out_is_map s Clear is fits = cleared_is_map s is
+carried_out_is_map s (ReplaceAt view t k v) is fits = by (has_version (held_of k s) t) where
+  by : (b : Bool) → IsMap (cond b (put_within view k v s) s)
+  by true = put_is_map view k v s is fits.0 fits.2.0 fits.2.1
+  by false = is
+carried_out_is_map s (RemoveAt t k) is fits = by (has_version (held_of k s) t) where
+  by : (b : Bool) → IsMap (cond b (removed k s) s)
+  by true = removed_is_map k s is
+  by false = is
 
-pub applied_is_map : (s : List (Entry (List ℕ))) (from : Address) (payload : List ℕ) → IsMap s → IsAddress from → length payload ≤ PAYLOAD → IsMap (map_apply s from payload)
+pub applied_is_map : (s : MapState) (from : Address) (payload : List ℕ) → IsMap s → IsAddress from → length payload ≤ PAYLOAD → IsMap (map_apply s from payload)
 applied_is_map s from payload is address short = by (command_of payload) refl where
   by : (o : Option Command) → command_of payload ≡ o → IsMap (after_command s o)
   by None e = is

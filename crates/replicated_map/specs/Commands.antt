@@ -1,16 +1,17 @@
 -- The commands of the map: what each does, and how payloads spell them.
-use Rattle.std.specs.Prelude.{ℕ, List, [], ◌++◌, length, Option, Some, None, Bool, true, false, ◌==◌, nat_eq, if◌then◌else◌}
+use Rattle.std.specs.Prelude.{ℕ, List, ◌++◌, length, Option, Some, None, Bool, true, false, ◌==◌, nat_eq, if◌then◌else◌}
 use Rattle.std.specs.Cmp.Lexicographic.{pointwise}
 use Rattle.byteorder.specs.Endian.{big_bytes}
-use Rattle.address.specs.Ids.{Address}
+use Rattle.address.specs.Ids.{Address, ViewId}
 use Rattle.reading.specs.Reading.{Read, ◌>>=◌, number_at}
-use Rattle.keyed_entries.specs.declared.Entry.{Entry}
+use Rattle.keyed_entries.specs.Keys.{IsKey, key_bytes, key_at}
+use Rattle.tokens.specs.declared.token.Token.{Token}
+use Rattle.tokens.specs.Tokens.{is_token, IsViewId, IsToken}
+use Rattle.tokens.specs.Spelling.{view_id_bytes, view_id_at, token_bytes, token_at}
 use Rattle.replicated_map.specs.declared.command.Command.{Command}
-use Rattle.replicated_map.specs.declared.command.Command.TheVariants.{Put, Remove, Replace, Clear}
-use Rattle.keyed_entries.specs.Entries.{value_of, without}
-use Rattle.keyed_entries.specs.Keys.{IsKey}
-use Rattle.replicated_map.specs.Entries.{IsValue, put_within}
-use Rattle.keyed_entries.specs.Keys.{key_bytes, key_at}
+use Rattle.replicated_map.specs.declared.command.Command.TheVariants.{Put, Remove, Replace, Clear, ReplaceAt, RemoveAt}
+use Rattle.replicated_map.specs.declared.entries.Held.{Held}
+use Rattle.replicated_map.specs.Entries.{MapState, IsValue, held_of, value_in, put_within, removed, cleared}
 use Rattle.replicated_map.specs.Encoding.{value_bytes, value_at}
 
 -- whether a key's value is the one that is expected
@@ -20,12 +21,28 @@ is_expected None (Some w) = false
 is_expected (Some v) None = false
 is_expected (Some v) (Some w) = pointwise nat_eq v w
 
+-- whether what a key has is of a version
+abbrev pub has_version : Option Held → Token → Bool
+has_version None version = false
+has_version (Some h) version = is_token h.version version
+
 -- what a command makes of a map
-abbrev pub carried_out : List (Entry (List ℕ)) → Command → List (Entry (List ℕ))
-carried_out s (Put k v) = put_within k v s
-carried_out s (Remove k) = without k s
-carried_out s (Replace w k v) = if is_expected (value_of k s) w then put_within k v s else s
-carried_out s Clear = []
+abbrev pub carried_out : MapState → Command → MapState
+carried_out s (Put view k v) = put_within view k v s
+carried_out s (Remove k) = removed k s
+carried_out s (Replace view w k v) = if is_expected (value_in (held_of k s)) w then put_within view k v s else s
+carried_out s Clear = cleared s
+carried_out s (ReplaceAt view version k v) = if has_version (held_of k s) version then put_within view k v s else s
+carried_out s (RemoveAt version k) = if has_version (held_of k s) version then removed k s else s
+
+-- a command as it is sent in the view of an id: those that give a value spell it
+abbrev pub in_view : ViewId → Command → Command
+in_view at (Put view k v) = Put at k v
+in_view at (Remove k) = Remove k
+in_view at (Replace view w k v) = Replace at w k v
+in_view at Clear = Clear
+in_view at (ReplaceAt view version k v) = ReplaceAt at version k v
+in_view at (RemoveAt version k) = RemoveAt version k
 
 -- ---- how a payload spells a command: its kind in a byte, and its parts
 
@@ -34,11 +51,17 @@ abbrev pub expected_bytes : Option (List ℕ) → List ℕ
 expected_bytes None = big_bytes 1 0
 expected_bytes (Some w) = big_bytes 1 1 ++ value_bytes w
 
+-- a key and its new value
+abbrev pub pair_bytes : List ℕ → List ℕ → List ℕ
+pair_bytes k v = key_bytes k ++ value_bytes v
+
 abbrev pub command_bytes : Command → List ℕ
-command_bytes (Put k v) = big_bytes 1 1 ++ (key_bytes k ++ value_bytes v)
+command_bytes (Put view k v) = big_bytes 1 1 ++ (view_id_bytes view ++ pair_bytes k v)
 command_bytes (Remove k) = big_bytes 1 2 ++ key_bytes k
-command_bytes (Replace w k v) = big_bytes 1 3 ++ (expected_bytes w ++ (key_bytes k ++ value_bytes v))
+command_bytes (Replace view w k v) = big_bytes 1 3 ++ (view_id_bytes view ++ (expected_bytes w ++ pair_bytes k v))
 command_bytes Clear = big_bytes 1 4
+command_bytes (ReplaceAt view version k v) = big_bytes 1 5 ++ (view_id_bytes view ++ (token_bytes version ++ pair_bytes k v))
+command_bytes (RemoveAt version k) = big_bytes 1 6 ++ (token_bytes version ++ key_bytes k)
 
 -- ---- what a payload says
 
@@ -47,11 +70,17 @@ expected_at bytes = do
   flag ← number_at 1 0 1 bytes
   if flag.0 == 0 then Some (None, flag.1) else (value_at flag.1 >>= λ w. Some (Some w.0, w.1))
 
-unfoldable pub put_at : List ℕ → Read Command
-put_at bytes = do
+unfoldable pub pair_at : List ℕ → Read (List ℕ × List ℕ)
+pair_at bytes = do
   key ← key_at bytes
   value ← value_at key.1
-  Some (Put key.0 value.0, value.1)
+  Some ((key.0, value.0), value.1)
+
+unfoldable pub put_at : List ℕ → Read Command
+put_at bytes = do
+  view ← view_id_at bytes
+  pair ← pair_at view.1
+  Some (Put view.0 pair.0.0 pair.0.1, pair.1)
 
 unfoldable pub remove_at : List ℕ → Read Command
 remove_at bytes = do
@@ -60,15 +89,39 @@ remove_at bytes = do
 
 unfoldable pub replace_at : List ℕ → Read Command
 replace_at bytes = do
-  expected ← expected_at bytes
-  key ← key_at expected.1
-  value ← value_at key.1
-  Some (Replace expected.0 key.0 value.0, value.1)
+  view ← view_id_at bytes
+  expected ← expected_at view.1
+  pair ← pair_at expected.1
+  Some (Replace view.0 expected.0 pair.0.0 pair.0.1, pair.1)
 
+unfoldable pub replace_version_at : List ℕ → Read Command
+replace_version_at bytes = do
+  view ← view_id_at bytes
+  version ← token_at view.1
+  pair ← pair_at version.1
+  Some (ReplaceAt view.0 version.0 pair.0.0 pair.0.1, pair.1)
+
+unfoldable pub remove_version_at : List ℕ → Read Command
+remove_version_at bytes = do
+  version ← token_at bytes
+  key ← key_at version.1
+  Some (RemoveAt version.0 key.0, key.1)
+
+-- the command of a kind
+abbrev pub command_by : ℕ → List ℕ → Read Command
+command_by kind bytes =
+    if kind == 1 then put_at bytes
+    else if kind == 2 then remove_at bytes
+    else if kind == 3 then replace_at bytes
+    else if kind == 4 then Some (Clear, bytes)
+    else if kind == 5 then replace_version_at bytes
+    else remove_version_at bytes
+
+-- the command that bytes begin with
 unfoldable pub command_at : List ℕ → Read Command
 command_at bytes = do
-  kind ← number_at 1 1 4 bytes
-  if kind.0 == 1 then put_at kind.1 else if kind.0 == 2 then remove_at kind.1 else if kind.0 == 3 then replace_at kind.1 else Some (Clear, kind.1)
+  kind ← number_at 1 1 6 bytes
+  command_by kind.0 kind.1
 
 -- the command that a payload is: nothing follows it
 unfoldable pub command_of : List ℕ → Option Command
@@ -81,17 +134,22 @@ abbrev pub IsExpected : Option (List ℕ) → Type 0
 IsExpected None = Unit {0}
 IsExpected (Some w) = IsValue w
 
+abbrev pub IsPair : List ℕ × List ℕ → Type 0
+IsPair p = IsKey p.0 × IsValue p.1
+
 abbrev pub IsCommand : Command → Type 0
-IsCommand (Put k v) = IsKey k × IsValue v
+IsCommand (Put view k v) = IsViewId view × IsPair (k, v)
 IsCommand (Remove k) = IsKey k
-IsCommand (Replace w k v) = IsExpected w × IsKey k × IsValue v
+IsCommand (Replace view w k v) = IsViewId view × IsExpected w × IsPair (k, v)
 IsCommand Clear = Unit {0}
+IsCommand (ReplaceAt view version k v) = IsViewId view × IsToken version × IsPair (k, v)
+IsCommand (RemoveAt version k) = IsToken version × IsKey k
 
 -- a payload that is no command changes nothing
-abbrev pub after_command : List (Entry (List ℕ)) → Option Command → List (Entry (List ℕ))
+abbrev pub after_command : MapState → Option Command → MapState
 after_command s None = s
 after_command s (Some c) = carried_out s c
 
 -- a message asks what its payload says, whoever sent it
-abbrev pub map_apply : List (Entry (List ℕ)) → Address → List ℕ → List (Entry (List ℕ))
+abbrev pub map_apply : MapState → Address → List ℕ → MapState
 map_apply s from payload = after_command s (command_of payload)

@@ -1,45 +1,98 @@
--- The map's state: its entries, how many bytes they are encoded in, and which are a map.
-use Rattle.std.specs.Prelude.{ℕ, ◌+◌, ◌≤◌, List, length, Option, if◌then◌else◌, nat_le}
+-- The map's state: the last version, and the values that keys have, each with its version; how many bytes they are encoded in, and which are a map.
+use Rattle.std.specs.Prelude.{◌≡◌, ℕ, ◌+◌, ◌≤◌, Bool, true, ◌&&◌, List, [], length, Option, Some, None, if◌then◌else◌, nat_le}
 use Rattle.std.specs.List.{AllByRecursion, sum_by}
 use Rattle.std.specs.Option.{option_map}
 use Rattle.std.specs.Borrow.{Bor}
+use Rattle.address.specs.Ids.{ViewId}
 use Rattle.keyed_entries.specs.declared.Entry.{Entry}
 use Rattle.keyed_entries.specs.Keys.{IsKey}
-use Rattle.keyed_entries.specs.Entries.{entry_of, put, Rises}
-use Rattle.limits.specs.declared.TheConstants.{STATE}
+use Rattle.keyed_entries.specs.Entries.{entry_of, value_of, put, without, Rises}
+use Rattle.tokens.specs.declared.token.Token.{Token}
+use Rattle.tokens.specs.Tokens.{is_up_to, next_token, IsToken}
+use Rattle.limits.specs.declared.TheConstants.{STATE, GREATEST_NUMBER}
 use Rattle.replicated_map.specs.declared.TheConstants.{VALUE}
+use Rattle.replicated_map.specs.declared.entries.Held.{Held}
 
 -- the values that a map may hold: of at most 400 bytes
 abbrev pub IsValue : List ℕ → Type 0
 IsValue v = length v ≤ VALUE
 
--- how many bytes an entry is encoded in: the lengths of its key and value in three
-abbrev pub entry_size : Entry (List ℕ) → ℕ
-entry_size e = 3 + length e.key + length e.value
+-- a value of a version
+abbrev pub held : Token → List ℕ → Held
+held version v = record { version = version; value = v }
 
--- how many bytes a state is encoded in: the number of its entries in four
-abbrev pub map_size : List (Entry (List ℕ)) → ℕ
-map_size s = 4 + sum_by entry_size s
+-- the last version that was given, and what the keys have
+pub record MapState : Type 0 where
+  pub last : Token
+  pub entries : List (Entry Held)
 
--- the entries that a map may hold
-pub record IsEntry (e : Entry (List ℕ)) : Type 0 where
+abbrev pub state_of : Token → List (Entry Held) → MapState
+state_of last entries = record { last = last; entries = entries }
+
+-- what a key has: a value and its version
+abbrev pub held_of : List ℕ → MapState → Option Held
+held_of k s = value_of k s.entries
+
+abbrev pub value_in : Option Held → Option (List ℕ)
+value_in found = option_map (λ h. h.value) found
+
+abbrev pub version_in : Option Held → Option Token
+version_in found = option_map (λ h. h.version) found
+
+-- how many bytes an entry is encoded in: the lengths of its key and value in three, its version in 22
+abbrev pub entry_size : Entry Held → ℕ
+entry_size e = 25 + length e.key + length e.value.value
+
+-- how many bytes a state is encoded in: the last version in 22, the number of its entries in four
+abbrev pub map_size : List (Entry Held) → ℕ
+map_size entries = 26 + sum_by entry_size entries
+
+-- ---- the states that there are
+
+pub record IsEntry (e : Entry Held) : Type 0 where
   pub key : IsKey e.key
-  pub value : IsValue e.value
+  pub version : IsToken e.value.version
+  pub value : IsValue e.value.value
 
--- the states of a map: the keys rise, and the encoding fits into a state
-pub record IsMap (s : List (Entry (List ℕ))) : Type 0 where
-  pub entries : AllByRecursion IsEntry s
-  pub rises : Rises s
-  pub fits : map_size s ≤ STATE
+-- no value has a version above the last
+abbrev pub AreUpTo : Token → List (Entry Held) → Type 0
+AreUpTo last entries = AllByRecursion (λ e. is_up_to e.value.version last ≡ true) entries
 
--- with a value for a key, if the state stays within its limit
-abbrev pub put_within : List ℕ → List ℕ → List (Entry (List ℕ)) → List (Entry (List ℕ))
-put_within k v s = if nat_le (map_size (put k v s)) STATE then put k v s else s
+-- the states of a map: the keys rise, no version is above the last, and the encoding fits into a state
+pub record IsMap (s : MapState) : Type 0 where
+  pub last : IsToken s.last
+  pub entries : AllByRecursion IsEntry s.entries
+  pub versions : AreUpTo s.last s.entries
+  pub rises : Rises s.entries
+  pub fits : map_size s.entries ≤ STATE
 
--- a value that is lent
-abbrev pub lent : Option (Bor (List ℕ)) → Option (List ℕ)
-lent found = option_map (λ v. v.now) found
+-- ---- what a command makes of a state
 
--- an entry that is lent as its key and its value
-abbrev pub entry_lent : Option (Bor (List ℕ) × Bor (List ℕ)) → Option (Entry (List ℕ))
+-- with a value for a key, of the next version
+abbrev pub given : ViewId → List ℕ → List ℕ → MapState → MapState
+given view k v s = record { last = next_token view s.last; entries = put k (held (next_token view s.last) v) s.entries }
+
+-- whether a state is within its limits: its bytes, and the count of its last version
+abbrev pub is_within : MapState → Bool
+is_within s = nat_le (map_size s.entries) STATE && nat_le s.last.count GREATEST_NUMBER
+
+-- with a value for a key, if the state stays within its limits
+abbrev pub put_within : ViewId → List ℕ → List ℕ → MapState → MapState
+put_within view k v s = if is_within (given view k v s) then given view k v s else s
+
+-- without what a key has
+abbrev pub removed : List ℕ → MapState → MapState
+removed k s = record { last = s.last; entries = without k s.entries }
+
+-- without what any key has
+abbrev pub cleared : MapState → MapState
+cleared s = record { last = s.last; entries = [] }
+
+-- ---- what is lent of it
+
+abbrev pub held_lent : Option (Bor Held) → Option Held
+held_lent found = option_map (λ h. h.now) found
+
+-- an entry that is lent as its key and what it has
+abbrev pub entry_lent : Option (Bor (List ℕ) × Bor Held) → Option (Entry Held)
 entry_lent found = option_map (λ e. entry_of e.0.now e.1.now) found

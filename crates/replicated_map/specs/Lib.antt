@@ -2,9 +2,12 @@ pub mod Entries
 pub mod Encoding
 pub mod Commands
 pub mod Changes
+pub mod Outcomes
+pub mod Versions
 pub mod Meanings
 pub mod EncodingLaws
 pub mod MapLaws
 pub mod CommandLaws
 pub mod Words
 pub mod MapText
+pub mod Stamps

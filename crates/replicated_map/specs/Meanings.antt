@@ -1,11 +1,14 @@
 -- What the map means as a receiver.
-use Rattle.std.specs.Prelude.{ℕ, List, []}
+use Rattle.std.specs.Prelude.{[]}
 use Rattle.state_transfer.specs.Meanings.{Meaning}
-use Rattle.keyed_entries.specs.declared.Entry.{Entry}
-use Rattle.replicated_map.specs.Entries.{IsMap}
+use Rattle.tokens.specs.Tokens.{least_token}
+use Rattle.replicated_map.specs.Entries.{MapState, IsMap}
 use Rattle.replicated_map.specs.Encoding.{map_encode, map_decode}
 use Rattle.replicated_map.specs.Commands.{map_apply}
 
--- at the beginning no key has a value
-abbrev pub map_meaning : Meaning (List (Entry (List ℕ)))
-map_meaning = record { opening = []; apply = map_apply; encode = map_encode; decode = map_decode; is_state = IsMap }
+-- at the beginning no key has a value, and no version was given
+abbrev pub no_entries : MapState
+no_entries = record { last = least_token; entries = [] }
+
+abbrev pub map_meaning : Meaning MapState
+map_meaning = record { opening = no_entries; apply = map_apply; encode = map_encode; decode = map_decode; is_state = IsMap }

@@ -2,16 +2,19 @@
 
 ghost use Rattle.std.specs.Prelude.{◌≡◌, IfOk};
 ghost use Rattle.reading.specs.Reading.{IsReadOrNone, list_at};
-ghost use Rattle.replicated_map.specs.Encoding.{value_at, entry_at, entries_at, map_decode};
-ghost use Rattle.replicated_map.specs.Commands.{expected_at, put_at, remove_at, replace_at, command_at};
+ghost use Rattle.tokens.specs.Spelling.{token_at};
+ghost use Rattle.replicated_map.specs.Entries.{state_of};
+ghost use Rattle.replicated_map.specs.Encoding.{value_at, entry_at, state_at, map_decode, are_up_to};
+ghost use Rattle.replicated_map.specs.Commands.{expected_at, pair_at, put_at, remove_at, replace_at, replace_version_at, remove_version_at, command_at};
 
-use crate::entries::{copied, size_of_all};
-use crate::{Command, VALUE, ValueBytes};
-use keyed_entries::{Entry, is_rising, key_from};
+use crate::entries::copied;
+use crate::{Command, Held, VALUE, ValueBytes, Version};
+use keyed_entries::{Entry, KeyBytes, is_rising, key_from};
 use limits::STATE;
 use reading::Reader;
 use std::alloc::{AllocError, Global};
-use trace_props::Bytes;
+use std::cmp::Ordering;
+use tokens::{Token, token_from, view_id_from};
 
 #[tactic(auto, unfolding(crate::specs::Encoding::value_at))]
 fn value_from<'a>(from: &mut Reader<'a>) -> Option<ValueBytes<'a>>
@@ -33,13 +36,34 @@ fn expected_from<'a>(from: &mut Reader<'a>) -> Option<Option<ValueBytes<'a>>>
     Some(Some(value))
 }
 
+// A version that a command names.
+fn version_from(from: &mut Reader<'_>) -> Option<Version>
+    ensures { IsReadOrNone (λ x. (x, from.new)) result (token_at from.old) }
+{
+    let token = token_from(from)?;
+    match Version::new(token) {
+        Some(version) => Some(version),
+        None => unreachable!(),
+    }
+}
+
+// A key and its new value.
+#[tactic(auto, unfolding(crate::specs::Commands::pair_at))]
+fn pair_from<'a>(from: &mut Reader<'a>) -> Option<(KeyBytes<'a>, ValueBytes<'a>)>
+    ensures { IsReadOrNone (λ x. (x, from.new)) result (pair_at from.old) }
+{
+    let key = key_from(from)?;
+    let value = value_from(from)?;
+    Some((key, value))
+}
+
 #[tactic(auto, unfolding(crate::specs::Commands::put_at))]
 fn put_from<'a>(from: &mut Reader<'a>) -> Option<Command<'a>>
     ensures { IsReadOrNone (λ x. (x, from.new)) result (put_at from.old) }
 {
-    let key = key_from(from)?;
-    let value = value_from(from)?;
-    Some(Command::Put { key, value })
+    let view = view_id_from(from)?;
+    let (key, value) = pair_from(from)?;
+    Some(Command::Put { view, key, value })
 }
 
 #[tactic(auto, unfolding(crate::specs::Commands::remove_at))]
@@ -54,14 +78,39 @@ fn remove_from<'a>(from: &mut Reader<'a>) -> Option<Command<'a>>
 fn replace_from<'a>(from: &mut Reader<'a>) -> Option<Command<'a>>
     ensures { IsReadOrNone (λ x. (x, from.new)) result (replace_at from.old) }
 {
+    let view = view_id_from(from)?;
     let expected = expected_from(from)?;
-    let key = key_from(from)?;
-    let value = value_from(from)?;
+    let (key, value) = pair_from(from)?;
     Some(Command::Replace {
+        view,
         expected,
         key,
         value,
     })
+}
+
+#[tactic(auto, unfolding(crate::specs::Commands::replace_version_at))]
+fn replace_at_from<'a>(from: &mut Reader<'a>) -> Option<Command<'a>>
+    ensures { IsReadOrNone (λ x. (x, from.new)) result (replace_version_at from.old) }
+{
+    let view = view_id_from(from)?;
+    let version = version_from(from)?;
+    let (key, value) = pair_from(from)?;
+    Some(Command::ReplaceAt {
+        view,
+        version,
+        key,
+        value,
+    })
+}
+
+#[tactic(auto, unfolding(crate::specs::Commands::remove_version_at))]
+fn remove_at_from<'a>(from: &mut Reader<'a>) -> Option<Command<'a>>
+    ensures { IsReadOrNone (λ x. (x, from.new)) result (remove_version_at from.old) }
+{
+    let version = version_from(from)?;
+    let key = key_from(from)?;
+    Some(Command::RemoveAt { version, key })
 }
 
 // The command that bytes begin with.
@@ -69,7 +118,7 @@ fn replace_from<'a>(from: &mut Reader<'a>) -> Option<Command<'a>>
 pub(crate) fn command_from<'a>(from: &mut Reader<'a>) -> Option<Command<'a>>
     ensures { IsReadOrNone (λ x. (x, from.new)) result (command_at from.old) }
 {
-    let kind = from.u8(1, 4)?;
+    let kind = from.u8(1, 6)?;
     if kind == 1 {
         return put_from(from);
     }
@@ -79,20 +128,29 @@ pub(crate) fn command_from<'a>(from: &mut Reader<'a>) -> Option<Command<'a>>
     if kind == 3 {
         return replace_from(from);
     }
-    Some(Command::Clear)
+    if kind == 4 {
+        return Some(Command::Clear);
+    }
+    if kind == 5 {
+        return replace_at_from(from);
+    }
+    remove_at_from(from)
 }
 
 #[tactic(auto, unfolding(crate::specs::Encoding::entry_at))]
-fn entry_from(alloc: Global, from: &mut Reader<'_>) -> Result<Option<Entry<Bytes>>, AllocError>
+fn entry_from(alloc: Global, from: &mut Reader<'_>) -> Result<Option<Entry<Held>>, AllocError>
     ensures { IfOk result (λ e. IsReadOrNone (λ x. (x, from.new)) e (entry_at from.old)) }
 {
     let Some(key) = key_from(from) else {
         return Ok(None);
     };
+    let Some(version) = token_from(from) else {
+        return Ok(None);
+    };
     let Some(value) = value_from(from) else {
         return Ok(None);
     };
-    let entry = copied(alloc, &key, &value)?;
+    let entry = copied(alloc, &key, &version, &value)?;
     Ok(Some(entry))
 }
 
@@ -100,7 +158,7 @@ fn some_entries(
     alloc: Global,
     count: u32,
     from: &mut Reader<'_>,
-) -> Result<Option<Vec<Entry<Bytes>>>, AllocError>
+) -> Result<Option<Vec<Entry<Held>>>, AllocError>
     ensures { IfOk result (λ entries. IsReadOrNone (λ l. (l.items, from.new)) entries (list_at entry_at count from.old)) }
 {
     let mut entries = Vec::new(alloc);
@@ -113,39 +171,56 @@ fn some_entries(
     Ok(Some(entries))
 }
 
-#[tactic(auto, unfolding(crate::specs::Encoding::entries_at))]
-fn entries_from(
-    alloc: Global,
-    from: &mut Reader<'_>,
-) -> Result<Option<Vec<Entry<Bytes>>>, AllocError>
-    ensures { IfOk result (λ entries. IsReadOrNone (λ l. (l.items, from.new)) entries (entries_at from.old)) }
+// The last version that was given, and the entries.
+#[derive(Debug, Drop)]
+pub(crate) struct Contents {
+    pub(crate) last: Token,
+    pub(crate) entries: Vec<Entry<Held>>,
+}
+
+#[tactic(auto, unfolding(crate::specs::Encoding::state_at))]
+fn contents_from(alloc: Global, from: &mut Reader<'_>) -> Result<Option<Contents>, AllocError>
+    ensures { IfOk result (λ read. IsReadOrNone (λ c. (state_of c.last c.entries.items, from.new)) read (state_at from.old)) }
 {
+    let Some(last) = token_from(from) else {
+        return Ok(None);
+    };
     let Some(count) = from.u32(0, u32::MAX) else {
         return Ok(None);
     };
-    some_entries(alloc, count, from)
+    let Some(entries) = some_entries(alloc, count, from)? else {
+        return Ok(None);
+    };
+    Ok(Some(Contents { last, entries }))
 }
 
-// The entries of the state that bytes stand for.
-#[tactic(auto, unfolding(crate::specs::Encoding::map_decode), using(crate::specs::MapLaws::read_counted))]
-pub(crate) fn entries_of(
-    alloc: Global,
-    bytes: &[u8],
-) -> Result<Option<Vec<Entry<Bytes>>>, AllocError>
-    ensures { IfOk result (λ entries. IsReadOrNone (λ l. l.items) entries (map_decode bytes.now)) }
+// Whether no value has a version above the last.
+fn are_up_to(last: Token, entries: &[Entry<Held>]) -> bool
+    ensures { result ≡ are_up_to last entries.now }
+{
+    entries.iter().all(|entry| entry.value.version.cmp(&last) != Ordering::Greater)
+}
+
+// The state that bytes stand for.
+#[tactic(auto, unfolding(crate::specs::Encoding::map_decode))]
+pub(crate) fn contents_of(alloc: Global, bytes: &[u8]) -> Result<Option<Contents>, AllocError>
+    ensures { IfOk result (λ read. IsReadOrNone (λ c. state_of c.last c.entries.items) read (map_decode bytes.now)) }
 {
     let mut from = Reader::new(bytes);
-    let Some(entries) = entries_from(alloc, &mut from)? else {
+    let Some(contents) = contents_from(alloc, &mut from)? else {
         return Ok(None);
     };
     if !from.is_empty() {
         return Ok(None);
     }
-    if !is_rising(entries.as_slice()) {
+    if bytes.len() > STATE {
         return Ok(None);
     }
-    if size_of_all(entries.as_slice()) > STATE {
+    if !is_rising(contents.entries.as_slice()) {
         return Ok(None);
     }
-    Ok(Some(entries))
+    if !are_up_to(contents.last, contents.entries.as_slice()) {
+        return Ok(None);
+    }
+    Ok(Some(contents))
 }

@@ -1,17 +1,21 @@
 //! Commands and a map's state as bytes. What grows is grown once, before the first byte is put.
 
 ghost use Rattle.std.specs.Prelude.{◌≡◌, ◌≤◌, ◌+◌, ◌++◌, length, vec_len, vec_capacity, OnOk, OnErr};
-ghost use Rattle.std.specs.List.{flat_map, AllByRecursion};
-ghost use Rattle.replicated_map.specs.Entries.{IsValue, IsEntry, IsMap, map_size};
+ghost use Rattle.std.specs.List.{flat_map, sum_by, AllByRecursion};
+ghost use Rattle.tokens.specs.Tokens.{IsToken};
+ghost use Rattle.tokens.specs.Spelling.{token_bytes};
+ghost use Rattle.replicated_map.specs.Entries.{IsValue, IsEntry, IsMap, state_of, entry_size, map_size};
 ghost use Rattle.replicated_map.specs.Encoding.{value_bytes, entry_bytes, map_encode};
-ghost use Rattle.replicated_map.specs.Commands.{IsCommand, IsExpected, expected_bytes, command_bytes};
+ghost use Rattle.replicated_map.specs.Commands.{IsCommand, IsExpected, IsPair, expected_bytes, pair_bytes, command_bytes};
 ghost use Rattle.replicated_map.specs.declared.TheConstants.{VALUE, LONGEST_COMMAND};
+ghost use Rattle.keyed_entries.specs.declared.TheConstants.{KEY};
+ghost use Rattle.tokens.specs.declared.TheConstants.{TOKEN_BYTES};
 
-use crate::{Command, ValueBytes};
+use crate::{Command, Held, ValueBytes, Version};
 use big_endian::{put, put_u8, put_u16, put_u32};
-use keyed_entries::{Entry, put_key};
+use keyed_entries::{Entry, KeyBytes, put_key};
 use std::alloc::AllocError;
-use trace_props::Bytes;
+use tokens::{Token, put_token, put_view_id};
 
 fn put_value(value: &[u8], out: &mut Vec<u8>)
     requires value { IsValue value.now }
@@ -39,6 +43,25 @@ fn put_expected(expected: &Option<ValueBytes<'_>>, out: &mut Vec<u8>)
     }
 }
 
+fn put_version(version: &Version, out: &mut Vec<u8>)
+    requires { vec_len out.old + TOKEN_BYTES ≤ vec_capacity out.old }
+    ensures items { out.new.items ≡ out.old.items ++ token_bytes version.now }
+    ensures room { vec_capacity out.old ≤ vec_capacity out.new }
+    ensures fits { IsToken version.now }
+{
+    put_token(version.token(), out);
+}
+
+// Appends a key and its new value.
+fn put_pair(key: &KeyBytes<'_>, value: &ValueBytes<'_>, out: &mut Vec<u8>)
+    requires { vec_len out.old + (1 + KEY + 2 + VALUE) ≤ vec_capacity out.old }
+    ensures items { out.new.items ≡ out.old.items ++ pair_bytes key.now value.now }
+    ensures fits { IsPair (key.now, value.now) }
+{
+    put_key(key.as_slice(), out);
+    put_value(value.as_slice(), out);
+}
+
 // Appends a command.
 pub(crate) fn put_command(command: &Command<'_>, out: &mut Vec<u8>)
     requires { vec_len out.old + LONGEST_COMMAND ≤ vec_capacity out.old }
@@ -46,42 +69,61 @@ pub(crate) fn put_command(command: &Command<'_>, out: &mut Vec<u8>)
     ensures fits { IsCommand command.now }
 {
     match command {
-        Command::Put { key, value } => {
+        Command::Put { view, key, value } => {
             put_u8(1, out);
-            put_key(key.as_slice(), out);
-            put_value(value.as_slice(), out);
+            put_view_id(*view, out);
+            put_pair(key, value, out);
         }
         Command::Remove(key) => {
             put_u8(2, out);
             put_key(key.as_slice(), out);
         }
         Command::Replace {
+            view,
             expected,
             key,
             value,
         } => {
             put_u8(3, out);
+            put_view_id(*view, out);
             put_expected(expected, out);
-            put_key(key.as_slice(), out);
-            put_value(value.as_slice(), out);
+            put_pair(key, value, out);
         }
         Command::Clear => put_u8(4, out),
+        Command::ReplaceAt {
+            view,
+            version,
+            key,
+            value,
+        } => {
+            put_u8(5, out);
+            put_view_id(*view, out);
+            put_version(version, out);
+            put_pair(key, value, out);
+        }
+        Command::RemoveAt { version, key } => {
+            put_u8(6, out);
+            put_version(version, out);
+            put_key(key.as_slice(), out);
+        }
     }
 }
 
-fn put_entry(entry: &Entry<Bytes>, out: &mut Vec<u8>)
+fn put_entry(entry: &Entry<Held>, out: &mut Vec<u8>)
     requires entry { IsEntry entry.now }
-    requires room { vec_len out.old + length (entry_bytes entry.now) ≤ vec_capacity out.old }
+    requires room { vec_len out.old + entry_size entry.now ≤ vec_capacity out.old }
     ensures items { out.new.items ≡ out.old.items ++ entry_bytes entry.now }
     ensures room { vec_capacity out.old ≤ vec_capacity out.new }
 {
     put_key(entry.key.as_slice(), out);
-    put_value(entry.value.as_slice(), out);
+    put_token(entry.value.version, out);
+    put_value(entry.value.value.as_slice(), out);
 }
 
-fn put_entries(entries: &[Entry<Bytes>], out: &mut Vec<u8>)
+#[tactic(auto, using(crate::specs::MapLaws::length_entry))]
+fn put_entries(entries: &[Entry<Held>], out: &mut Vec<u8>)
     requires entries { AllByRecursion IsEntry entries.now }
-    requires room { vec_len out.old + length (flat_map entry_bytes entries.now) ≤ vec_capacity out.old }
+    requires room { vec_len out.old + sum_by entry_size entries.now ≤ vec_capacity out.old }
     ensures items { out.new.items ≡ out.old.items ++ flat_map entry_bytes entries.now }
     ensures room { vec_capacity out.old ≤ vec_capacity out.new }
 {
@@ -90,30 +132,31 @@ fn put_entries(entries: &[Entry<Bytes>], out: &mut Vec<u8>)
     }
 }
 
-#[tactic(auto, using(crate::specs::MapLaws::count_of))]
-fn put_all(entries: &[Entry<Bytes>], out: &mut Vec<u8>)
-    requires map { IsMap entries.now }
-    requires room { vec_len out.old + length (map_encode entries.now) ≤ vec_capacity out.old }
-    ensures { out.new.items ≡ out.old.items ++ map_encode entries.now }
+#[tactic(auto, using(crate::specs::MapLaws::few_entries))]
+fn put_all(last: Token, entries: &[Entry<Held>], out: &mut Vec<u8>)
+    requires map { IsMap (state_of last entries.now) }
+    requires room { vec_len out.old + map_size entries.now ≤ vec_capacity out.old }
+    ensures { out.new.items ≡ out.old.items ++ map_encode (state_of last entries.now) }
 {
+    put_token(last, out);
     put_u32(entries.len() as u32, out);
     put_entries(entries, out);
 }
 
-// Appends the encoding of a map's entries, whose room, size bytes, is taken at once. On refusal the vector's items are
+// Appends the encoding of a map's state, whose room, size bytes, is taken at once. On refusal the vector's items are
 // as they were.
-#[tactic(auto, using(crate::specs::MapLaws::encoded_size))]
 pub(crate) fn put_map(
-    entries: &[Entry<Bytes>],
+    last: Token,
+    entries: &[Entry<Held>],
     size: usize,
     out: &mut Vec<u8>,
 ) -> Result<(), AllocError>
-    requires map { IsMap entries.now }
+    requires map { IsMap (state_of last entries.now) }
     requires size { size ≡ map_size entries.now }
-    ensures ok { OnOk result (out.new.items ≡ out.old.items ++ map_encode entries.now) }
+    ensures ok { OnOk result (out.new.items ≡ out.old.items ++ map_encode (state_of last entries.now)) }
     ensures err { OnErr result (out.new.items ≡ out.old.items) }
 {
     out.reserve(size)?;
-    put_all(entries, out);
+    put_all(last, entries, out);
     Ok(())
 }

@@ -10,6 +10,7 @@ use address::{Address, ViewId};
 use application::Application;
 use script_reader::{Payloads, Unheard};
 use std::alloc::{AllocError, Global};
+use tokens::Token;
 use trace_props::Bytes;
 use view::View;
 
@@ -27,36 +28,43 @@ impl Payloads for ReplicatedMap {
 
     ghost payload_of = { map_payload };
 
-    /// The spelling of `put KEY VALUE`, `remove KEY`, `replace KEY OLD NEW` or `clear`.
+    /// The spelling of `put KEY VALUE`, `remove KEY`, `replace KEY OLD NEW`, `clear`, `replace_at KEY VERSION NEW` or `remove_at KEY VERSION`, sent in the least view.
     fn payload(alloc: Global, text: &[u8]) -> Result<Bytes, Unheard> {
-        match command_said(text) {
-            Err(fault) => Err(Unheard::Fault(fault)),
-            Ok(command) => Ok(spelled(alloc, &command)?),
-        }
+        ReplicatedMap::payload_in_view(alloc, Token::least().view, text)
     }
 }
 
 impl Application for ReplicatedMap {
-    ghost use Rattle.std.specs.Prelude.{None};
-    ghost use Rattle.replicated_map.specs.Words.{map_payload};
+    ghost use Rattle.std.specs.Prelude.{None, false};
+    ghost use Rattle.replicated_map.specs.Words.{map_payload_within};
     ghost use Rattle.replicated_map.specs.MapText.{map_line};
 
     ghost line_of = { map_line };
 
-    ghost payload_within = { λ view. map_payload };
+    ghost payload_within = { map_payload_within };
 
     ghost first_said = { λ view. None };
+
+    ghost is_said_again = { false };
 
     fn put_line(&self, member: &Address, out: &mut Vec<u8>) -> Result<(), AllocError> {
         put_map_line(out, member, self.entries())
     }
 
-    /// The spelling of the same words in each view.
-    fn payload_in_view(alloc: Global, _view: ViewId, text: &[u8]) -> Result<Bytes, Unheard> {
-        ReplicatedMap::payload(alloc, text)
+    /// The spelling of the same words, sent in this view.
+    fn payload_in_view(alloc: Global, view: ViewId, text: &[u8]) -> Result<Bytes, Unheard> {
+        match command_said(view, text) {
+            Err(fault) => Err(Unheard::Fault(fault)),
+            Ok(command) => Ok(spelled(alloc, &command)?),
+        }
     }
 
     fn first_message(_alloc: Global, _view: &View) -> Result<Option<Bytes>, AllocError> {
         Ok(None)
+    }
+
+    /// No: it would overwrite what others wrote since.
+    fn says_again() -> bool {
+        false
     }
 }

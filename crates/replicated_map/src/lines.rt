@@ -1,30 +1,31 @@
 //! The line of a map (docs/FORMATS.md, "The map's lines").
 
-ghost use Rattle.std.specs.Prelude.{◌≡◌, ◌++◌, ◌∷◌, OnOk};
-ghost use Rattle.vsync_text.specs.TraceText.{GoesOnFrom};
-ghost use Rattle.replicated_map.specs.MapText.{text_of_entry, text_of_more, text_of_entries, map_line};
+ghost use Rattle.std.specs.Prelude.{◌≡◌, ◌++◌, ◌∷◌, codes, OnOk};
+ghost use Rattle.address.specs.Ids.{text_of_address};
+ghost use Rattle.vsync_text.specs.TraceText.{GoesOnFrom, field, line_with};
+ghost use Rattle.replicated_map.specs.MapText.{text_of_entry, text_of_more, text_of_entries};
 
+use crate::Held;
 use address::Address;
 use keyed_entries::Entry;
 use std::alloc::AllocError;
-use trace_props::Bytes;
 use vsync_text::{put, put_address, put_hex};
 
 // Appends an entry behind one byte.
 #[tactic(auto, using(vsync_text::proofs::KeepFront::goes_on))]
-fn put_entry(out: &mut Vec<u8>, before: u8, entry: &Entry<Bytes>) -> Result<(), AllocError>
+fn put_entry(out: &mut Vec<u8>, before: u8, entry: &Entry<Held>) -> Result<(), AllocError>
     ensures text { OnOk result (out.new.items ≡ out.old.items ++ before ∷ text_of_entry entry.now) }
     ensures kept { GoesOnFrom out.old.items out.new.items }
 {
     put(out, &[before])?;
     put_hex(out, entry.key.as_slice())?;
     put(out, b":")?;
-    put_hex(out, entry.value.as_slice())
+    put_hex(out, entry.value.value.as_slice())
 }
 
 // Appends entries, each behind a comma.
 #[tactic(auto, using(vsync_text::proofs::KeepFront::goes_on, vsync_text::proofs::KeepFront::stays))]
-fn put_more(out: &mut Vec<u8>, entries: &[Entry<Bytes>]) -> Result<(), AllocError>
+fn put_more(out: &mut Vec<u8>, entries: &[Entry<Held>]) -> Result<(), AllocError>
     ensures text { OnOk result (out.new.items ≡ out.old.items ++ text_of_more entries.now) }
     ensures kept { GoesOnFrom out.old.items out.new.items }
 {
@@ -36,7 +37,7 @@ fn put_more(out: &mut Vec<u8>, entries: &[Entry<Bytes>]) -> Result<(), AllocErro
 
 // Appends entries behind a space, joined by commas, `-` for none.
 #[tactic(auto, using(vsync_text::proofs::KeepFront::goes_on))]
-fn put_entries(out: &mut Vec<u8>, entries: &[Entry<Bytes>]) -> Result<(), AllocError>
+fn put_entries(out: &mut Vec<u8>, entries: &[Entry<Held>]) -> Result<(), AllocError>
     ensures text { OnOk result (out.new.items ≡ out.old.items ++ 32 ∷ text_of_entries entries.now) }
     ensures kept { GoesOnFrom out.old.items out.new.items }
 {
@@ -54,9 +55,9 @@ fn put_entries(out: &mut Vec<u8>, entries: &[Entry<Bytes>]) -> Result<(), AllocE
 pub(crate) fn put_map_line(
     out: &mut Vec<u8>,
     member: &Address,
-    entries: &[Entry<Bytes>],
+    entries: &[Entry<Held>],
 ) -> Result<(), AllocError>
-    ensures text { OnOk result (out.new.items ≡ out.old.items ++ map_line member.now entries.now) }
+    ensures text { OnOk result (out.new.items ≡ out.old.items ++ line_with (codes "map") (field (text_of_address member.now) ++ field (text_of_entries entries.now))) }
     ensures kept { GoesOnFrom out.old.items out.new.items }
 {
     put(out, b"map")?;

@@ -1,154 +1,208 @@
 ghost use Rattle.std.specs.Prelude.{◌≡◌, ◌==◌, ◌≤◌, ◌++◌, true, false, length, slice_get, IfOk, OnOk, OnErr, MatchOption};
-ghost use Rattle.keyed_entries.specs.Entries.{without, value_of};
-ghost use Rattle.replicated_map.specs.Entries.{put_within, lent, entry_lent};
+ghost use Rattle.keyed_entries.specs.Entries.{Rises};
+ghost use Rattle.tokens.specs.Tokens.{next_token};
+ghost use Rattle.replicated_map.specs.Entries.{put_within, removed, map_size, value_in, held_of, held_lent, entry_lent};
 ghost use Rattle.replicated_map.specs.Encoding.{map_encode, map_decode};
-ghost use Rattle.replicated_map.specs.Commands.{is_expected, carried_out, map_apply};
+ghost use Rattle.replicated_map.specs.Commands.{is_expected, has_version, carried_out, map_apply};
 ghost use Rattle.limits.specs.declared.TheConstants.{STATE};
 
-use crate::decoding::entries_of;
+use crate::changing::{has_room, put_at, size_with};
+use crate::decoding::contents_of;
 use crate::encoding::put_map;
-use crate::entries::{copied, size_of_all, value};
-use crate::{Command, ValueBytes};
-use address::Address;
+use crate::entries::{found_at, size_of_all};
+use crate::{Command, Held, ValueBytes, Version};
+use address::{Address, ViewId};
 use keyed_entries::{Entry, KeyBytes, Place, find};
-use limits::STATE;
 use state_transfer::Receiver;
 use std::alloc::{AllocError, Global};
+use std::cmp::Ordering;
 use std::marker::Model;
-use trace_props::Bytes;
+use tokens::{Token, known_view_id};
 use view::View;
 
-/// A copy of the map. Contracts see it as the list of its entries, their keys rising (docs/FORMATS.md, "The map's state").
+/// A copy of the map. Contracts see it as the last version that was given, and the list of its entries, their keys rising (docs/FORMATS.md, "The map's state").
 #[derive(Debug, Drop)]
 pub struct ReplicatedMap {
-    entries: Vec<Entry<Bytes>>,
-    // In how many bytes the entries are encoded as a state.
+    last: Token,
+    entries: Vec<Entry<Held>>,
+    // In how many bytes the state is encoded.
     size: usize,
 }
 
 impl Model for ReplicatedMap {
-    ghost use Rattle.std.specs.Prelude.{List, ℕ, ◌≡◌};
-    ghost use Rattle.keyed_entries.specs.declared.Entry.{Entry};
-    ghost use Rattle.replicated_map.specs.Entries.{IsMap, map_size};
+    ghost use Rattle.std.specs.Prelude.{◌≡◌};
+    ghost use Rattle.replicated_map.specs.Entries.{MapState, state_of, IsMap, map_size};
 
-    ghost Value = { List (Entry (List ℕ)) };
+    ghost Value = { MapState };
 
-    ghost view = { λ m. m.entries.items };
+    ghost view = { λ m. state_of m.last m.entries.items };
 
-    ghost invariant = { λ m. IsMap m.entries.items × (m.size ≡ map_size m.entries.items) };
+    ghost invariant = { λ m. IsMap (state_of m.last m.entries.items) × (m.size ≡ map_size m.entries.items) };
 }
 
-// Whether a value that is held is the one that is expected.
-fn is_as_expected(held: Option<&[u8]>, expected: &Option<ValueBytes<'_>>) -> bool
-    ensures { result ≡ is_expected (lent held.entry) expected.now }
+// Whether what a key has is the value that is expected.
+pub(crate) fn is_as_expected(found: Option<&Held>, expected: &Option<ValueBytes<'_>>) -> bool
+    ensures { result ≡ is_expected (value_in (held_lent found.entry)) expected.now }
 {
-    match (held, expected) {
+    match (found, expected) {
         (None, None) => true,
         (None, Some(_)) => false,
         (Some(_), None) => false,
-        (Some(held), Some(expected)) => held == expected.as_slice(),
+        (Some(held), Some(expected)) => held.value.as_slice() == expected.as_slice(),
+    }
+}
+
+// Whether what a key has is of this version.
+pub(crate) fn is_of_version(found: Option<&Held>, version: &Version) -> bool
+    ensures { result ≡ has_version (held_lent found.entry) version.now }
+{
+    match found {
+        None => false,
+        Some(held) => held.version.cmp(&version.token()) == Ordering::Equal,
     }
 }
 
 impl ReplicatedMap {
     /// How many keys have a value.
     pub fn len(&self) -> usize
-        ensures { result ≡ length self.now }
+        ensures { result ≡ length self.now.entries }
     {
         self.entries.len()
     }
 
     /// Whether no key has a value.
     pub fn is_empty(&self) -> bool
-        ensures { result ≡ (length self.now == 0) }
+        ensures { result ≡ (length self.now.entries == 0) }
     {
         self.entries.is_empty()
     }
 
-    /// The key at an index, in the order of the keys from 0, and its value; `None` past the last.
-    pub fn entry(&self, i: usize) -> Option<(&[u8], &[u8])>
-        ensures { entry_lent result ≡ slice_get self.now i }
+    /// The key at an index, in the order of the keys from 0, and what it has; `None` past the last.
+    pub fn entry(&self, i: usize) -> Option<(&[u8], &Held)>
+        ensures { entry_lent result ≡ slice_get self.now.entries i }
     {
         let entry = self.entries.get(i)?;
-        Some((entry.key.as_slice(), entry.value.as_slice()))
+        Some((entry.key.as_slice(), &entry.value))
     }
 
-    /// The value that a key has; `None` where it has none.
-    pub fn get(&self, key: &[u8]) -> Option<&[u8]>
-        ensures { lent result ≡ value_of key.now self.now }
+    /// The value that a key has, with its version; `None` where it has none.
+    pub fn get(&self, key: &[u8]) -> Option<&Held>
+        ensures { held_lent result ≡ held_of key.now self.now }
     {
-        value(self.entries.as_slice(), key)
+        found_at(self.entries.as_slice(), key)
+    }
+
+    /// The last version that was given; where none was, the least token, which none is given: `1@1.1` with the count 0.
+    pub fn last(&self) -> Token
+        ensures { result ≡ self.now.last }
+    {
+        self.last
+    }
+
+    // The version that a value is given next, by a command of a view.
+    pub(crate) fn next(&self, view: ViewId) -> Token
+        ensures { result ≡ next_token view self.now.last }
+    {
+        self.last.next(view)
     }
 
     // Its entries, their keys rising.
-    pub(crate) fn entries(&self) -> &[Entry<Bytes>]
-        ensures { result.now ≡ self.now }
+    pub(crate) fn entries(&self) -> &[Entry<Held>]
+        ensures entries { result.now ≡ self.now.entries }
+        ensures rise { Rises result.now }
     {
         self.entries.as_slice()
     }
 
-    // Gives a key a value, if the state stays within `STATE` bytes. Where memory is refused, the entries are as before.
-    fn put(&mut self, key: &KeyBytes<'_>, value: &ValueBytes<'_>) -> Result<(), AllocError>
-        ensures ok { OnOk result (self.new ≡ put_within key.now value.now self.old) }
-        ensures err { OnErr result (self.new ≡ self.old) }
+    // In how many bytes it is encoded as a state.
+    pub(crate) fn size(&self) -> usize
+        ensures size { result ≡ map_size self.now.entries }
+        ensures fits { result ≤ STATE }
     {
-        let alloc = *self.entries.allocator();
-        let bytes = value.as_slice();
-        match find(self.entries.as_slice(), key.as_slice()) {
-            Place::Held(i) => {
-                let size = self.size - self.entries[i].value.as_slice().len() + bytes.len();
-                if size <= STATE {
-                    self.entries[i].value = Bytes::from_slice(alloc, bytes)?;
-                    self.size = size;
-                }
-                Ok(())
-            }
-            Place::Free(i) => {
-                let size = self.size + 3 + key.as_slice().len() + bytes.len();
-                if size <= STATE {
-                    let entry = copied(alloc, key, value)?;
-                    self.entries.insert(i, entry)?;
-                    self.size = size;
-                }
-                Ok(())
-            }
-        }
+        self.size
     }
 
-    // Takes a key's value.
+    // Gives a key a value of the next version, if the state stays within its limits. Where memory is refused, it is as before.
+    fn put(
+        &mut self,
+        view: ViewId,
+        key: &KeyBytes<'_>,
+        value: &ValueBytes<'_>,
+    ) -> Result<(), AllocError>
+        ensures ok { OnOk result (self.new ≡ put_within view key.now value.now self.old) }
+        ensures err { OnErr result (self.new ≡ self.old) }
+    {
+        known_view_id(view);
+        let version = self.next(view);
+        let place = find(self.entries.as_slice(), key.as_slice());
+        let size = size_with(
+            self.entries.as_slice(),
+            self.size,
+            place,
+            key,
+            &version,
+            value,
+        );
+        if has_room(size, &version) {
+            put_at(&mut self.entries, place, key, &version, value)?;
+            self.last = version;
+            self.size = size;
+        }
+        Ok(())
+    }
+
+    // Takes what a key has.
     fn remove(&mut self, key: &[u8])
-        ensures { self.new ≡ without key.now self.old }
+        ensures { self.new ≡ removed key.now self.old }
     {
         if let Place::Held(i) = find(self.entries.as_slice(), key) {
             let entry = self.entries.remove(i);
-            self.size -= 3 + entry.key.as_slice().len() + entry.value.as_slice().len();
+            self.size -= 25 + entry.key.as_slice().len() + entry.value.value.as_slice().len();
         }
     }
 
-    // Carries out a command. Where memory is refused, the entries are as before.
+    // Carries out a command. Where memory is refused, the state is as before.
     fn carry_out(&mut self, command: Command<'_>) -> Result<(), AllocError>
         ensures ok { OnOk result (self.new ≡ carried_out self.old command.entry) }
         ensures err { OnErr result (self.new ≡ self.old) }
     {
         match command {
-            Command::Put { key, value } => self.put(&key, &value),
+            Command::Put { view, key, value } => self.put(view, &key, &value),
             Command::Remove(key) => {
                 self.remove(key.as_slice());
                 Ok(())
             }
             Command::Replace {
+                view,
                 expected,
                 key,
                 value,
             } => {
                 if is_as_expected(self.get(key.as_slice()), &expected) {
-                    return self.put(&key, &value);
+                    return self.put(view, &key, &value);
                 }
                 Ok(())
             }
             Command::Clear => {
                 self.entries.clear();
-                self.size = 4;
+                self.size = 26;
+                Ok(())
+            }
+            Command::ReplaceAt {
+                view,
+                version,
+                key,
+                value,
+            } => {
+                if is_of_version(self.get(key.as_slice()), &version) {
+                    return self.put(view, &key, &value);
+                }
+                Ok(())
+            }
+            Command::RemoveAt { version, key } => {
+                if is_of_version(self.get(key.as_slice()), &version) {
+                    self.remove(key.as_slice());
+                }
                 Ok(())
             }
         }
@@ -172,11 +226,12 @@ impl Receiver for ReplicatedMap {
 
     ghost is_short = { encoded_short };
 
-    /// A map in which no key has a value.
+    /// A map in which no key has a value, and no version was given.
     fn opening(alloc: Global) -> Result<ReplicatedMap, AllocError> {
         Ok(ReplicatedMap {
+            last: Token::least(),
             entries: Vec::new(alloc),
-            size: 4,
+            size: 26,
         })
     }
 
@@ -202,7 +257,7 @@ impl Receiver for ReplicatedMap {
         ensures short { OnOk result (length (map_encode self.now) ≤ STATE) }
         ensures err { OnErr result (state.new.items ≡ state.old.items) }
     {
-        put_map(self.entries.as_slice(), self.size, state)
+        put_map(self.last, self.entries.as_slice(), self.size, state)
     }
 
     fn kept(&self) {
@@ -215,11 +270,12 @@ impl Receiver for ReplicatedMap {
         ensures ok { IfOk result (λ taken. MatchOption (map_decode state.now) ((taken ≡ false) × (self.new ≡ self.old)) (λ s. (taken ≡ true) × (self.new ≡ s))) }
         ensures err { OnErr result (self.new ≡ self.old) }
     {
-        match entries_of(*self.entries.allocator(), state)? {
+        match contents_of(*self.entries.allocator(), state)? {
             None => Ok(false),
-            Some(entries) => {
-                self.size = size_of_all(entries.as_slice());
-                self.entries = entries;
+            Some(contents) => {
+                self.size = size_of_all(contents.entries.as_slice());
+                self.last = contents.last;
+                self.entries = contents.entries;
                 Ok(true)
             }
         }

@@ -1,9 +1,12 @@
 ghost use Rattle.std.specs.Prelude.{◌≡◌};
 ghost use Rattle.std.specs.Option.{SomeIff};
+ghost use Rattle.tokens.specs.Tokens.{IsToken};
 ghost use Rattle.replicated_map.specs.Entries.{IsValue};
 
 use crate::VALUE;
+use limits::GREATEST_NUMBER;
 use std::marker::Model;
+use tokens::{Token, known_view_id};
 
 /// A value in lent bytes, at most `VALUE` of them.
 #[derive(Debug, Drop)]
@@ -39,5 +42,43 @@ impl<'a> ValueBytes<'a> {
         ensures value { IsValue result.now }
     {
         self.value
+    }
+}
+
+/// The version that a command names: a token that can be spelled.
+#[derive(Debug, Drop)]
+pub struct Version {
+    token: Token,
+}
+
+impl Model for Version {
+    ghost use Rattle.tokens.specs.declared.token.Token.{Token};
+    ghost use Rattle.tokens.specs.Tokens.{IsToken};
+
+    ghost Value = { Token };
+
+    ghost view = { λ v. v.token };
+
+    ghost invariant = { λ v. IsToken v.token };
+}
+
+impl Version {
+    /// The version of this token; `None` for a count above `GREATEST_NUMBER`.
+    pub fn new(token: Token) -> Option<Version>
+        ensures { SomeIff result (IsToken token) token }
+    {
+        known_view_id(token.view);
+        if token.count > GREATEST_NUMBER {
+            return None;
+        }
+        Some(Version { token })
+    }
+
+    /// The token.
+    pub fn token(&self) -> Token
+        ensures token { result ≡ self.now }
+        ensures is { IsToken result }
+    {
+        self.token
     }
 }

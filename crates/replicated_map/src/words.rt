@@ -1,12 +1,16 @@
-//! The words of the map's commands in a script (docs/FORMATS.md, "The map's lines").
+//! The words of the map's commands (docs/FORMATS.md, "The map's lines").
 
 ghost use Rattle.std.specs.Prelude.{◌≡◌, Ok, Err, MatchResult};
 ghost use Rattle.std.specs.Option.{option_copied};
-ghost use Rattle.replicated_map.specs.Words.{expected_of, expected_field, last_value, put_said, remove_said, replaced, replace_said, clear_said, command_said};
+ghost use Rattle.script_reader.specs.Fields.{last};
+ghost use Rattle.tokens.specs.TokenText.{token_of_text};
+ghost use Rattle.replicated_map.specs.Words.{expected_of, expected_field, version_field, last_value, put_said, remove_said, replaced, replace_said, clear_said, version_replaced, replace_at_said, remove_at_said, command_said};
 
-use crate::{Command, ValueBytes};
+use crate::{Command, ValueBytes, Version};
+use address::ViewId;
 use keyed_entries::{KeyBytes, key_field, last_key};
 use script_reader::{Fault, first_field};
+use tokens::token_in;
 
 // The expected value that a field says: `-` says that there is none.
 fn expected_in(field: &[u8]) -> Option<Option<ValueBytes<'_>>>
@@ -36,6 +40,48 @@ fn expected_field(rest: Option<&[u8]>) -> Result<(Option<ValueBytes<'_>>, Option
     }
 }
 
+// The version that a field says.
+fn version_in(field: &[u8]) -> Option<Version>
+    ensures { result ≡ token_of_text field.now }
+{
+    let token = token_in(field)?;
+    match Version::new(token) {
+        Some(version) => Some(version),
+        None => unreachable!(),
+    }
+}
+
+// The next field as a version, and what is left behind it.
+#[tactic(auto, unfolding(script_reader::specs::Fields::spelled_at, script_reader::specs::Fields::field_at))]
+fn version_field(rest: Option<&[u8]>) -> Result<(Version, Option<&[u8]>), Fault>
+    ensures { MatchResult result
+        (λ read. version_field (option_copied rest.entry) ≡ Ok (read.0, option_copied read.1))
+        (λ f. version_field (option_copied rest.entry) ≡ Err f) }
+{
+    let Some(text) = rest else {
+        return Err(Fault::MissingField);
+    };
+    let (field, rest) = first_field(text);
+    match version_in(field) {
+        None => Err(Fault::BadNumber),
+        Some(version) => Ok((version, rest)),
+    }
+}
+
+// The version with which a command ends.
+#[tactic(auto, unfolding(script_reader::specs::Fields::last, script_reader::specs::Fields::end_at))]
+fn last_version(rest: Option<&[u8]>) -> Result<Version, Fault>
+    ensures { MatchResult result
+        (λ version. last (version_field (option_copied rest.entry)) ≡ Ok version)
+        (λ f. last (version_field (option_copied rest.entry)) ≡ Err f) }
+{
+    match version_field(rest) {
+        Ok((version, None)) => Ok(version),
+        Ok(_) => Err(Fault::BadNumber),
+        Err(fault) => Err(fault),
+    }
+}
+
 // The value with which a command ends: all that is left of it.
 fn last_value(rest: Option<&[u8]>) -> Result<ValueBytes<'_>, Fault>
     ensures { MatchResult result
@@ -52,14 +98,14 @@ fn last_value(rest: Option<&[u8]>) -> Result<ValueBytes<'_>, Fault>
 }
 
 // The command `put KEY VALUE`.
-fn put_said(rest: Option<&[u8]>) -> Result<Command<'_>, Fault>
-    ensures { MatchResult result (λ c. put_said (option_copied rest.entry) ≡ Ok c) (λ f. put_said (option_copied rest.entry) ≡ Err f) }
+fn put_said(view: ViewId, rest: Option<&[u8]>) -> Result<Command<'_>, Fault>
+    ensures { MatchResult result (λ c. put_said view (option_copied rest.entry) ≡ Ok c) (λ f. put_said view (option_copied rest.entry) ≡ Err f) }
 {
     match key_field(rest) {
         Err(fault) => Err(fault),
         Ok((key, rest)) => match last_value(rest) {
             Err(fault) => Err(fault),
-            Ok(value) => Ok(Command::Put { key, value }),
+            Ok(value) => Ok(Command::Put { view, key, value }),
         },
     }
 }
@@ -75,14 +121,19 @@ fn remove_said(rest: Option<&[u8]>) -> Result<Command<'_>, Fault>
 }
 
 // What `replace KEY OLD NEW` says behind its key.
-fn replaced<'a>(key: KeyBytes<'a>, rest: Option<&'a [u8]>) -> Result<Command<'a>, Fault>
-    ensures { MatchResult result (λ c. replaced key.entry (option_copied rest.entry) ≡ Ok c) (λ f. replaced key.entry (option_copied rest.entry) ≡ Err f) }
+fn replaced<'a>(
+    view: ViewId,
+    key: KeyBytes<'a>,
+    rest: Option<&'a [u8]>,
+) -> Result<Command<'a>, Fault>
+    ensures { MatchResult result (λ c. replaced view key.entry (option_copied rest.entry) ≡ Ok c) (λ f. replaced view key.entry (option_copied rest.entry) ≡ Err f) }
 {
     match expected_field(rest) {
         Err(fault) => Err(fault),
         Ok((expected, rest)) => match last_value(rest) {
             Err(fault) => Err(fault),
             Ok(value) => Ok(Command::Replace {
+                view,
                 expected,
                 key,
                 value,
@@ -92,12 +143,12 @@ fn replaced<'a>(key: KeyBytes<'a>, rest: Option<&'a [u8]>) -> Result<Command<'a>
 }
 
 // The command `replace KEY OLD NEW`.
-fn replace_said(rest: Option<&[u8]>) -> Result<Command<'_>, Fault>
-    ensures { MatchResult result (λ c. replace_said (option_copied rest.entry) ≡ Ok c) (λ f. replace_said (option_copied rest.entry) ≡ Err f) }
+fn replace_said(view: ViewId, rest: Option<&[u8]>) -> Result<Command<'_>, Fault>
+    ensures { MatchResult result (λ c. replace_said view (option_copied rest.entry) ≡ Ok c) (λ f. replace_said view (option_copied rest.entry) ≡ Err f) }
 {
     match key_field(rest) {
         Err(fault) => Err(fault),
-        Ok((key, rest)) => replaced(key, rest),
+        Ok((key, rest)) => replaced(view, key, rest),
     }
 }
 
@@ -112,19 +163,68 @@ fn clear_said(rest: Option<&[u8]>) -> Result<Command<'_>, Fault>
     }
 }
 
-// The command that a text says.
-pub(crate) fn command_said(text: &[u8]) -> Result<Command<'_>, Fault>
-    ensures { MatchResult result (λ c. command_said text.now ≡ Ok c) (λ f. command_said text.now ≡ Err f) }
+// What `replace_at KEY VERSION NEW` says behind its key.
+fn version_replaced<'a>(
+    view: ViewId,
+    key: KeyBytes<'a>,
+    rest: Option<&'a [u8]>,
+) -> Result<Command<'a>, Fault>
+    ensures { MatchResult result (λ c. version_replaced view key.entry (option_copied rest.entry) ≡ Ok c) (λ f. version_replaced view key.entry (option_copied rest.entry) ≡ Err f) }
+{
+    match version_field(rest) {
+        Err(fault) => Err(fault),
+        Ok((version, rest)) => match last_value(rest) {
+            Err(fault) => Err(fault),
+            Ok(value) => Ok(Command::ReplaceAt {
+                view,
+                version,
+                key,
+                value,
+            }),
+        },
+    }
+}
+
+// The command `replace_at KEY VERSION NEW`.
+fn replace_at_said(view: ViewId, rest: Option<&[u8]>) -> Result<Command<'_>, Fault>
+    ensures { MatchResult result (λ c. replace_at_said view (option_copied rest.entry) ≡ Ok c) (λ f. replace_at_said view (option_copied rest.entry) ≡ Err f) }
+{
+    match key_field(rest) {
+        Err(fault) => Err(fault),
+        Ok((key, rest)) => version_replaced(view, key, rest),
+    }
+}
+
+// The command `remove_at KEY VERSION`.
+fn remove_at_said(rest: Option<&[u8]>) -> Result<Command<'_>, Fault>
+    ensures { MatchResult result (λ c. remove_at_said (option_copied rest.entry) ≡ Ok c) (λ f. remove_at_said (option_copied rest.entry) ≡ Err f) }
+{
+    match key_field(rest) {
+        Err(fault) => Err(fault),
+        Ok((key, rest)) => match last_version(rest) {
+            Err(fault) => Err(fault),
+            Ok(version) => Ok(Command::RemoveAt { version, key }),
+        },
+    }
+}
+
+// The command that a text says in the view of an id.
+pub(crate) fn command_said(view: ViewId, text: &[u8]) -> Result<Command<'_>, Fault>
+    ensures { MatchResult result (λ c. command_said view text.now ≡ Ok c) (λ f. command_said view text.now ≡ Err f) }
 {
     let (word, rest) = first_field(text);
     if word == b"put".as_slice() {
-        put_said(rest)
+        put_said(view, rest)
     } else if word == b"remove".as_slice() {
         remove_said(rest)
     } else if word == b"replace".as_slice() {
-        replace_said(rest)
+        replace_said(view, rest)
     } else if word == b"clear".as_slice() {
         clear_said(rest)
+    } else if word == b"replace_at".as_slice() {
+        replace_at_said(view, rest)
+    } else if word == b"remove_at".as_slice() {
+        remove_at_said(rest)
     } else {
         Err(Fault::BadNumber)
     }

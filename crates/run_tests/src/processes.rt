@@ -1,7 +1,9 @@
 //! The texts of several processes, as one trace.
 
 use chat_log::ChatLog;
-use commands::{Status, run_check_processes};
+use commands::run_check_processes;
+use endings::Status;
+use merge_law::verdicts_are_the_same;
 use std::alloc::{AllocError, Global};
 
 /// What the first of two processes tells: it makes a group, says `h`, and lets the second in.
@@ -43,6 +45,7 @@ fn texts_of_two_processes_hold_in_either_order(rt: HostRuntime) {
         checks(alloc, &[], Status::Done, b"holds\n") == Ok(true),
         "no text"
     );
+    verdicts_are_the_same::<ChatLog>();
 }
 
 #[test]
@@ -109,6 +112,23 @@ fn events_with_no_order_are_named(rt: HostRuntime) {
     let turned =
         b"started 1.1\ninstalled 1.1 - 1@1.1 1.1 1.1 - -\ndelivered 1.1 1@1.1 1.1 1 68\nsent 1.1 1@1.1 1 68\n";
     assert!(rt; checks(alloc, &[b"", turned], Status::Broken, b"unordered 2 3\n") == Ok(true));
+}
+
+#[test]
+fn of_those_that_wait_one_in_a_circle_is_named(rt: HostRuntime) {
+    let alloc = rt.alloc();
+    let turned =
+        b"started 1.1\ninstalled 1.1 - 1@1.1 1.1 1.1 - -\ndelivered 1.1 1@1.1 1.1 1 68\nsent 1.1 1@1.1 1 68\nblocked 1.1\ninstalled 1.1 1@1.1 2@1.1 1.1,2.1 1.1 - -\n";
+    assert!(rt;
+        checks(alloc, &[SECOND, turned], Status::Broken, b"unordered 2 3\n") == Ok(true),
+        "the first waits for the second, and that one for itself"
+    );
+    let left = b"delivered 2.1 2@1.1 1.1 1 68\nsent 2.1 2@1.1 1 68\n";
+    let right = b"delivered 1.1 2@1.1 2.1 1 68\nsent 1.1 2@1.1 1 68\n";
+    assert!(rt;
+        checks(alloc, &[left, right], Status::Broken, b"unordered 1 1\n") == Ok(true),
+        "each of two for the other"
+    );
 }
 
 #[test]

@@ -1,6 +1,7 @@
 use address::{Address, Node};
 use chat_log::ChatLog;
-use commands::{Status, run_draw, run_packets, run_script, run_states};
+use commands::{run_draw, run_packets, run_script, run_states};
+use endings::Status;
 use lock_table::LockTable;
 use replicated_map::ReplicatedMap;
 use std::alloc::Global;

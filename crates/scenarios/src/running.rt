@@ -2,7 +2,8 @@
 
 use application::Application;
 use chat_log::{ChatLog, LongChat};
-use commands::{Status, run_check, run_packets, run_script, run_states};
+use commands::{run_check, run_packets, run_script, run_states, settle_script};
+use endings::Status;
 use lock_table::LockTable;
 use replicated_map::ReplicatedMap;
 use std::alloc::Global;
@@ -19,6 +20,7 @@ fn run_with<A: Application>(alloc: Global, command: &[u8], text: &[u8]) -> (Vec<
             &mut output,
         ),
         b"packets" => run_packets::<A, &[u8], Vec<u8>>(alloc, &mut reader, &mut output),
+        b"settle" => settle_script::<A, &[u8], Vec<u8>>(alloc, &mut reader, &mut output),
         b"check" => run_check::<A, &[u8], Vec<u8>>(alloc, &mut reader, &mut output),
         _ => Status::Usage,
     };

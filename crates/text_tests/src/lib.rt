@@ -1,5 +1,4 @@
-//! The tests of the texts, of scripts, of traces and of packets. They stand apart from what they test, so that it is proved once
-//! and not twice.
+//! The tests of the texts: of scripts, of traces and of packets, of pictures, and of the words of the command line. They stand apart from what they test, so that it is proved once and not twice.
 #![tactic(auto)]
 
 #[cfg(test)]
@@ -9,9 +8,13 @@ mod fields;
 #[cfg(test)]
 mod fixtures;
 #[cfg(test)]
+mod layouts;
+#[cfg(test)]
 mod lines;
 #[cfg(test)]
 mod packets;
+#[cfg(test)]
+mod pictures;
 #[cfg(test)]
 mod runs;
 #[cfg(test)]
@@ -20,3 +23,7 @@ mod scripts;
 mod traces;
 #[cfg(test)]
 mod udp_scripts;
+#[cfg(test)]
+mod udp_words;
+#[cfg(test)]
+mod words;

@@ -73,6 +73,39 @@ fn empty_lines_and_notes_are_counted(rt: HostRuntime) {
     assert!(rt; is_refused(rt.alloc(), b"#\n\nstarted 1.1\n\xff\nfly 1\n", 4, 40));
 }
 
+#[test]
+fn lines_on_stable_messages_are_passed_over(rt: HostRuntime) {
+    let text = b"started 1.1\nstable 1.1 7@3.1 12\nleft 1.1\nstable 1.1 7@3.1 4611686018427387904";
+    assert!(rt; says(rt.alloc(), text, b"started 1.1\nleft 1.1\n"));
+}
+
+#[test]
+fn lines_on_stable_messages_are_tested(rt: HostRuntime) {
+    let alloc = rt.alloc();
+    assert!(rt;
+        is_refused(alloc, b"stable 1.1 1@1.1 1\n\nfly 1\n", 3, 40),
+        "they are counted"
+    );
+    assert!(rt;
+        is_refused(alloc, b"stables 1.1 1@1.1 1", 1, 40),
+        "another word"
+    );
+    assert!(rt; is_refused(alloc, b"stable 1.1 1@1.1", 1, 42), "no number");
+    assert!(rt;
+        is_refused(alloc, b"stable 0.1 1@1.1 1", 1, 41),
+        "no address"
+    );
+    assert!(rt;
+        is_refused(alloc, b"stable 1.1 0@1.1 1", 1, 41),
+        "no view id"
+    );
+    assert!(rt; is_refused(alloc, b"stable 1.1 1@1.1 0", 1, 41), "none");
+    assert!(rt;
+        is_refused(alloc, b"stable 1.1 1@1.1 1 1", 1, 41),
+        "a field too many"
+    );
+}
+
 const VIEWS: [&str; 2] = [
     "installed 1.1 - 1@1.1 1.1,2.1,3.1,4.1,5.1,6.1,7.1,8.1,9.1,10.1,11.1,12.1,13.1,14.1,15.1,16.1 1.1 - -\n",
     "installed 1.1 - 1@1.1 1.1 17.1,2.1,3.1,4.1,5.1,6.1,7.1,8.1,9.1,10.1,11.1,12.1,13.1,14.1,15.1,16.1,1.1 - -\n",

@@ -1,9 +1,8 @@
 -- What came of each process, and what is shown by it.
-use Rattle.std.proofs.Common.{◌≡◌, ℕ, suc, zero, Bool, true, false, cond, not, nat_eq, eq-eqb, ◌||◌, List, [], ◌∷◌, ◌++◌, map, refl, sym, ap, ◌∙◌, subst}
-use Rattle.std.specs.List.{list_any, filter}
+use Rattle.std.proofs.Common.{◌≡◌, ℕ, suc, zero, Bool, true, false, cond, nat_eq, eq-eqb, ◌||◌, List, [], ◌∷◌, ◌++◌, map, refl, sym, ap, ◌∙◌, subst}
+use Rattle.std.specs.List.{filter}
 use Rattle.std.proofs.lemmas.List.{map-append}
 use Rattle.std.proofs.lemmas.List.Elements.{filter-append}
-use Rattle.std.proofs.lemmas.List.Folds.{list_any-append}
 use Rattle.trace_props.specs.declared.event.Event.{Event}
 use Rattle.trace_merge.specs.declared.fact.Fact.{Fact}
 use Rattle.trace_merge.specs.Facts.{shows, is_shown}

@@ -1,23 +1,21 @@
 -- What is kept while traces are put together.
-use Rattle.std.proofs.Common.{◌≡◌, ◌≢◌, ℕ, ◌+◌, ◌-◌, ◌<◌, suc, zero, Bool, true, false, cond, not, ◌&&◌, ◌||◌, nat_eq, eqb-true, eq-eqb, List, [], ◌∷◌, ◌++◌, map, length, take, drop, Option, None, Some, is_some, refl, sym, ap, ◌∙◌, subst, ⊎_elim, arith, ◌≤◌, MatchOption}
+use Rattle.std.proofs.Common.{◌≡◌, ℕ, ◌+◌, ◌-◌, ◌<◌, suc, Bool, true, false, cond, not, ◌&&◌, ◌||◌, nat_eq, eqb-true, eq-eqb, List, [], ◌∷◌, ◌++◌, length, take, Option, None, Some, is_some, refl, sym, ap, ◌∙◌, subst, ⊎_elim, arith, ◌≤◌, MatchOption}
 use Rattle.std.specs.Prelude.{slice_get, slice_index_or, slice_set, nat_lt, position}
 use Rattle.std.specs.Borrow.{Bor}
-use Rattle.std.specs.List.{All, list_any, sum_by, position_or_len}
-use Rattle.std.specs.Option.{option_map_or}
+use Rattle.std.specs.List.{sum_by, position_or_len}
 use Rattle.std.proofs.lemmas.List.{append-nil, append_assoc, map-append, map-set, length-map, length-append, get_or-map, get_or_past, get_or-set_same, get_or-set_other}
 use Rattle.std.proofs.lemmas.Bool.{cases_lt, ltb-true, ltb-false}
 use Rattle.std.proofs.lemmas.List.Elements.{All-set}
 use Rattle.std.proofs.lemmas.List.Sums.{sum_by-set, fails_before_first, passes_at_first}
 use Rattle.std.proofs.lemmas.List.Folds.{list_any-append}
-use Rattle.std.proofs.lemmas.Option.{none-some, same_Some}
 use Rattle.trace_props.specs.declared.event.Event.{Event}
 use Rattle.trace_props.specs.Places.{EachEvent}
-use Rattle.trace_props.specs.Recorded.{IsShort, IsRecordable}
+use Rattle.trace_props.specs.Recorded.{IsRecordable}
 use Rattle.trace_props.proofs.FactOfPlaces.{EachEvent-nil, EachEvent-push}
 use Rattle.trace_merge.specs.declared.fact.Fact.{Fact}
-use Rattle.trace_merge.specs.Facts.{shows, is_shown, is_awaited, is_free, MayCome, IsInOrder}
+use Rattle.trace_merge.specs.Facts.{shows, is_shown, is_awaited, is_free, MayCome}
 use Rattle.trace_merge.specs.Merges.{Came, event_of, own, events_at, has_next, NoneIsLeft, comes_in, starts_free, IsMerge, IsOrderedMerge, HaveCome, IsFreeAt, NoneIsFree, AreRecordable}
-use Rattle.trace_merge.specs.Outcomes.{slices, slice_of, AreUnordered}
+use Rattle.trace_merge.specs.Outcomes.{slices, slice_of, WaitsFor, AreUnordered}
 use Rattle.trace_merge.proofs.FactOfOwn.{own-append, own-first, own-other, merge-shows}
 use Rattle.trace_merge.proofs.LawOfMerges.{still-free, have-no-order}
 
@@ -189,8 +187,13 @@ module _ (processes left : List (List Event)) (awaited : Fact → Bool) (t : Lis
       let at : length (xs ++ ys) - length ys ≡ length xs = omega arith in
       ap (λ (n : ℕ). is_some (slice_get (xs ++ ys) n)) at ∙ ap is_some (seam-first xs ys) ∙ there
 
-  pub unordered : has_next (events_at left k) ≡ true → (n : ℕ) → n ≡ length (events_at processes k) - length (events_at left k) → AreUnordered processes (k + 1) (n + 1)
-  unordered there n is = record {
+  behind : (xs ys all : List Event) (n : ℕ) → xs ++ ys ≡ all → n ≡ length all - length ys → n + length ys ≡ length all
+  behind xs ys all n whole is =
+      let long : length xs + length ys ≡ length all = sym (length-append xs ys) ∙ ap length whole in
+      omega (arith, is, long)
+
+  pub unordered : WaitsFor left awaited k k → has_next (events_at left k) ≡ true → (n : ℕ) → n ≡ length (events_at processes k) - length (events_at left k) → AreUnordered processes (k + 1) (n + 1)
+  unordered circle there n is = record {
     have_none = let first : (x : Event) × (slice_get (events_at left k) 0 ≡ Some x) = some-first (events_at left k) there in have-no-order processes left awaited t h none k first.0 first.1;
     k = k;
     n = n;
@@ -198,6 +201,7 @@ module _ (processes left : List (List Event)) (awaited : Fact → Bool) (t : Lis
     event_is = refl;
     there = subst (λ (j : ℕ). is_some (slice_get (events_at processes k) j) ≡ true) (sym is)
         (subst (λ (l : List Event). is_some (slice_get l (length l - length (events_at left k))) ≡ true) (h.own_events k) (at-seam (own k h.came) (events_at left k) there));
+    circle = record { left = left; awaited = awaited; t = t; come = h; none = none; behind = behind (own k h.came) (events_at left k) (events_at processes k) n (h.own_events k) is; circle = circle };
   }
 
 -- a slice that is there

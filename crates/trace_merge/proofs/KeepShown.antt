@@ -1,5 +1,5 @@
 -- What is kept of what is shown.
-use Rattle.std.proofs.Common.{◌≡◌, ℕ, nat_eq, Bool, true, false, cond, not, ◌||◌, ◌&&◌, List, [], ◌∷◌, ◌++◌, take, Option, Some, None, refl, sym, ap, ◌∙◌}
+use Rattle.std.proofs.Common.{◌≡◌, Bool, true, false, cond, not, ◌||◌, ◌&&◌, List, [], ◌∷◌, ◌++◌, Option, Some, None, refl, sym, ap, ◌∙◌}
 use Rattle.std.specs.Option.{option_map_or}
 use Rattle.std.specs.List.{list_any}
 use Rattle.std.specs.HashSet.{HashSet, contains}
@@ -8,7 +8,7 @@ use Rattle.trace_props.specs.declared.event.Event.{Event}
 use Rattle.trace_merge.specs.declared.fact.Fact.{Fact}
 use Rattle.trace_merge.specs.declared.fact.Fact.TheVariants.{Sent, Delivered, Installed}
 use Rattle.trace_merge.specs.contracts.fact.FactPartialEq.TheImpl.{ghosts as fact_ghosts}
-use Rattle.trace_merge.specs.Facts.{same_message, same_fact, shows, is_shown}
+use Rattle.trace_merge.specs.Facts.{same_fact, shows, is_shown}
 use Rattle.trace_merge.specs.Merges.{comes_in}
 
 cond-or : (a b : Bool) → cond a true b ≡ (a || b)

@@ -2,17 +2,15 @@
 use Rattle.std.proofs.Common.{◌≡◌, ℕ, Bool, true, false, not, ◌&&◌, nat_eq, eqb-true, List, [], ◌∷◌, ◌++◌, map, length, take, Option, None, Some, refl, sym, ap, ◌∙◌, subst}
 use Rattle.std.specs.Prelude.{slice_get}
 use Rattle.std.specs.Option.{option_map_or}
-use Rattle.std.specs.List.{list_all, list_any}
+use Rattle.std.specs.List.{list_all}
 use Rattle.std.proofs.lemmas.List.{append_cancel_left, append-nil, append_assoc, map-append}
-use Rattle.std.proofs.lemmas.List.Folds.{list_any-append}
 use Rattle.std.proofs.lemmas.Option.{none-some, same_Some}
 use Rattle.std.proofs.Math.Seq.{take-append_seam}
 use Rattle.trace_props.specs.declared.event.Event.{Event}
-use Rattle.trace_props.specs.Places.{EachEvent}
 use Rattle.trace_props.proofs.FactOfObserved.{list_any-stays}
 use Rattle.trace_merge.specs.declared.fact.Fact.{Fact}
 use Rattle.trace_merge.specs.Facts.{shows, is_shown, is_awaited, is_free, waits_for, MayCome, IsInOrder}
-use Rattle.trace_merge.specs.Merges.{Came, event_of, own, events_at, next_at, comes_in, IsMerge, IsOrderedMerge, HaveNoOrder, HaveCome, NoneIsFree}
+use Rattle.trace_merge.specs.Merges.{Came, event_of, own, events_at, next_at, comes_in, IsMerge, HaveNoOrder, HaveCome, NoneIsFree}
 use Rattle.trace_merge.proofs.FactOfOwn.{own-append, own-first, own-other, shown-of-own, shown-by-some, merge-shows}
 
 -- ---- who waits for nothing still does when less is awaited

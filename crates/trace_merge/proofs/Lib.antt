@@ -1,4 +1,5 @@
 pub mod FactOfOwn
 pub mod KeepCome
 pub mod KeepShown
+pub mod LawOfCircles
 pub mod LawOfMerges

@@ -1,9 +1,8 @@
 //! What an event shows, and what has to be shown before it.
 
-ghost use Rattle.std.specs.Prelude.{◌≡◌, not};
+ghost use Rattle.std.specs.Prelude.{◌≡◌, [], ◌∷◌, find};
 ghost use Rattle.std.specs.HashSet.{contains};
-ghost use Rattle.std.specs.List.{list_all};
-ghost use Rattle.trace_merge.specs.Facts.{same_fact, sent, delivered, shown_by, before_delivery, before_install, is_free};
+ghost use Rattle.trace_merge.specs.Facts.{same_fact, sent, delivered, shown_by, before_delivery, before_install, waits_for, shows, is_shown, is_free};
 
 use address::{Address, ViewId};
 use std::collections::HashSet;
@@ -70,44 +69,78 @@ pub(crate) fn shown_by(event: &Event) -> Option<Fact>
     }
 }
 
-// Whether it is not awaited.
-fn is_free_of(fact: Fact, awaited: &HashSet<Fact>) -> bool
-    ensures { result ≡ not (contains same_fact awaited.now fact) }
+// Whether an event shows something.
+fn shows(event: &Event, fact: &Fact) -> bool
+    ensures { result ≡ shows fact.now event.now }
 {
-    !awaited.contains(&fact)
+    match shown_by(event) {
+        Some(shown) => shown == *fact,
+        None => false,
+    }
 }
 
-// Whether a delivery waits for none of these: for its message's send, nor, unless it is the coordinator's own, for that one's delivery.
-fn is_free_delivery(delivery: &Delivery, awaited: &HashSet<Fact>) -> bool
-    ensures { result ≡ list_all (λ f. not (contains same_fact awaited.now f)) (before_delivery delivery.now) }
+// This, if it is awaited.
+fn if_awaited(fact: Fact, awaited: &HashSet<Fact>) -> Option<Fact>
+    ensures { result ≡ find (contains same_fact awaited.now) (fact ∷ []) }
 {
-    if !is_free_of(Fact::Sent(delivered(delivery)), awaited) {
-        return false;
+    if awaited.contains(&fact) {
+        Some(fact)
+    } else {
+        None
+    }
+}
+
+// What is awaited, of what comes before a delivery: its message's send, or, unless it is the coordinator's own, that one's delivery.
+fn awaited_by_delivery(delivery: &Delivery, awaited: &HashSet<Fact>) -> Option<Fact>
+    ensures { result ≡ find (contains same_fact awaited.now) (before_delivery delivery.now) }
+{
+    let send = if_awaited(Fact::Sent(delivered(delivery)), awaited);
+    if send.is_some() {
+        return send;
     }
     let coordinator = delivery.view.creator();
-    delivery.member == coordinator
-        || is_free_of(Fact::Delivered(coordinator, delivered(delivery)), awaited)
+    if delivery.member == coordinator {
+        return None;
+    }
+    if_awaited(Fact::Delivered(coordinator, delivered(delivery)), awaited)
 }
 
-// Whether an install waits for none of these: unless it is the coordinator's own, for that one's install.
-fn is_free_install(install: &Install, awaited: &HashSet<Fact>) -> bool
-    ensures { result ≡ list_all (λ f. not (contains same_fact awaited.now f)) (before_install install.now) }
+// What is awaited, of what comes before an install: unless it is the coordinator's own, that one's install.
+fn awaited_by_install(install: &Install, awaited: &HashSet<Fact>) -> Option<Fact>
+    ensures { result ≡ find (contains same_fact awaited.now) (before_install install.now) }
 {
     let view = install.view.id();
-    install.member == view.creator() || is_free_of(Fact::Installed(view.creator(), view), awaited)
+    if install.member == view.creator() {
+        return None;
+    }
+    if_awaited(Fact::Installed(view.creator(), view), awaited)
+}
+
+/// What an event waits for, of what is awaited.
+pub(crate) fn awaited_by(event: &Event, awaited: &HashSet<Fact>) -> Option<Fact>
+    ensures { result ≡ find (contains same_fact awaited.now) (waits_for event.now) }
+{
+    match event {
+        Event::Started(_) => None,
+        Event::Sent(_) => None,
+        Event::Delivered(delivery) => awaited_by_delivery(delivery, awaited),
+        Event::Blocked(_) => None,
+        Event::Installed(install) => awaited_by_install(install.get(), awaited),
+        Event::Left(_) => None,
+        Event::Crashed(_) => None,
+    }
 }
 
 /// Whether an event waits for none of these.
 pub(crate) fn is_free(event: &Event, awaited: &HashSet<Fact>) -> bool
     ensures { result ≡ is_free (contains same_fact awaited.now) event.now }
 {
-    match event {
-        Event::Started(_) => true,
-        Event::Sent(_) => true,
-        Event::Delivered(delivery) => is_free_delivery(delivery, awaited),
-        Event::Blocked(_) => true,
-        Event::Installed(install) => is_free_install(install.get(), awaited),
-        Event::Left(_) => true,
-        Event::Crashed(_) => true,
-    }
+    awaited_by(event, awaited).is_none()
+}
+
+/// Whether one of some events shows something.
+pub(crate) fn is_shown(events: &[Event], fact: &Fact) -> bool
+    ensures { result ≡ is_shown events.now fact.now }
+{
+    events.iter().any(|event| shows(event, fact))
 }

@@ -6,10 +6,10 @@ ghost use Rattle.trace_props.specs.declared.event.Event.{Event};
 ghost use Rattle.trace_merge.specs.declared.fact.Fact.{Fact};
 ghost use Rattle.trace_merge.specs.Facts.{same_fact, shows, is_shown};
 ghost use Rattle.trace_merge.specs.Merges.{lists_of, events_at, has_next, comes_in, IsOrderedMerge, HaveCome, starts_free, IsFreeAt, NoneIsFree, NoneIsLeft, AreRecordable};
-ghost use Rattle.trace_merge.specs.Outcomes.{slices, IsWhy};
+ghost use Rattle.trace_merge.specs.Outcomes.{slices, awaits_at, followed, IsWhy};
 
 use crate::copies::copied;
-use crate::fact::{Fact, is_free, shown_by};
+use crate::fact::{Fact, awaited_by, is_free, is_shown, shown_by};
 use std::alloc::{AllocError, Global};
 use std::collections::HashSet;
 use thiserror::Error;
@@ -18,7 +18,7 @@ use trace_props::{Event, Trace};
 /// Why traces are not put together.
 #[derive(Clone, Copy, Debug, PartialEq, Eq, Error)]
 pub enum MergeError {
-    /// They have no such order: where all have come that can, the event of this number, of the process of this number, waits for one that can only come behind it; both count from 1.
+    /// They have no such order: where all have come that can, the event of this number, of the process of this number, waits for one that can only come behind it, in its own process or behind events of others that wait so; both numbers count from 1.
     #[error("the events of the processes have no order")]
     Unordered { process: usize, event: usize },
     /// Memory was refused (7).
@@ -102,6 +102,29 @@ fn first_waiting(left: &[&[Event]]) -> Option<usize>
     left.iter().position(|events| events.first().is_some())
 }
 
+// The first that shows something.
+fn first_showing(left: &[&[Event]], fact: &Fact) -> Option<usize>
+    ensures { result ≡ position (λ events. is_shown events.now fact.now) left.now }
+{
+    left.iter().position(|events| is_shown(events, fact))
+}
+
+// The first of which an event is left that shows what the next event of a process waits for.
+fn awaits_at(left: &[&[Event]], awaited: &HashSet<Fact>, process: usize) -> Option<usize>
+    ensures { result ≡ awaits_at (slices left.now) (contains same_fact awaited.now) process }
+{
+    let Some(events) = left.get(process) else {
+        return None;
+    };
+    let Some(event) = events.first() else {
+        return None;
+    };
+    match awaited_by(event, awaited) {
+        Some(fact) => first_showing(left, &fact),
+        None => None,
+    }
+}
+
 // How many events a process has.
 fn count_of(traces: &[Trace], process: usize) -> usize
     ensures is { result ≡ length (events_at (lists_of traces.now) process) }
@@ -179,11 +202,26 @@ impl<'a> Merging<'a> {
         first_waiting(self.left.as_slice())
     }
 
-    // That the events have no order, where those of a process wait.
-    fn unordered(&self, traces: &[Trace], process: usize) -> MergeError
-        ensures { HaveCome (lists_of traces.now) (slices self.now.left.items) (contains same_fact self.now.awaited) self.now.merged.events
-            → NoneIsFree (slices self.now.left.items) (contains same_fact self.now.awaited) → has_next (events_at (slices self.now.left.items) process) ≡ true → IsWhy (lists_of traces.now) result }
+    // From a process so many steps on as there are processes, each to one for which the process waits: where that ends, one waits in a circle.
+    fn follow(&self, process: usize) -> usize
+        ensures { result ≡ followed (slices self.now.left.items) (contains same_fact self.now.awaited) process (length self.now.left.items) }
     {
+        let left = self.left.as_slice();
+        let mut at = process;
+        for _ in 0..left.len() {
+            if let Some(next) = awaits_at(left, &self.awaited, at) {
+                at = next;
+            }
+        }
+        at
+    }
+
+    // That the events have no order, where one process waits.
+    fn unordered(&self, traces: &[Trace], waiting: usize) -> MergeError
+        ensures { HaveCome (lists_of traces.now) (slices self.now.left.items) (contains same_fact self.now.awaited) self.now.merged.events
+            → NoneIsFree (slices self.now.left.items) (contains same_fact self.now.awaited) → has_next (events_at (slices self.now.left.items) waiting) ≡ true → IsWhy (lists_of traces.now) result }
+    {
+        let process = self.follow(waiting);
         let Some(left) = self.left.get(process) else {
             return MergeError::Memory;
         };

@@ -1,8 +1,9 @@
 -- The line of an event is read back.
-use Rattle.std.proofs.Common.{◌≡◌, ℕ, true, false, List, [], ◌∷◌, ◌++◌, Option, Some, None, Ok, length, nat_lt, refl, sym, ◌∙◌, ap, arith, append_assoc, append-nil, length-append}
+use Rattle.std.proofs.Common.{◌≡◌, ℕ, true, false, List, [], ◌∷◌, ◌++◌, Option, Some, None, Ok, length, nat_lt, refl, sym, ◌∙◌, ap, arith, append_assoc, append-nil, length-append, codes}
 use Rattle.std.proofs.lemmas.Bool.{le-ltb}
 use Rattle.std.specs.Fmt.{decimal}
-use Rattle.address.specs.Ids.{Address, IsAddress, text_of_address, text_of_view_id}
+use Rattle.std.specs.Str.{bytes_eq}
+use Rattle.address.specs.Ids.{Address, ViewId, IsAddress, text_of_address, text_of_view_id}
 use Rattle.trace_props.specs.declared.event.Event.{Event}
 use Rattle.trace_props.specs.declared.event.Event.TheVariants as event
 use Rattle.trace_props.specs.declared.event.Sending.{Sending}
@@ -17,9 +18,9 @@ use Rattle.trace_reader.specs.declared.line.Word.TheVariants.{Started, Sent, Del
 use Rattle.limits.specs.declared.TheConstants.{TRACE_LINE}
 use Rattle.trace_reader.specs.Spelling.{number_of_text, view_id_of_text, previous_of_text, payload_of_text, view_of_text, together_of_text, handed_back_of_text, given_of_text}
 use Rattle.script_reader.specs.Fields.{field_at, spelled_at, end_at, last}
-use Rattle.trace_reader.specs.Fields.{sending_at, delivery_at, view_at, install_at}
-use Rattle.trace_reader.specs.Traces.{word_of, event_of, event_in_line}
-use Rattle.trace_reader.specs.Spellable.{IsSendable, IsSpellableDelivery, IsInstallable, IsInFormat, IsSpellable}
+use Rattle.trace_reader.specs.Fields.{sending_at, delivery_at, view_at, install_at, stable_at}
+use Rattle.trace_reader.specs.Traces.{word_of, event_of, said_in_line}
+use Rattle.trace_reader.specs.Spellable.{stable_text, IsStableText, IsSendable, IsSpellableDelivery, IsInstallable, IsInFormat, IsSpellable}
 use Rattle.trace_reader.proofs.FactOfCutTexts.{Without, is_cut, without_below, before_cut, behind_cut}
 use Rattle.trace_reader.proofs.FieldsBack.{Spells, number_spells, address_spells, view_id_spells, previous_spells, payload_spells, given_spells, view_spells, together_spells, handed_back_spells}
 
@@ -157,9 +158,41 @@ is_read (event.Installed i) = refl
 is_read (event.Left p) = refl
 is_read (event.Crashed p) = refl
 
+not_stable : (h : Event) → bytes_eq (field_of (body_of h)) (codes "stable") ≡ false
+not_stable (event.Started p) = refl
+not_stable (event.Sent s) = refl
+not_stable (event.Delivered d) = refl
+not_stable (event.Blocked p) = refl
+not_stable (event.Installed i) = refl
+not_stable (event.Left p) = refl
+not_stable (event.Crashed p) = refl
+
 -- the line of an event is read back
-pub body_back : (h : Event) → IsSpellable h → reading_by event_in_line (body_of h) ≡ Ok (Some h)
-unfolding event_in_line
+pub body_back : (h : Event) → IsSpellable h → reading_by said_in_line (body_of h) ≡ Ok (Some (Some h))
+unfolding said_in_line
 body_back h s =
     let short : nat_lt TRACE_LINE (length (body_of h)) ≡ false = le-ltb TRACE_LINE (length (body_of h)) (omega (arith, s.line, length-append (body_of h) (10 ∷ []))) in
-    rw (is_read h, short, word_is h, fields_are h, event_back h s.fields) refl
+    rw (is_read h, short, not_stable h, word_is h, fields_are h, event_back h s.fields) refl
+
+-- a line that says which messages are stable
+
+stable_back : (p : Address) (v : ViewId) (n : ℕ) → IsStableText p v n → stable_at (behind (field (text_of_address p) ++ field (text_of_view_id v) ++ field (decimal n))) ≡ Ok (n, None)
+unfolding stable_at
+stable_back p v n h =
+    let a = text_of_address p in
+    let w = text_of_view_id v in
+    let d = decimal n in
+    let parts : (a ++ 32 ∷ w) ++ 32 ∷ d ≡ a ++ 32 ∷ (w ++ 32 ∷ d) = simp append_assoc in
+    rw (
+      parts,
+      spelled_then address_of_text a (32 ∷ (w ++ 32 ∷ d)) p (address_spells p h.member) refl,
+      spelled_then view_id_of_text w (32 ∷ d) v (view_id_spells v h.view) refl,
+      spelled_last number_of_text d n (number_spells n h.number),
+    ) refl
+
+-- is read, and says no event
+pub stable_says_nothing : (p : Address) (v : ViewId) (n : ℕ) → IsStableText p v n → reading_by said_in_line (stable_text p v n) ≡ Ok (Some None)
+unfolding said_in_line
+stable_says_nothing p v n h =
+    let short : nat_lt TRACE_LINE (length (stable_text p v n)) ≡ false = le-ltb TRACE_LINE (length (stable_text p v n)) h.line in
+    rw (short, stable_back p v n h, last_back n) refl

@@ -3,19 +3,19 @@ use Rattle.std.proofs.Common.{◌≡◌, ℕ, ◌+◌, ◌≤◌, true, false, L
 use Rattle.std.proofs.lemmas.Bool.{and_parts, or_parts, leb-true}
 use Rattle.std.specs.List.{list_all, list_any, concat}
 use Rattle.std.specs.Fmt.{decimal}
-use Rattle.address.specs.Ids.{text_of_address, text_of_view_id}
+use Rattle.address.specs.Ids.{Address, ViewId, text_of_address, text_of_view_id}
 use Rattle.trace_props.specs.declared.event.Event.{Event}
 use Rattle.trace_props.specs.declared.event.Event.TheVariants.{Started, Sent, Delivered, Blocked, Installed, Left, Crashed}
 use Rattle.script_reader.specs.Lines.{lines_of}
-use Rattle.script_reader.specs.Texts.{FaultAt, is_skipped, reading_by, after_line, and_then}
+use Rattle.script_reader.specs.Texts.{FaultAt, is_skipped, reading_by, after_line}
 use Rattle.script_reader.proofs.FactOfTexts.{going_on, then_on}
 use Rattle.vsync_text.specs.TraceText.{text_of_payload, text_of_previous, text_of_addresses, text_of_handed_back, text_of_given, event_word, fields_of, field, install_view, install_rest}
-use Rattle.trace_reader.specs.Traces.{trace_of, event_in_line, event_alone}
-use Rattle.trace_reader.specs.Spellable.{IsInFormat, IsNote, Spell}
-use Rattle.trace_reader.specs.Spellable.Spell.{Nothing, Note, Line}
+use Rattle.trace_reader.specs.Traces.{trace_of, said_in_line, with_said}
+use Rattle.trace_reader.specs.Spellable.{IsInFormat, IsNote, stable_text, IsStableText, Spell}
+use Rattle.trace_reader.specs.Spellable.Spell.{Nothing, Note, Stable, Line}
 use Rattle.trace_reader.proofs.FactOfCutTexts.{Without, From, all_append, without_below, from_lower, line_cut}
 use Rattle.trace_reader.proofs.FieldsBack.{number_spells, address_spells, view_id_spells, previous_spells, payload_spells, given_spells, view_spells, together_spells, handed_back_spells}
-use Rattle.trace_reader.proofs.LinesBack.{body_of, body_back}
+use Rattle.trace_reader.proofs.LinesBack.{body_of, body_back, stable_says_nothing}
 use Rattle.trace_reader.proofs.FactOfReading.{trace_is_going_on}
 
 -- A LINE HAS NO LINE FEED INSIDE
@@ -70,6 +70,12 @@ word_from (Crashed p) = from_test 32 (codes "crashed") refl
 body_is_one_line : (h : Event) → IsInFormat h → Without 10 (body_of h)
 body_is_one_line h r = without_below 32 10 (body_of h) (omega arith) (both (event_word h) (fields_of h) (word_from h) (fields_from h r))
 
+stable_is_one_line : (p : Address) (v : ViewId) (n : ℕ) → IsStableText p v n → Without 10 (stable_text p v n)
+stable_is_one_line p v n h =
+    without_below 32 10 (stable_text p v n) (omega arith)
+    (both (codes "stable") (field (text_of_address p) ++ field (text_of_view_id v) ++ field (decimal n)) (from_test 32 (codes "stable") refl)
+    (three_from (text_of_address p) (text_of_view_id v) (decimal n) (address_spells p h.member).from (view_id_spells v h.view).from (number_spells n h.number).from))
+
 -- NOTES
 
 without_test : (byte : ℕ) (text : List ℕ) → list_any (λ b. nat_eq b byte) text ≡ false → Without byte text
@@ -82,18 +88,18 @@ note_is_skipped : (note : List ℕ) → slice_get note 0 ≡ Some 35 → is_skip
 note_is_skipped [] h = absurd cc
 note_is_skipped (b ∷ bs) h = let e : b ≡ 35 = cc in ap (λ c. nat_eq c 35) e
 
-note_says_nothing : (note : List ℕ) → IsNote note → reading_by event_in_line note ≡ Ok None
+note_says_nothing : (note : List ℕ) → IsNote note → reading_by said_in_line note ≡ Ok None
 note_says_nothing note h = rw (note_is_skipped note h.begins) refl
 
 -- TEXTS
 
 -- lines from a number on are read on to events
 abbrev reads_on : List Event → ℕ → List (List ℕ) → Result (List Event) FaultAt
-reads_on u k lines = going_on event_in_line (and_then event_alone) u k lines
+reads_on u k lines = going_on said_in_line with_said u k lines
 
 -- the first line of what is left is read on
 one_line : (u : List Event) (k : ℕ) (body : List ℕ) (lines : List (List ℕ)) → Without 10 body
-    → reads_on u k (lines_of (concat ((body ++ 10 ∷ []) ∷ lines))) ≡ then_on (λ v. reads_on v (k + 1) (lines_of (concat lines))) (after_line (and_then event_alone) u k (reading_by event_in_line body))
+    → reads_on u k (lines_of (concat ((body ++ 10 ∷ []) ∷ lines))) ≡ then_on (λ v. reads_on v (k + 1) (lines_of (concat lines))) (after_line with_said u k (reading_by said_in_line body))
 one_line u k body lines w =
     ap (λ text. reads_on u k (lines_of text)) (append_assoc body (10 ∷ []) (concat lines)) ∙ ap (reads_on u k) (line_cut body (concat lines) w)
 
@@ -101,11 +107,15 @@ delivered_on : (lines : List (List ℕ)) (t : List Event) → Spell lines t → 
 delivered_on _ _ Nothing u k = ap Ok (sym (append-nil u))
 delivered_on _ _ (Note note lines t n rest) u k =
     one_line u k note lines (without_test 10 note n.one_line)
-    ∙ ap (λ said. then_on (λ v. reads_on v (k + 1) (lines_of (concat lines))) (after_line (and_then event_alone) u k said)) (note_says_nothing note n)
+    ∙ ap (λ said. then_on (λ v. reads_on v (k + 1) (lines_of (concat lines))) (after_line with_said u k said)) (note_says_nothing note n)
+    ∙ delivered_on lines t rest u (k + 1)
+delivered_on _ _ (Stable p v n lines t s rest) u k =
+    one_line u k (stable_text p v n) lines (stable_is_one_line p v n s)
+    ∙ ap (λ said. then_on (λ v. reads_on v (k + 1) (lines_of (concat lines))) (after_line with_said u k said)) (stable_says_nothing p v n s)
     ∙ delivered_on lines t rest u (k + 1)
 delivered_on _ _ (Line h lines t s rest) u k =
     one_line u k (body_of h) lines (body_is_one_line h s.fields)
-    ∙ ap (λ said. then_on (λ v. reads_on v (k + 1) (lines_of (concat lines))) (after_line (and_then event_alone) u k said)) (body_back h s)
+    ∙ ap (λ said. then_on (λ v. reads_on v (k + 1) (lines_of (concat lines))) (after_line with_said u k said)) (body_back h s)
     ∙ delivered_on lines t rest (u ++ h ∷ []) (k + 1)
     ∙ ap Ok (append_assoc u (h ∷ []) t)
 

@@ -43,3 +43,10 @@ install_at rest = do
   back ← spelled_at handed_back_of_text together.1
   given ← spelled_at given_of_text back.1
   Ok (record { member = member.0; previous = previous.0; view = view.0; together = together.0; handed_back = back.0; given = given.0 }, given.1)
+
+-- `P V N`
+unfoldable pub stable_at : Option (List ℕ) → Read ℕ
+stable_at rest = do
+  member ← spelled_at address_of_text rest
+  view ← spelled_at view_id_of_text member.1
+  spelled_at number_of_text view.1

@@ -8,7 +8,7 @@ use Rattle.vsync_text.specs.Runs.{text_of_run}
 use Rattle.trace_reader.specs.Traces.{trace_of}
 use Rattle.trace_reader.specs.Spellable.{IsSpellable, Spell}
 
--- lines that spell what happened, each the line of an event or a note, are read back as that
+-- lines that spell what happened, each the line of an event, a note, or what says which messages are stable, are read back as that
 abbrev pub LinesReadBack : Type 0
 LinesReadBack = (lines : List (List ℕ)) (t : List Event) → Spell lines t → trace_of (concat lines) ≡ Ok t
 

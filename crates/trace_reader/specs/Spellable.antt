@@ -1,8 +1,9 @@
 -- Which events the text of a trace can spell, and what texts spell, line by line.
-use Rattle.std.specs.Prelude.{◌≡◌, ℕ, ◌+◌, ◌<◌, ◌≤◌, true, false, List, [], ◌∷◌, ◌++◌, None, Some, length, slice_get, nat_eq, All}
+use Rattle.std.specs.Prelude.{◌≡◌, ℕ, ◌+◌, ◌<◌, ◌≤◌, true, false, List, [], ◌∷◌, ◌++◌, None, Some, length, codes, slice_get, nat_eq, All}
 use Rattle.std.specs.List.{list_any}
 use Rattle.std.specs.Option.{ForSome}
-use Rattle.address.specs.Ids.{ViewId, IsAddress}
+use Rattle.std.specs.Fmt.{decimal}
+use Rattle.address.specs.Ids.{Address, ViewId, IsAddress, text_of_address, text_of_view_id}
 use Rattle.limits.specs.declared.TheConstants.{GREATEST_NUMBER, PAYLOAD, TRACE_LINE}
 use Rattle.view.specs.Members.{is_distinct}
 use Rattle.view.specs.View.{view_refusal}
@@ -12,7 +13,7 @@ use Rattle.trace_props.specs.declared.event.Sending.{Sending}
 use Rattle.trace_props.specs.declared.event.Delivery.{Delivery}
 use Rattle.trace_props.specs.declared.event.Install.{Install}
 use Rattle.trace_props.specs.declared.event.Numbered.{Numbered}
-use Rattle.vsync_text.specs.TraceText.{line_of}
+use Rattle.vsync_text.specs.TraceText.{line_of, field}
 
 -- a counter, or the number of a message in its view: 1 to `GREATEST_NUMBER`
 abbrev pub IsNumber : ℕ → Type 0
@@ -80,8 +81,20 @@ pub record IsNote (text : List ℕ) : Type 0 where
   pub begins : slice_get text 0 ≡ Some 35
   pub one_line : list_any (λ b. nat_eq b 10) text ≡ false
 
--- lines, each with its line feed, spell what happened: each is the line of the next event, or a note
+-- a line, without its line feed, that says which messages of a view are stable
+abbrev pub stable_text : Address → ViewId → ℕ → List ℕ
+stable_text p v n = codes "stable" ++ (field (text_of_address p) ++ field (text_of_view_id v) ++ field (decimal n))
+
+-- its fields are in the ranges of the format, and it is not too long
+pub record IsStableText (p : Address) (v : ViewId) (n : ℕ) : Type 0 where
+  pub member : IsAddress p
+  pub view : IsViewId v
+  pub number : IsNumber n
+  pub line : length (stable_text p v n) ≤ TRACE_LINE
+
+-- lines, each with its line feed, spell what happened: each is the line of the next event, a note, or says which messages are stable
 pub data Spell : List (List ℕ) → List Event → Type 0 where
   Nothing : Spell [] []
   Note : (note : List ℕ) (lines : List (List ℕ)) (t : List Event) → IsNote note → Spell lines t → Spell ((note ++ 10 ∷ []) ∷ lines) t
+  Stable : (p : Address) (v : ViewId) (n : ℕ) (lines : List (List ℕ)) (t : List Event) → IsStableText p v n → Spell lines t → Spell ((stable_text p v n ++ 10 ∷ []) ∷ lines) t
   Line : (h : Event) (lines : List (List ℕ)) (t : List Event) → IsSpellable h → Spell lines t → Spell (line_of h ∷ lines) (h ∷ t)

@@ -1,6 +1,7 @@
 -- What the text of a trace says: the events that its lines stand for, or its first fault.
-use Rattle.std.specs.Prelude.{ℕ, List, Option, None, Some, Result, Err, length, codes, nat_lt, if◌then◌else◌}
+use Rattle.std.specs.Prelude.{ℕ, List, Option, None, Some, Result, Ok, Err, [], ◌∷◌, ◌++◌, length, codes, nat_lt, if◌then◌else◌}
 use Rattle.std.specs.Str.{bytes_eq}
+use Rattle.std.specs.List.{filter_map}
 use Rattle.trace_props.specs.declared.event.Event.{Event}
 use Rattle.trace_props.specs.declared.event.Event.TheVariants as event
 use Rattle.script_reader.specs.declared.fault.Fault.{Fault}
@@ -12,7 +13,7 @@ use Rattle.script_reader.specs.AddressText.{address_of_text}
 use Rattle.trace_reader.specs.declared.line.Word.{Word}
 use Rattle.trace_reader.specs.declared.line.Word.TheVariants.{Started, Sent, Delivered, Blocked, Installed, Left, Crashed}
 use Rattle.limits.specs.declared.TheConstants.{TRACE_LINE}
-use Rattle.trace_reader.specs.Fields.{sending_at, delivery_at, install_at}
+use Rattle.trace_reader.specs.Fields.{sending_at, delivery_at, install_at, stable_at}
 
 abbrev pub word_of : List ℕ → Option Word
 word_of name =
@@ -39,14 +40,31 @@ abbrev pub spoken : Option Word → Option (List ℕ) → Result Event Fault
 spoken None rest = Err UnknownWord
 spoken (Some word) rest = event_of word rest
 
--- a line that is not skipped: its length is tested first
-unfoldable pub event_in_line : List ℕ → Result Event Fault
-event_in_line line = if nat_lt TRACE_LINE (length line) then Err LineTooLong else spoken (word_of (field_of line)) (behind_field line)
+-- nothing is kept of a line that says which messages are stable
+abbrev pub no_event : ℕ → Option Event
+no_event count = None
 
--- of a line the event alone is kept
-abbrev pub event_alone : ℕ → Event → Event
-event_alone k e = e
+-- a line that is not skipped says an event, or which messages are stable; its length is tested first
+unfoldable pub said_in_line : List ℕ → Result (Option Event) Fault
+said_in_line line =
+    if nat_lt TRACE_LINE (length line) then Err LineTooLong
+    else if bytes_eq (field_of line) (codes "stable") then made no_event (last (stable_at (behind_field line)))
+    else made Some (spoken (word_of (field_of line)) (behind_field line))
+
+-- of a line what it says is kept, without its number
+abbrev pub said_alone : ℕ → Option Event → Option Event
+said_alone k said = said
+
+-- the events of what lines say
+abbrev pub events_of : Result (List (Option Event)) FaultAt → Result (List Event) FaultAt
+events_of (Ok said) = Ok (filter_map (λ e. e) said)
+events_of (Err fault) = Err fault
 
 -- what the text of a trace says: the first line that is a fault decides, and else its events are those of its lines
 abbrev pub trace_of : List ℕ → Result (List Event) FaultAt
-trace_of text = said_by event_in_line event_alone text
+trace_of text = events_of (said_by said_in_line said_alone text)
+
+-- what was read, with what one line more says behind it
+abbrev pub with_said : List Event → ℕ → Option Event → List Event
+with_said t k None = t
+with_said t k (Some e) = t ++ e ∷ []

@@ -2,9 +2,9 @@
 
 ghost use Rattle.trace_reader.specs.Laws.{LinesReadBack, RunsReadBack};
 
-/// What is written is read back (docs/FORMATS.md, "Trace text"): lines, each the line of an event in the format's ranges or
-/// a note that begins with `#`, are read as those events in order; and so is the text of every run whose events are
-/// in those ranges, with its refusals among them.
+/// What is written is read back (docs/FORMATS.md, "Trace text"): lines, each the line of an event in the format's ranges,
+/// a note that begins with `#`, or one that says which messages are stable, are read as those events in order;
+/// and so is the text of every run whose events are in those ranges, with its refusals among them.
 #[tactic(auto, using(crate::proofs::TextsBack::trace_back, crate::proofs::RunsBack::run_back))]
 pub fn reads_what_is_written()
     ensures lines { LinesReadBack }

@@ -3,17 +3,17 @@
 ghost use Rattle.std.specs.Prelude.{◌≡◌, ◌≤◌, length, None, Some, Ok, IfOk, IfSome};
 ghost use Rattle.limits.specs.declared.TheConstants.{PAYLOAD};
 ghost use Rattle.trace_props.specs.Recorded.{IsShort};
-ghost use Rattle.script_reader.specs.Texts.{reading_by, IsReadUnlessRefused};
+ghost use Rattle.script_reader.specs.Texts.{IsReadUnlessRefused};
 ghost use Rattle.script_reader.specs.Fields.{spelled_at, last};
 ghost use Rattle.script_reader.specs.AddressText.{address_of_text};
 ghost use Rattle.trace_reader.specs.Spelling.{AreShort};
-ghost use Rattle.trace_reader.specs.Fields.{sending_at, delivery_at, view_at, install_at};
-ghost use Rattle.trace_reader.specs.Traces.{word_of, event_of, event_in_line};
+ghost use Rattle.trace_reader.specs.Fields.{sending_at, delivery_at, view_at, install_at, stable_at};
+ghost use Rattle.trace_reader.specs.Traces.{word_of, event_of, said_in_line};
 
 use crate::fields::Fields;
 use address::Address;
 use limits::TRACE_LINE;
-use script_reader::{Fault, Unheard, first_field, is_skipped};
+use script_reader::{Fault, Unheard, first_field};
 use std::alloc::Global;
 use trace_props::{BoxedInstall, Delivery, Event, Install, Message, Numbered, Sending};
 use view::View;
@@ -182,29 +182,34 @@ fn event_of(alloc: Global, word: Word, fields: Fields<'_>) -> Result<Event, Unhe
     }
 }
 
-/// The event of a line that is not skipped.
-#[tactic(auto, unfolding(crate::specs::Traces::event_in_line))]
-fn event_in_line(alloc: Global, line: &[u8]) -> Result<Event, Unheard>
-    ensures gives { IsReadUnlessRefused (λ x. x) result (event_in_line line.now) }
-    ensures short { IfOk result IsShort }
+/// The count of `P V N`, which is all that is left of a line.
+#[tactic(auto, unfolding(script_reader::specs::Fields::last, crate::specs::Fields::stable_at))]
+fn lone_stable(mut fields: Fields<'_>) -> Result<u64, Unheard>
+    ensures { IsReadUnlessRefused (λ x. x) result (last (stable_at fields.entry)) }
+{
+    fields.address()?;
+    fields.view_id()?;
+    let count = fields.number()?;
+    fields.end()?;
+    Ok(count)
+}
+
+/// What a line says that is not skipped: an event; nothing, where it says which messages are stable.
+#[tactic(auto, unfolding(crate::specs::Traces::said_in_line))]
+pub(crate) fn said_in_line(alloc: Global, line: &[u8]) -> Result<Option<Event>, Unheard>
+    ensures gives { IsReadUnlessRefused (λ x. x) result (said_in_line line.now) }
+    ensures short { IfOk result (λ said. IfSome said IsShort) }
 {
     if line.len() > TRACE_LINE {
         return Err(Unheard::Fault(Fault::LineTooLong));
     }
     let (name, rest) = first_field(line);
-    match word_of(name) {
-        None => Err(Unheard::Fault(Fault::UnknownWord)),
-        Some(word) => event_of(alloc, word, Fields::new(rest)),
-    }
-}
-
-/// What a line says: nothing, or an event.
-pub(crate) fn read_line(alloc: Global, line: &[u8]) -> Result<Option<Event>, Unheard>
-    ensures gives { IsReadUnlessRefused (λ x. x) result (reading_by event_in_line line.now) }
-    ensures short { IfOk result (λ read. IfSome read IsShort) }
-{
-    if is_skipped(line) {
+    if name == b"stable".as_slice() {
+        lone_stable(Fields::new(rest))?;
         return Ok(None);
     }
-    Ok(Some(event_in_line(alloc, line)?))
+    match word_of(name) {
+        None => Err(Unheard::Fault(Fault::UnknownWord)),
+        Some(word) => Ok(Some(event_of(alloc, word, Fields::new(rest))?)),
+    }
 }

@@ -2,11 +2,11 @@
 
 ghost use Rattle.std.specs.Prelude.{◌≡◌, ◌++◌, ◌∷◌, [], Ok, OnOk, MatchResult};
 ghost use Rattle.trace_props.specs.Recorded.{IsShort};
-ghost use Rattle.script_reader.specs.Texts.{and_then, reading_by, HasRead, IsUnread};
-ghost use Rattle.trace_reader.specs.Traces.{event_in_line, event_alone, trace_of};
+ghost use Rattle.script_reader.specs.Texts.{reading_by, HasRead, IsUnread};
+ghost use Rattle.trace_reader.specs.Traces.{said_in_line, with_said, trace_of};
 
-use crate::line::read_line;
-use script_reader::{Unread, first_line};
+use crate::line::said_in_line;
+use script_reader::{Unread, first_line, is_skipped};
 use std::alloc::{AllocError, Global};
 use trace_props::{Event, Trace};
 
@@ -22,9 +22,12 @@ fn add(trace: &mut Trace, event: Event) -> Result<(), AllocError>
 
 /// Goes on with one line.
 fn read_on(alloc: Global, trace: &mut Trace, number: u64, line: &[u8]) -> Result<(), Unread>
-    ensures { HasRead (and_then event_alone) trace.old.events number (reading_by event_in_line line.now) result trace.new.events }
+    ensures { HasRead with_said trace.old.events number (reading_by said_in_line line.now) result trace.new.events }
 {
-    match read_line(alloc, line) {
+    if is_skipped(line) {
+        return Ok(());
+    }
+    match said_in_line(alloc, line) {
         Err(unheard) => Err(unheard.at(number)),
         Ok(None) => Ok(()),
         Ok(Some(event)) => match add(trace, event) {
@@ -34,13 +37,13 @@ fn read_on(alloc: Global, trace: &mut Trace, number: u64, line: &[u8]) -> Result
     }
 }
 
-/// Reads the text of a trace, in one pass. It is exactly what its lines say: each is one event, in order, and lines that are
-/// empty or begin with `#` say nothing, however long they are. A line ends with a line feed, which the last may lack
-/// (docs/FORMATS.md, "Trace text").
+/// Reads the text of a trace, in one pass. It is exactly what its lines say: each is one event, in order. Lines that are
+/// empty or begin with `#` say nothing, however long they are, and lines `stable P V N` are no events. A line ends with a line feed,
+/// which the last may lack (docs/FORMATS.md, "Trace text").
 ///
 /// # Errors
 ///
-/// `Unread::Fault` has the first line that is no event, counted from 1, skipped lines among them, and what is wrong with it:
+/// `Unread::Fault` has the first line that is neither, counted from 1, skipped lines among them, and what is wrong with it:
 /// it has more than `TRACE_LINE` bytes (43), or begins with no known word (40); else the first of its fields from the left that is
 /// missing (42), or not of its form or range (41); or it has a field too many (41). `Unread::Memory` where memory was refused.
 /// Either way nothing of the trace is left.

@@ -1,14 +1,13 @@
 -- How the parts of a round go on, and come together.
-use Rattle.std.proofs.Common.{◌≡◌, ℕ, ◌+◌, ◌<◌, ◌≤◌, ◌++◌, Bool, true, false, cond, length, take, filter, slice_index_or, take_all, List, [], ◌∷◌, Option, Some, None, Result, Ok, Err, inl, inr, refl, sym, ap, ◌∙◌, subst, arith, length-append, append-nil}
+use Rattle.std.proofs.Common.{◌≡◌, ℕ, ◌+◌, ◌<◌, ◌≤◌, ◌++◌, Bool, true, false, cond, length, take, filter, slice_index_or, take_all, List, [], ◌∷◌, Option, Some, None, Ok, Err, inl, inr, refl, sym, ap, ◌∙◌, subst, arith, length-append, append-nil}
 use Rattle.std.proofs.lemmas.List.Elements.{filter_more}
 use Rattle.address.specs.Ids.{Address}
 use Rattle.state_transfer.specs.Meanings.{Meaning}
 use Rattle.member.specs.declared.error.Error.{Error}
 use Rattle.udp_net.specs.Logs.{Log, Lists, receiving, answer_of}
 use Rattle.udp_member.specs.declared.runner.TheConstants.{RECEIVES}
-use Rattle.udp_member.specs.Offers.{Offers}
 use Rattle.udp_member.specs.Turns.{Handed, Datagram, Suspect, Tick, Hint, Driven, Takes, TakesAll, Nothing, Next, Any}
-use Rattle.udp_member.specs.Rounds.{PassesOver, HandsIn, HearsOne, Receives, Cuts, Hears, IsSilent, silent_of, after_suspicions, SuspectsOf, Suspects, Listens, Rounds}
+use Rattle.udp_member.specs.Rounds.{PassesOver, HandsIn, HearsOne, Receives, Cuts, Hears, IsSilent, silent_of, after_suspicions, SuspectsOf, Suspects, Rounds}
 use Rattle.udp_member.specs.Silences.{begun_anew, is_silent}
 use Rattle.udp_member.specs.Notes.{Notes}
 use Rattle.udp_member.specs.Seeking.{Hints}
@@ -21,14 +20,13 @@ module _ {N S : Type 0} (log : N → Option Log) (failed : N → ℕ) (meaning :
     pub takes : TakesAll log failed meaning Datagram Any old datagrams new
 
   -- the datagram that a receive gave is handed in
-  pub heard : (old new : Driven N S) (net : N) (buffer lent : List ℕ) (given : Option ℕ) (count : ℕ) (failure : Option Error) → given ≡ Some count → lent ≡ buffer
-      → Lists (log old.net) (receiving (answer_of (Ok given) buffer)) (log net) → failed net ≡ failed old.net
-      → HandsIn log failed meaning (Datagram (take count lent)) net old.channel old.notes failure new.net new.channel new.notes → new.faults ≡ old.faults
-      → HearsOne log failed meaning old failure new
-  heard old new net buffer lent given count failure is whole lists same h faults =
-      let came = subst (λ (a : Option ℕ). Lists (log old.net) (receiving (answer_of (Ok a) buffer)) (log net)) is lists in
-      let comes = subst (λ (b : List ℕ). Lists (log old.net) (receiving (answer_of (Ok (Some count)) b)) (log net)) (sym whole) came in
-      record { bytes = take count lent; answer = h.answer; takes = record { net = net; comes = (comes, same); turn = h.turn; faults = faults; notes = h.noted }; why = h.why }
+  pub heard : (old new : Driven N S) (buffer lent : List ℕ) (given : Option ℕ) (count : ℕ) (failure : Option Error) → given ≡ Some count → lent ≡ buffer
+      → Lists (log old.net) (receiving (answer_of (Ok given) buffer)) (log new.net) → failed new.net ≡ failed old.net
+      → HandsIn meaning (Datagram (take count lent)) old.channel old.notes failure new.channel new.notes → new.faults ≡ old.faults → HearsOne log failed meaning old failure new
+  heard old new buffer lent given count failure is whole lists same h faults =
+      let came = subst (λ (a : Option ℕ). Lists (log old.net) (receiving (answer_of (Ok a) buffer)) (log new.net)) is lists in
+      let comes = subst (λ (b : List ℕ). Lists (log old.net) (receiving (answer_of (Ok (Some count)) b)) (log new.net)) (sym whole) came in
+      record { bytes = take count lent; answer = h.answer; takes = record { comes = (comes, same); turn = h.turn; faults = faults; notes = h.noted }; why = h.why }
 
   pub heard-none : (old : Driven N S) → HeardSoFar old 0 old
   heard-none old = record { datagrams = []; many = refl; takes = Nothing }
@@ -102,15 +100,14 @@ module _ {N S : Type 0} (log : N → Option Log) (failed : N → ℕ) (meaning :
 
   pub suspected-one : (watched : List Address) (k : ℕ) (old mid new : Driven N S) (is_heard : Bool) (p : Address) → k < length watched → p ≡ slice_index_or watched k p
       → SuspectedSoFar watched k old is_heard mid → is_silent mid.notes.silence p ≡ true
-      → HandsIn log failed meaning (Suspect p) mid.net mid.channel mid.notes None new.net new.channel new.notes → new.faults ≡ mid.faults
-      → SuspectedSoFar watched (k + 1) old false new
-  suspected-one watched k old mid new is_heard p few at so silent h same =
+      → HandsIn meaning (Suspect p) mid.channel mid.notes None new.channel new.notes → new.net ≡ mid.net → new.faults ≡ mid.faults → SuspectedSoFar watched (k + 1) old false new
+  suspected-one watched k old mid new is_heard p few at so silent h net same =
       let is : is_silent old.notes.silence p ≡ true = subst (λ (n : Notes). is_silent n.silence p ≡ true) so.notes silent in
       let more : silent_of (take (k + 1) watched) old ≡ silent_of (take k watched) old ++ p ∷ [] =
       one-more (is_silent old.notes.silence) watched k p few at ∙ ap (λ (b : Bool). silent_of (take k watched) old ++ cond b (p ∷ []) []) is in
       record {
         takes = subst (λ (xs : List Address). TakesAll log failed meaning Suspect (IsSilent old) old xs new) (sym more)
-            (Next (silent_of (take k watched) old) mid p h.answer new so.takes is (record { net = mid.net; comes = refl; turn = h.turn; faults = same; notes = h.noted }) h.why);
+            (Next (silent_of (take k watched) old) mid p h.answer new so.takes is (record { comes = net; turn = h.turn; faults = same; notes = h.noted }) h.why);
         heard = sym (ap is_empty more ∙ never-empty (silent_of (take k watched) old) p);
         notes = h.noted ∙ so.notes;
       }
@@ -128,11 +125,11 @@ module _ {N S : Type 0} (log : N → Option Log) (failed : N → ℕ) (meaning :
       }
 
   pub suspected-cut : (watched : List Address) (k : ℕ) (old mid new : Driven N S) (is_heard : Bool) (p : Address) (e : Error) → SuspectedSoFar watched k old is_heard mid
-      → is_silent mid.notes.silence p ≡ true → HandsIn log failed meaning (Suspect p) mid.net mid.channel mid.notes (Some e) new.net new.channel new.notes → new.faults ≡ mid.faults
+      → is_silent mid.notes.silence p ≡ true → HandsIn meaning (Suspect p) mid.channel mid.notes (Some e) new.channel new.notes → new.net ≡ mid.net → new.faults ≡ mid.faults
       → SuspectsOf log failed meaning watched old (Some e) new
-  suspected-cut watched k old mid new is_heard p e so silent h same =
+  suspected-cut watched k old mid new is_heard p e so silent h net same =
       cut-by Suspect (IsSilent old) old mid new (silent_of (take k watched) old) p h.answer e so.takes (subst (λ (n : Notes). is_silent n.silence p ≡ true) so.notes silent)
-      (record { net = mid.net; comes = refl; turn = h.turn; faults = same; notes = h.noted }) h.why
+      (record { comes = net; turn = h.turn; faults = same; notes = h.noted }) h.why
 
   -- all of them were, and the counts begin anew where there was one
   ends-so : (xs : List Address) (is_heard : Bool) (r : Driven N S) → is_heard ≡ is_empty xs
@@ -155,41 +152,37 @@ module _ {N S : Type 0} (log : N → Option Log) (failed : N → ℕ) (meaning :
 
   -- ---- a whole round
 
-  pub listened : (old begun new : Driven N S) (answer : Result ℕ Error) → Offers log failed old.net old.channel begun.net begun.channel → begun.faults ≡ old.faults
-      → begun.notes ≡ old.notes → Hears log failed meaning begun answer new → Listens log failed meaning old answer new
-  listened old begun new answer offers faults_same notes_same h = record { begun = begun; offers = offers; faults = faults_same; notes = notes_same; hears = h }
-
-  pub cut-while-hearing : (old new : Driven N S) (e : Error) → Listens log failed meaning old (Err e) new → Rounds log failed meaning old (Some e) new
-  cut-while-hearing old new e l = record {
+  pub cut-while-hearing : (old new : Driven N S) (e : Error) → Hears log failed meaning old (Err e) new → Rounds log failed meaning old (Some e) new
+  cut-while-hearing old new e h = record {
     heard = Err e;
     mid = new;
-    listens = l;
+    hears = h;
     then_suspects = λ n is. absurd (cc);
     stops = λ k is. (cc, refl);
   }
 
-  pub cut-while-suspecting : (old heard new : Driven N S) (count : ℕ) (e : Error) → Listens log failed meaning old (Ok count) heard → Suspects log failed meaning heard (Some e) new
+  pub cut-while-suspecting : (old heard new : Driven N S) (count : ℕ) (e : Error) → Hears log failed meaning old (Ok count) heard → Suspects log failed meaning heard (Some e) new
       → Rounds log failed meaning old (Some e) new
-  cut-while-suspecting old heard new count e l x = record {
+  cut-while-suspecting old heard new count e h x = record {
     heard = Ok count;
     mid = heard;
-    listens = l;
+    hears = h;
     then_suspects = λ n is. record { cut = Some e; mid = new; suspects = x; ticks = λ m. absurd (cc); stops = λ k is. (is, refl) };
     stops = λ k n. absurd (cc);
   }
 
-  pub ticked : (old heard mid new : Driven N S) (count : ℕ) (failure : Option Error) → Listens log failed meaning old (Ok count) heard
-      → Suspects log failed meaning heard None mid → HandsIn log failed meaning Tick mid.net mid.channel mid.notes failure new.net new.channel new.notes
-      → new.faults ≡ mid.faults → Rounds log failed meaning old failure new
-  ticked old heard mid new count failure l x t faults_same = record {
+  pub ticked : (old heard mid new : Driven N S) (count : ℕ) (failure : Option Error) → Hears log failed meaning old (Ok count) heard
+      → Suspects log failed meaning heard None mid → HandsIn meaning Tick mid.channel mid.notes failure new.channel new.notes → new.net ≡ mid.net → new.faults ≡ mid.faults
+      → Rounds log failed meaning old failure new
+  ticked old heard mid new count failure h x t net faults_same = record {
     heard = Ok count;
     mid = heard;
-    listens = l;
+    hears = h;
     then_suspects = λ n is. record {
       cut = None;
       mid = mid;
       suspects = x;
-      ticks = λ m. record { answer = t.answer; takes = record { net = mid.net; comes = refl; turn = t.turn; faults = faults_same; notes = t.noted }; why = t.why };
+      ticks = λ m. record { answer = t.answer; takes = record { comes = net; turn = t.turn; faults = faults_same; notes = t.noted }; why = t.why };
       stops = λ k m. absurd (cc);
     };
     stops = λ k n. absurd (cc);
@@ -197,7 +190,6 @@ module _ {N S : Type 0} (log : N → Option Log) (failed : N → ℕ) (meaning :
 
   -- ---- who is sought
 
-  pub hinted : (old new : Driven N S) (p : Address) (failure : Option Error)
-      → HandsIn log failed meaning (Hint p) old.net old.channel old.notes failure new.net new.channel new.notes → new.faults ≡ old.faults
-      → Hints log failed meaning p old failure new
-  hinted old new p failure h same = record { answer = h.answer; takes = record { net = old.net; comes = refl; turn = h.turn; faults = same; notes = h.noted }; why = h.why }
+  pub hinted : (old new : Driven N S) (p : Address) (failure : Option Error) → HandsIn meaning (Hint p) old.channel old.notes failure new.channel new.notes → new.net ≡ old.net
+      → new.faults ≡ old.faults → Hints log failed meaning p old failure new
+  hinted old new p failure h net same = record { answer = h.answer; takes = record { comes = net; turn = h.turn; faults = same; notes = h.noted }; why = h.why }

@@ -9,7 +9,6 @@ use Rattle.udp_net.specs.declared.net.Received.{Received}
 use Rattle.udp_net.specs.declared.net.Received.TheVariants as received
 use Rattle.udp_net.specs.Logs.{Log, Lists, receiving, one_more}
 use Rattle.udp_member.specs.declared.runner.TheConstants.{RECEIVES}
-use Rattle.udp_member.specs.Offers.{Offers}
 use Rattle.udp_member.specs.Silences.{after_round, begun_anew, is_silent, standing_of}
 use Rattle.udp_member.specs.Notes.{Notes}
 use Rattle.udp_member.specs.Turns.{Handed, Datagram, Suspect, Tick, Turn, Driven, Takes, TakesAll, Any, watched_at, goes_on, noted_of}
@@ -20,10 +19,10 @@ PassesOver answer None = goes_on answer ≡ true
 PassesOver answer (Some e) = (answer ≡ Some e) × (is_end e ≡ true)
 
 -- a turn, what is noted of it, and whether it goes on
-pub record HandsIn {N S : Type 0} (log : N → Option Log) (failed : N → ℕ) (meaning : Meaning S) (handed : Handed) (net : N) (channel : ChannelModel S) (notes : Notes)
-    (failure : Option Error) (new_net : N) (new_channel : ChannelModel S) (new_notes : Notes) : Type 0 where
+pub record HandsIn {S : Type 0} (meaning : Meaning S) (handed : Handed) (channel : ChannelModel S) (notes : Notes) (failure : Option Error) (new_channel : ChannelModel S)
+    (new_notes : Notes) : Type 0 where
   pub answer : Option Error
-  pub turn : Turn log failed meaning handed net channel answer new_net new_channel
+  pub turn : Turn meaning handed channel answer new_channel
   pub noted : new_notes ≡ noted_of handed channel answer notes
   pub why : PassesOver answer failure
 
@@ -130,18 +129,10 @@ pub record SuspectsAndTicks {N S : Type 0} (log : N → Option Log) (failed : N 
   pub ticks : cut ≡ None → Ticks log failed meaning mid failure new
   pub stops : (e : Error) → cut ≡ Some e → (failure ≡ Some e) × (new ≡ mid)
 
--- what waits is offered; then the datagrams that come are handed in, and it is answered how many
-pub record Listens {N S : Type 0} (log : N → Option Log) (failed : N → ℕ) (meaning : Meaning S) (old : Driven N S) (answer : Result ℕ Error) (new : Driven N S) : Type 0 where
-  pub begun : Driven N S
-  pub offers : Offers log failed old.net old.channel begun.net begun.channel
-  pub faults : begun.faults ≡ old.faults
-  pub notes : begun.notes ≡ old.notes
-  pub hears : Hears log failed meaning begun answer new
-
--- it listens; and where that is not cut short, suspicions and a tick
+-- the datagrams that come are handed in; and where that is not cut short, suspicions and a tick
 pub record Rounds {N S : Type 0} (log : N → Option Log) (failed : N → ℕ) (meaning : Meaning S) (old : Driven N S) (failure : Option Error) (new : Driven N S) : Type 0 where
   pub heard : Result ℕ Error
   pub mid : Driven N S
-  pub listens : Listens log failed meaning old heard mid
+  pub hears : Hears log failed meaning old heard mid
   pub then_suspects : (count : ℕ) → heard ≡ Ok count → SuspectsAndTicks log failed meaning mid failure new
   pub stops : (e : Error) → heard ≡ Err e → (failure ≡ Some e) × (new ≡ mid)

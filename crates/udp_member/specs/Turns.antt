@@ -12,7 +12,6 @@ use Rattle.channel.specs.Channels.{ChannelModel, left_by, member_in, heard_at}
 use Rattle.channel.specs.Calls.{Calls, CallsLent}
 use Rattle.udp_net.specs.declared.net.Received.TheVariants as received
 use Rattle.udp_net.specs.Logs.{Log, Lists, receiving}
-use Rattle.udp_member.specs.Offers.{Offers}
 use Rattle.udp_member.specs.Notes.{Notes, noted}
 
 -- what a runner hands in: a datagram that came, a suspicion, a tick, a hint of whom it seeks
@@ -29,13 +28,10 @@ CallsBy meaning (Suspect p) old answer new = Calls meaning (input.Suspect p) old
 CallsBy meaning Tick old answer new = Calls meaning input.Tick old answer new
 CallsBy meaning (Hint p) old answer new = Calls meaning (input.MergeHint p) old answer new
 
--- a turn: one call of the channel, answered so; then all that waits in it is offered to the net
-pub record Turn {N S : Type 0} (log : N → Option Log) (failed : N → ℕ) (meaning : Meaning S) (handed : Handed) (net : N) (channel : ChannelModel S)
-    (answer : Option Error) (new_net : N) (new_channel : ChannelModel S) : Type 0 where
-  pub called : ChannelModel S
-  pub calls : CallsBy meaning handed channel answer called
-  pub left : IfSome answer (λ e. called ≡ left_by e channel)
-  pub offers : Offers log failed net called new_net new_channel
+-- a turn: one call of the channel, answered so; an error leaves what it leaves
+pub record Turn {S : Type 0} (meaning : Meaning S) (handed : Handed) (old : ChannelModel S) (answer : Option Error) (new : ChannelModel S) : Type 0 where
+  pub calls : CallsBy meaning handed old answer new
+  pub left : IfSome answer (λ e. new ≡ left_by e old)
 
 -- after any answer but 6 and 7 the round goes on
 abbrev pub goes_on : Option Error → Bool
@@ -68,12 +64,11 @@ Comes log failed (Suspect p) old new = new ≡ old
 Comes log failed Tick old new = new ≡ old
 Comes log failed (Hint p) old new = new ≡ old
 
--- what is handed in comes, and there is a turn by it
+-- what is handed in comes, and there is a turn by it; nothing is offered
 pub record Takes {N S : Type 0} (log : N → Option Log) (failed : N → ℕ) (meaning : Meaning S) (handed : Handed) (old : Driven N S) (answer : Option Error)
     (new : Driven N S) : Type 0 where
-  pub net : N
-  pub comes : Comes log failed handed old.net net
-  pub turn : Turn log failed meaning handed net old.channel answer new.net new.channel
+  pub comes : Comes log failed handed old.net new.net
+  pub turn : Turn meaning handed old.channel answer new.channel
   pub faults : new.faults ≡ old.faults
   pub notes : new.notes ≡ noted_of handed old.channel answer old.notes
 

@@ -7,7 +7,6 @@ mod pace;
 mod peers;
 mod runner;
 mod silence;
-mod turns;
 
 pub use channel::Error;
 pub use peers::Peer;

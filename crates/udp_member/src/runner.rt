@@ -1,12 +1,12 @@
 ghost use Rattle.std.specs.Prelude.{◌≡◌, IfOk};
-ghost use Rattle.std.specs.Result.{result_err};
+ghost use Rattle.std.specs.Result.{result_err, result_ok};
 ghost use Rattle.std.specs.Borrow.{sem};
 ghost use Rattle.udp_member.specs.Offers.{Offers};
 ghost use Rattle.udp_net.specs.Logs.{Lists};
 ghost use Rattle.channel.specs.Channels.{view_in};
 ghost use Rattle.udp_member.specs.Notes.{having_met, nothing_noted};
 ghost use Rattle.udp_member.specs.Turns.{Datagram, Hint, Suspect, Tick, driven};
-ghost use Rattle.udp_member.specs.Rounds.{HandsIn, Receives, Hears, Suspects, SuspectsOf, Listens, Rounds};
+ghost use Rattle.udp_member.specs.Rounds.{HandsIn, PassesOver, Receives, Hears, Suspects, SuspectsOf, Rounds};
 ghost use Rattle.udp_member.specs.Seeking.{Seeks, sought, turned};
 ghost use Rattle.udp_member.specs.Lends.{lends_channel, lends_net};
 
@@ -14,10 +14,9 @@ use crate::notes::Notes;
 use crate::offering::offer_all;
 use crate::pace::Pace;
 use crate::silence::standing_of;
-use crate::turns::{hint, passed_over, suspect, take_in, tick};
 use address::{Address, Node};
 use channel::{Channel, Error};
-use limits::DATAGRAM;
+use limits::{DATAGRAM, Refusal};
 use state_transfer::Receiver;
 use std::alloc::{AllocError, Global};
 use std::marker::Model;
@@ -46,16 +45,28 @@ impl<N: Net, R: Receiver> Model for Runner<N, R> {
     ghost view = { λ r. driven r.net r.channel r.faults r.notes };
 }
 
+// What the channel answered, where the round goes on: a call that it refused with anything but 6 and 7 is passed over.
+fn passed_over<T: Drop>(answer: Result<T, Error>) -> Result<Option<T>, Error>
+    ensures error { PassesOver (result_err answer) (result_err result) }
+    ensures value { IfOk result (λ value. value ≡ result_ok answer) }
+{
+    match answer {
+        Ok(value) => Ok(Some(value)),
+        Err(Error::Refused(Refusal::Closed)) => Err(Error::Refused(Refusal::Closed)),
+        Err(Error::Refused(Refusal::Memory)) => Err(Error::Refused(Refusal::Memory)),
+        Err(_) => Ok(None),
+    }
+}
+
 // Hands in a datagram, and notes what came of it.
-fn hand_in<N: Net, R: Receiver>(
-    net: &mut N,
+fn hand_in<R: Receiver>(
     channel: &mut Channel<R>,
     notes: &mut Notes,
     bytes: &[u8],
 ) -> Result<(), Error>
-    ensures { HandsIn N.log N.failed R.meaning (Datagram bytes.now) net.old channel.old notes.old (result_err result) net.new channel.new notes.new }
+    ensures { HandsIn R.meaning (Datagram bytes.now) channel.old notes.old (result_err result) channel.new notes.new }
 {
-    let answer = take_in(net, channel, bytes);
+    let answer = channel.incoming(bytes);
     notes.note(&answer);
     passed_over(answer)?;
     Ok(())
@@ -84,10 +95,9 @@ impl<N: Net, R: Receiver> Runner<N, R> {
         })
     }
 
-    /// One round. What waited in the channel is offered to the net. Then datagrams are received, at most `RECEIVES`, until none waits or a receive fails, and each
-    /// is handed to the channel. Then the round counts for each address that the channel watches and from which no sign of life came: after `silent` such rounds, and
-    /// twice as many while it waits for another's view, the address is handed in as suspected. Last comes a tick of the channel. What the channel puts out by
-    /// each of these steps is offered to the net at once, in order.
+    /// One round. Datagrams are received, at most `RECEIVES`, until none waits or a receive fails, and each is handed to the channel. Then the round counts for each
+    /// address that the channel watches and from which no sign of life came: after `silent` such rounds, and twice as many while it waits for another's view, the address
+    /// is handed in as suspected. Last comes a tick of the channel. Nothing is offered to the net: what the channel puts out by these steps waits in it (`offer`).
     ///
     /// What is a sign of life depends on where the member stands (docs/PROTOCOL.md, "Silence"): in an open view the packets of that view, in a flush of its own the answers
     /// to it, and else what belongs to the promise. Counts begin anew where it stands elsewhere, and after each suspicion. Where memory is refused for the list of whom it
@@ -103,15 +113,30 @@ impl<N: Net, R: Receiver> Runner<N, R> {
         self.tick()
     }
 
-    /// The first part of a round, for who wants to hear more often than it has rounds: what waited in the channel is offered to the net, and datagrams are received and
-    /// handed in as in a round. Nothing is counted for the silent, and no time passes. It answers how many datagrams came: where they are `RECEIVES`, more may wait.
+    /// The first part of a round, for who wants to hear more often than it has rounds: datagrams are received and handed in as in a round. Nothing is counted for the
+    /// silent, no time passes, and nothing is offered. It answers how many datagrams came: where they are `RECEIVES`, more may wait.
     ///
     /// It is cut short exactly where the channel answers 6 or 7 to a datagram, with that answer.
     pub fn listen(&mut self) -> Result<usize, Error>
-        ensures { Listens N.log N.failed R.meaning self.old result self.new }
+        ensures { Hears N.log N.failed R.meaning self.old result self.new }
     {
-        self.offer();
-        self.receive_all()
+        for turn in 0..RECEIVES {
+            let came = self.receive_one()?;
+            if !came {
+                return Ok(turn);
+            }
+        }
+        Ok(RECEIVES)
+    }
+
+    /// Offers what waits in the channel to the net, each packet once and in order, and flushes the net. To be called after each round, and after all that makes the channel put something out:
+    /// by then take what happened by it, and write what is told of it. So nobody hears of what is in no text yet (docs/EMBEDDING.md).
+    pub fn offer(&mut self)
+        ensures offers { Offers N.log N.failed self.old.net self.old.channel self.new.net self.new.channel }
+        ensures faults { self.new.faults ≡ self.old.faults }
+        ensures notes { self.new.notes ≡ self.old.notes }
+    {
+        offer_all(&mut self.net, &mut self.channel);
     }
 
     /// Waits until a datagram waits at the net, but no longer than `limit`, for who has nothing else to do. Nothing is received by it. While many datagrams come it
@@ -146,8 +171,8 @@ impl<N: Net, R: Receiver> Runner<N, R> {
 
     /// Looks for members of its group that are not in its view, as after a wrong suspicion or while a network was parted: where the channel is the coordinator of
     /// its view, a node of those of `new` is chosen where somebody was heard or stood in a view, and of which nobody is in its view, and the channel is given its
-    /// latest address as a hint (docs/PROTOCOL.md, "Merging"). What the channel puts out by it is offered to the net. At each call it is the next such node's turn;
-    /// there is no hint where there is none. To be called between two rounds, every some rounds.
+    /// latest address as a hint (docs/PROTOCOL.md, "Merging"). What the channel puts out by it waits in it. At each call it is the next such node's turn; there is no
+    /// hint where there is none. To be called between two rounds, every some rounds.
     ///
     /// It is answered as a round is where the channel answers 6 or 7.
     pub fn seek(&mut self) -> Result<(), Error>
@@ -203,28 +228,6 @@ impl<N: Net, R: Receiver> Runner<N, R> {
         self.net
     }
 
-    // Offers what waits in the channel to the net.
-    fn offer(&mut self)
-        ensures offers { Offers N.log N.failed self.old.net self.old.channel self.new.net self.new.channel }
-        ensures faults { self.new.faults ≡ self.old.faults }
-        ensures notes { self.new.notes ≡ self.old.notes }
-    {
-        offer_all(&mut self.net, &mut self.channel);
-    }
-
-    // Receives datagrams and hands them in; answers how many there were.
-    fn receive_all(&mut self) -> Result<usize, Error>
-        ensures { Hears N.log N.failed R.meaning self.old result self.new }
-    {
-        for turn in 0..RECEIVES {
-            let came = self.receive_one()?;
-            if !came {
-                return Ok(turn);
-            }
-        }
-        Ok(RECEIVES)
-    }
-
     // Receives a datagram and hands it in; answers whether there was one.
     fn receive_one(&mut self) -> Result<bool, Error>
         ensures { Receives N.log N.failed R.meaning self.old result self.new }
@@ -233,8 +236,7 @@ impl<N: Net, R: Receiver> Runner<N, R> {
             Ok(Some(count)) => {
                 let bytes = &self.buffer.as_slice()[..count];
                 self.pace.hear();
-                let (net, channel) = (&mut self.net, &mut self.channel);
-                hand_in(net, channel, &mut self.notes, bytes)?;
+                hand_in(&mut self.channel, &mut self.notes, bytes)?;
                 Ok(true)
             }
             Ok(None) => {
@@ -281,21 +283,23 @@ impl<N: Net, R: Receiver> Runner<N, R> {
 
     // Hands in an address as suspected.
     fn suspect(&mut self, address: Address) -> Result<(), Error>
-        ensures hands { HandsIn N.log N.failed R.meaning (Suspect address) self.old.net self.old.channel self.old.notes (result_err result) self.new.net self.new.channel self.new.notes }
+        ensures hands { HandsIn R.meaning (Suspect address) self.old.channel self.old.notes (result_err result) self.new.channel self.new.notes }
+        ensures net { self.new.net ≡ self.old.net }
         ensures faults { self.new.faults ≡ self.old.faults }
     {
-        let answer = suspect(&mut self.net, &mut self.channel, address);
+        let answer = self.channel.suspect(address);
         passed_over(answer)?;
         Ok(())
     }
 
     // Tells the channel that time passes.
     fn tick(&mut self) -> Result<(), Error>
-        ensures hands { HandsIn N.log N.failed R.meaning Tick self.old.net self.old.channel self.old.notes (result_err result) self.new.net self.new.channel self.new.notes }
+        ensures hands { HandsIn R.meaning Tick self.old.channel self.old.notes (result_err result) self.new.channel self.new.notes }
+        ensures net { self.new.net ≡ self.old.net }
         ensures faults { self.new.faults ≡ self.old.faults }
     {
         self.pace.begin();
-        let answer = tick(&mut self.net, &mut self.channel);
+        let answer = self.channel.tick();
         passed_over(answer)?;
         Ok(())
     }
@@ -315,10 +319,11 @@ impl<N: Net, R: Receiver> Runner<N, R> {
 
     // Hands in the address of whom it seeks.
     fn hint(&mut self, address: Address) -> Result<(), Error>
-        ensures hands { HandsIn N.log N.failed R.meaning (Hint address) self.old.net self.old.channel self.old.notes (result_err result) self.new.net self.new.channel self.new.notes }
+        ensures hands { HandsIn R.meaning (Hint address) self.old.channel self.old.notes (result_err result) self.new.channel self.new.notes }
+        ensures net { self.new.net ≡ self.old.net }
         ensures faults { self.new.faults ≡ self.old.faults }
     {
-        let answer = hint(&mut self.net, &mut self.channel, address);
+        let answer = self.channel.merge_hint(address);
         passed_over(answer)?;
         Ok(())
     }

@@ -1,4 +1,5 @@
 pub mod Bursts
+pub mod Either
 pub mod Errors
 pub mod Hosts
 pub mod Logs

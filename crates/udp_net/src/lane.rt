@@ -1,11 +1,11 @@
-ghost use Rattle.std.specs.Prelude.{◌≡◌, OnErr, IfOk, OnOk, IsTrue, length, nat_eq};
+ghost use Rattle.std.specs.Prelude.{◌≡◌, OnErr, IfOk, OnOk, IsTrue, length, map, nat_eq};
 ghost use Rattle.udp_net.specs.Bursts.{opened, passage, offered, after_offer, begun, GoesOn};
-ghost use Rattle.udp_net.specs.Hosts.{IsSameHost};
+ghost use Rattle.udp_net.specs.Hosts.{IsSameHost, host_of};
 ghost use Rattle.udp_net.specs.Strangers.{IsFrom, IsPlainlyFrom};
 ghost use Rattle.std.specs.Net.Socket.{socket_ip, socket_port};
 
 use crate::held_back::HeldBack;
-use crate::{BURST, NodePort, OFFERS, PATIENCE};
+use crate::{BURST, Hosts, NodePort, OFFERS, PATIENCE};
 use address::Node;
 use std::alloc::{AllocError, Global};
 use std::marker::Model;
@@ -50,6 +50,21 @@ fn is_same_host(one: IpAddr, other: IpAddr) -> bool
 {
     let (first, second) = (one.to_canonical(), other.to_canonical());
     one == other || first == second
+}
+
+/// The ways to some nodes, each at its host.
+pub(crate) fn lanes_to(
+    alloc: Global,
+    nodes: &[NodePort],
+    hosts: &Hosts,
+) -> Result<Vec<Lane>, AllocError>
+    ensures { IfOk result (λ l. l.items ≡ map (λ n. opened n (host_of n.node hosts.now.peers)) nodes.now) }
+{
+    let mut lanes = Vec::with_capacity(alloc, nodes.len())?;
+    for node in nodes {
+        lanes.push(Lane::new(alloc, *node, hosts.host_of(node.node)))?;
+    }
+    Ok(lanes)
 }
 
 impl Lane {

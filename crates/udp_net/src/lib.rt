@@ -4,7 +4,9 @@
 
 mod asker;
 mod document;
+mod either_net;
 mod error;
+mod gate;
 mod held_back;
 mod hosts;
 mod lane;
@@ -13,17 +15,21 @@ mod neighbours;
 mod net;
 mod node_ports;
 mod sieve;
+mod sieved_net;
 mod socket;
 mod socket_net;
+mod waiter;
 mod word;
 
 pub use document::settings;
+pub use either_net::EitherNet;
 pub use error::{BindError, Fault, SettingsError};
 pub use held_back::HeldBack;
 pub use hosts::Hosts;
 pub use memory_net::{Listed, MemoryNet, Offered};
 pub use net::{Net, Received};
 pub use node_ports::{MOST_NODES, MOST_SILENT, NodePort, Settings};
+pub use sieved_net::SievedNet;
 pub use socket_net::SocketNet;
 pub use word::{Echo, Neighbour, Place, Word};
 

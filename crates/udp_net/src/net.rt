@@ -57,6 +57,13 @@ pub trait Net: Drop {
     fn unsent(&self) -> u64
         ensures { result ≡ unsent self.now };
 
+    /// Datagrams that were offered and wait, as those that go together in one frame, go now. Nothing is listed by it.
+    fn flush(&mut self)
+        ensures lists { Lists (log self.old) (λ l. l) (log self.new) }
+        ensures failed { failed self.new ≡ failed self.old }
+        ensures unsent { unsent self.old ≤ unsent self.new }
+    {}
+
     /// A round of the member is over whose packets it carries. That is in this view now, with these members, or in none. Nothing is listed by it.
     fn pass(&mut self, _view: Option<ViewId>, _members: &[Address])
         ensures lists { Lists (log self.old) (λ l. l) (log self.new) }

@@ -4,6 +4,7 @@ ghost use Rattle.udp_net.specs.Logs.{one_more};
 use std::io;
 use std::io::ErrorKind;
 use std::net::{SocketAddr, UdpSocket};
+use std::os::fd::{AsRawFd, RawFd};
 use std::time::Duration;
 
 /// A socket of UDP that waits only where it is asked to, and how many datagrams could not be sent on it: no call of `send` or `receive` waits, also where the socket could
@@ -30,6 +31,11 @@ impl Socket {
             is_blocking: false,
             unsent: 0,
         })
+    }
+
+    // Its descriptor.
+    pub(crate) fn descriptor(&self) -> RawFd {
+        self.socket.as_raw_fd()
     }
 
     // How many datagrams could not be sent, at most 2^64 - 1.

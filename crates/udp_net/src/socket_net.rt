@@ -1,42 +1,26 @@
-ghost use Rattle.std.specs.Prelude.{◌≡◌, ◌≢◌, ◌≤◌, true, length, map, IfOk, IfSome, IsTrue, if◌then◌else◌};
+ghost use Rattle.std.specs.Prelude.{◌≡◌, ◌≢◌, ◌≤◌, true, false, length, map, IfOk, IfSome, IsTrue};
 ghost use Rattle.udp_net.specs.Logs.{one_more, failures_after};
-ghost use Rattle.udp_net.specs.Bursts.{opened, passage};
-ghost use Rattle.udp_net.specs.Hosts.{host_of};
+ghost use Rattle.udp_net.specs.Bursts.{passage};
 ghost use Rattle.udp_net.specs.Sieve.{lets_through, IsOrdinary};
-ghost use Rattle.udp_net.specs.Strangers.{AnyLane, IsFrom, IsPlainlyFrom, is_strange, is_sieved};
+ghost use Rattle.udp_net.specs.Strangers.{AnyLane, ComesFrom, ComesPlainlyFrom, IsFrom, IsPlainlyFrom};
 ghost use Rattle.udp_net.specs.Words.{begins_as_word};
-ghost use Rattle.udp_net.specs.declared.socket_net.Verdict.TheVariants.{Given};
+ghost use Rattle.udp_net.specs.declared.gate.Verdict.TheVariants.{Given};
 ghost use Rattle.wire_values.specs.declared.packet.Packet.{Packet as PacketValue};
 ghost use Rattle.wire.specs.Packets.{Spells, packet_of};
 ghost use Rattle.udp_net.specs.declared.lane.Passage.TheVariants.{Lost};
 
-use crate::lane::{Lane, Passage};
-use crate::neighbours::Neighbours;
-use crate::sieve::Sieve;
+use crate::gate::{Gate, Verdict};
+use crate::lane::{Lane, Passage, lanes_to};
 use crate::socket::Socket;
+use crate::waiter::Waiter;
 use crate::word::is_word;
-use crate::{
-    BindError, Fault, HELD_WAIT, Hosts, Neighbour, Net, NodePort, Settings, TURN, WORD, Word,
-};
+use crate::{BindError, Fault, HELD_WAIT, Hosts, Neighbour, Net, NodePort, Settings, TURN, Word};
 use address::{Address, Node, ViewId};
-use std::alloc::{AllocError, Global};
+use std::alloc::Global;
 use std::net::SocketAddr;
+use std::os::fd::RawFd;
 use std::time::Duration;
-use step_output::OwnedName;
 use wire::{Packet, decode};
-
-/// What becomes of a datagram that comes.
-#[derive(Clone, Copy, PartialEq, Eq)]
-enum Verdict {
-    /// It is given.
-    Given,
-    /// It is a word, which counts.
-    Told,
-    /// It is dropped: it is no word of the group, or comes from elsewhere than the node that it names.
-    Strange,
-    /// It is dropped: the sieve does not let it through.
-    Sieved,
-}
 
 /// The net of one node: a socket of UDP at this node's host and at its port by the settings, which waits only in `wait`. Packets are neither signed nor encrypted, so the
 /// network must be one's own.
@@ -61,26 +45,13 @@ pub struct SocketNet {
     // The receives of this turn.
     receives: u32,
     failures: u64,
-    group: OwnedName,
-    sieve: Sieve,
-    neighbours: Neighbours,
-    // The bytes of the word that is said.
-    spelled: Vec<u8>,
+    gate: Gate,
     // Whether a node's datagrams are taken wherever they come from.
     is_open: bool,
-    strange: u64,
-    sieved: u64,
-}
-
-// The ways to some nodes, each at its host.
-fn lanes_to(alloc: Global, nodes: &[NodePort], hosts: &Hosts) -> Result<Vec<Lane>, AllocError>
-    ensures { IfOk result (λ l. l.items ≡ map (λ n. opened n (host_of n.node hosts.now.peers)) nodes.now) }
-{
-    let mut lanes = Vec::with_capacity(alloc, nodes.len())?;
-    for node in nodes {
-        lanes.push(Lane::new(alloc, *node, hosts.host_of(node.node)))?;
-    }
-    Ok(lanes)
+    // Whether each datagram of a node is given as it came.
+    is_bare: bool,
+    // Waits for another descriptor too, where it is to.
+    waiter: Option<Waiter>,
 }
 
 // A turn of the net is over: what was held back on a way goes on, where the next one begins there.
@@ -122,6 +93,17 @@ fn is_on_a_lane(lanes: &[Lane], is_open: bool, node: Node, from: SocketAddr) -> 
     first.is_way_of(is_open, node, from) || is_on_a_lane(rest, is_open, node, from)
 }
 
+// Whether some node is reached at an address.
+fn is_reached_at(lanes: &[Lane], from: SocketAddr) -> bool
+    ensures same { AnyLane (ComesPlainlyFrom from) lanes.now → IsTrue result }
+    ensures only { IsTrue result → AnyLane (ComesFrom from) lanes.now }
+{
+    let Some((first, rest)) = lanes.split_first() else {
+        return false;
+    };
+    first.comes_from(from) || is_reached_at(rest, from)
+}
+
 impl SocketNet {
     /// The net of a node. Refused with 50 where the settings do not list the node, with 51 where its socket cannot be bound, as where its port is taken, and
     /// with 7 where memory was refused.
@@ -134,25 +116,31 @@ impl SocketNet {
     ) -> Result<SocketNet, BindError> {
         let port = settings.port(node).ok_or(BindError::Config)?;
         let lanes = lanes_to(alloc, settings.nodes(), hosts)?;
-        let sieve = Sieve::new(alloc, settings.nodes(), settings.silent())?;
-        let neighbours = Neighbours::new(alloc, settings.nodes())?;
-        let spelled = Vec::with_capacity(alloc, WORD)?;
+        let gate = Gate::new(alloc, settings)?;
         match Socket::bind(network, SocketAddr::new(hosts.own(), port)) {
             Ok(socket) => Ok(SocketNet {
                 socket,
                 lanes,
                 receives: 0,
                 failures: 0,
-                group: OwnedName::of(&settings.group()),
-                sieve,
-                neighbours,
-                spelled,
+                gate,
                 is_open: false,
-                strange: 0,
-                sieved: 0,
+                is_bare: false,
+                waiter: None,
             }),
             Err(_) => Err(BindError::Bind),
         }
+    }
+
+    /// From now on its waits end too when another descriptor is readable. After an error, what the system says, they are as before.
+    pub fn also_wait_for<R: std::net::Net>(
+        &mut self,
+        alloc: Global,
+        network: &R,
+        other: RawFd,
+    ) -> std::io::Result<()> {
+        self.waiter = Some(Waiter::new(alloc, network, self.socket.descriptor(), other)?);
+        Ok(())
     }
 
     /// From now on the datagrams of a node that the settings list are taken wherever they come from, as where addresses are translated on the way
@@ -162,6 +150,14 @@ impl SocketNet {
         ensures unsent { self.new.socket.unsent ≡ self.old.socket.unsent }
     {
         self.is_open = true;
+    }
+
+    /// From now on it gives each datagram as it came that comes from where some node is reached, whatever it is, and holds nothing back: a net above it does that, as one over frames.
+    pub fn give_all(&mut self)
+        ensures failed { self.new.failures ≡ self.old.failures }
+        ensures unsent { self.new.socket.unsent ≡ self.old.socket.unsent }
+    {
+        self.is_bare = true;
     }
 
     // A datagram came from an address: the node that is reached there has rounds.
@@ -180,7 +176,7 @@ impl SocketNet {
     fn hear_node(&mut self, node: Node)
         ensures failed { self.new.failures ≡ self.old.failures }
         ensures unsent { self.new.socket.unsent ≡ self.old.socket.unsent }
-        ensures sieve { self.new.sieve ≡ self.old.sieve }
+        ensures sieve { self.new.gate.sieve ≡ self.old.gate.sieve }
     {
         for lane in self.lanes.as_mut_slice() {
             if lane.node() == node {
@@ -203,21 +199,21 @@ impl SocketNet {
         ensures failed { self.new.failures ≡ self.old.failures }
         ensures unsent { self.new.socket.unsent ≡ self.old.socket.unsent }
     {
-        let Ok(word) = Word::read(datagram, &self.group.lent()) else {
+        let Ok(word) = self.gate.word_in(datagram) else {
             return Verdict::Strange;
         };
         if !self.is_from(word.source.node(), from) {
             return Verdict::Strange;
         }
         self.hear_node(word.source.node());
-        self.neighbours.hear(&word);
+        self.gate.hear_word(&word);
         Verdict::Told
     }
 
     // What becomes of a packet.
     fn judge_packet(&mut self, packet: &Packet<'_>, from: SocketAddr) -> Verdict
-        ensures given { result ≡ Given → AnyLane (IsFrom self.old.is_open packet.now.source.node from) self.old.lanes.items × (lets_through self.old.sieve packet.now ≡ true) }
-        ensures ordinary { IsOrdinary self.old.sieve packet.now → AnyLane (IsPlainlyFrom self.old.is_open packet.now.source.node from) self.old.lanes.items → result ≡ Given }
+        ensures given { result ≡ Given → AnyLane (IsFrom self.old.is_open packet.now.source.node from) self.old.lanes.items × (lets_through self.old.gate.sieve packet.now ≡ true) }
+        ensures ordinary { IsOrdinary self.old.gate.sieve packet.now → AnyLane (IsPlainlyFrom self.old.is_open packet.now.source.node from) self.old.lanes.items → result ≡ Given }
         ensures failed { self.new.failures ≡ self.old.failures }
         ensures unsent { self.new.socket.unsent ≡ self.old.socket.unsent }
     {
@@ -225,43 +221,43 @@ impl SocketNet {
             return Verdict::Strange;
         }
         self.hear_node(packet.source.node());
-        if !self.sieve.lets_through(packet) {
-            return Verdict::Sieved;
+        self.gate.judge(packet)
+    }
+
+    // What becomes of a datagram of a bare net: it is given if it comes from where some node is reached, or may come from anywhere.
+    fn judge_bare(&mut self, from: SocketAddr) -> Verdict
+        ensures given { result ≡ Given → self.old.is_open ≡ false → AnyLane (ComesFrom from) self.old.lanes.items }
+        ensures ordinary { AnyLane (ComesPlainlyFrom from) self.old.lanes.items → result ≡ Given }
+        ensures failed { self.new.failures ≡ self.old.failures }
+        ensures unsent { self.new.socket.unsent ≡ self.old.socket.unsent }
+    {
+        if self.is_open || is_reached_at(self.lanes.as_slice(), from) {
+            return Verdict::Given;
         }
-        self.sieve.hear(packet);
-        Verdict::Given
+        Verdict::Strange
     }
 
     // What becomes of a datagram: what spells no packet is given, unless it is a word.
     fn judge(&mut self, datagram: &[u8], from: SocketAddr) -> Verdict
         // No word is given; and a packet only if it comes from the node that it names, and the sieve lets it through.
-        ensures word { begins_as_word datagram.now ≡ true → result ≢ Given }
-        ensures given { result ≡ Given → IfOk (packet_of datagram.now) (λ p. AnyLane (IsFrom self.old.is_open p.source.node from) self.old.lanes.items × (lets_through self.old.sieve p ≡ true)) }
+        ensures word { self.old.is_bare ≡ false → begins_as_word datagram.now ≡ true → result ≢ Given }
+        ensures given { self.old.is_bare ≡ false → result ≡ Given → IfOk (packet_of datagram.now) (λ p. AnyLane (IsFrom self.old.is_open p.source.node from) self.old.lanes.items × (lets_through self.old.gate.sieve p ≡ true)) }
         // The messages of a view, and what flushes it for its members, are always given, if they come from the node that they name.
-        ensures ordinary { (p : PacketValue) → Spells p datagram.now → IsOrdinary self.old.sieve p → AnyLane (IsPlainlyFrom self.old.is_open p.source.node from) self.old.lanes.items → result ≡ Given }
+        ensures ordinary { self.old.is_bare ≡ false → (p : PacketValue) → Spells p datagram.now → IsOrdinary self.old.gate.sieve p → AnyLane (IsPlainlyFrom self.old.is_open p.source.node from) self.old.lanes.items → result ≡ Given }
+        // A bare net gives what comes from where some node is reached.
+        ensures bare { self.old.is_bare ≡ true → result ≡ Given → self.old.is_open ≡ false → AnyLane (ComesFrom from) self.old.lanes.items }
         ensures failed { self.new.failures ≡ self.old.failures }
         ensures unsent { self.new.socket.unsent ≡ self.old.socket.unsent }
     {
+        if self.is_bare {
+            return self.judge_bare(from);
+        }
         if is_word(datagram) {
             return self.hear_word(datagram, from);
         }
         match decode(datagram) {
             Ok(packet) => self.judge_packet(&packet, from),
             Err(_) => Verdict::Given,
-        }
-    }
-
-    // Counts a datagram that is dropped.
-    fn count(&mut self, verdict: Verdict)
-        ensures strange { self.new.strange ≡ (if is_strange verdict then one_more self.old.strange else self.old.strange) }
-        ensures sieved { self.new.sieved ≡ (if is_sieved verdict then one_more self.old.sieved else self.old.sieved) }
-        ensures failed { self.new.failures ≡ self.old.failures }
-        ensures unsent { self.new.socket.unsent ≡ self.old.socket.unsent }
-    {
-        match verdict {
-            Verdict::Given | Verdict::Told => {}
-            Verdict::Strange => self.strange = self.strange.saturating_add(1),
-            Verdict::Sieved => self.sieved = self.sieved.saturating_add(1),
         }
     }
 
@@ -279,7 +275,7 @@ impl SocketNet {
                     if verdict == Verdict::Given {
                         return Ok(Some(count));
                     }
-                    self.count(verdict);
+                    self.gate.count(verdict);
                 }
                 Ok(None) => return Ok(None),
                 Err(_) => {
@@ -322,12 +318,16 @@ impl Net for SocketNet {
 
     ghost unsent = { λ n. n.socket.unsent };
 
-    /// Sends it to the node's host and port, or holds it back; one for a node that the settings do not list is lost, and does not count as unsent.
+    /// Sends it to the node's host and port, or holds it back, unless it is bare; one for a node that the settings do not list is lost, and does not count as unsent.
     fn send(&mut self, node: Node, bytes: &[u8]) {
         let socket = &mut self.socket;
         for lane in self.lanes.as_mut_slice() {
             if lane.node() == node {
-                send_on(socket, lane, bytes);
+                if self.is_bare {
+                    socket.send(lane.address(), bytes);
+                } else {
+                    send_on(socket, lane, bytes);
+                }
             }
         }
     }
@@ -340,11 +340,14 @@ impl Net for SocketNet {
 
     /// Where something is held back, no longer than `HELD_WAIT` milliseconds.
     fn wait(&mut self, limit: Duration) {
-        if self.holds_back() {
-            self.socket
-                .wait(limit.min(Duration::from_millis(HELD_WAIT)));
+        let limit = if self.holds_back() {
+            limit.min(Duration::from_millis(HELD_WAIT))
         } else {
-            self.socket.wait(limit);
+            limit
+        };
+        match &mut self.waiter {
+            Some(waiter) => waiter.wait(limit),
+            None => self.socket.wait(limit),
         }
     }
 
@@ -357,37 +360,33 @@ impl Net for SocketNet {
     }
 
     fn pass(&mut self, view: Option<ViewId>, members: &[Address]) {
-        self.sieve.pass(view, members);
-        self.neighbours.pass();
+        self.gate.pass(view, members);
     }
 
     /// Sends it to the node's host and port at once; one for a node that the settings do not list is lost, and does not count as unsent.
     fn say(&mut self, node: Node, word: &Word) {
-        self.sieve.say_words();
-        self.neighbours.answer(node);
-        self.spelled.clear();
-        if word.spell(&self.group.lent(), &mut self.spelled).is_err() {
-            self.socket.lose();
-            return;
-        }
         let socket = &mut self.socket;
+        let Some(spelled) = self.gate.spell(node, word) else {
+            socket.lose();
+            return;
+        };
         for lane in self.lanes.as_slice() {
             if lane.node() == node {
-                socket.send(lane.address(), self.spelled.as_slice());
+                socket.send(lane.address(), spelled);
             }
         }
     }
 
     fn words(&self) -> &[Neighbour] {
-        self.neighbours.told()
+        self.gate.words()
     }
 
     /// Also words that are spelled wrongly, or are of another group.
     fn strange(&self) -> u64 {
-        self.strange
+        self.gate.strange
     }
 
     fn sieved(&self) -> u64 {
-        self.sieved
+        self.gate.sieved
     }
 }

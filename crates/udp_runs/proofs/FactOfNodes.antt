@@ -1,5 +1,5 @@
 -- How nodes go on: a process takes a turn, starts, ends, or is let go.
-use Rattle.std.proofs.Common.{◌≡◌, ℕ, ◌<◌, ◌≤◌, ◌⊎◌, inl, inr, Bool, true, false, cond, ◌&&◌, ◌||◌, Option, None, Some, List, [], ◌∷◌, ◌++◌, slice_get, slice_set, IfSome, refl, sym, ap, ◌∙◌, subst, arith}
+use Rattle.std.proofs.Common.{◌≡◌, ℕ, ◌+◌, ◌<◌, ◌≤◌, ◌⊎◌, inl, inr, Bool, true, false, cond, ◌&&◌, ◌||◌, Option, None, Some, List, [], ◌∷◌, ◌++◌, slice_get, slice_set, IfSome, refl, sym, ap, ◌∙◌, subst, arith}
 use Rattle.std.specs.List.{list_any}
 use Rattle.std.specs.Option.{option_map, ForSome}
 use Rattle.std.proofs.lemmas.List.{append-nil, append_assoc}
@@ -11,12 +11,15 @@ use Rattle.state_transfer.specs.Meanings.{Meaning}
 use Rattle.trace_props.specs.declared.event.Event.{Event}
 use Rattle.trace_props.specs.declared.event.Event.TheVariants.{Started, Crashed}
 use Rattle.trace_props.specs.Observed.{has_started, is_start, member_of}
-use Rattle.udp_net.specs.Logs.{Log}
+use Rattle.udp_net.specs.Logs.{Log, NetEvent, Lists}
 use Rattle.udp_member.specs.Turns.{Driven}
 use Rattle.deployed_channels.specs.Plays.{crash_of}
 use Rattle.deployed_runners.specs.Runs.{new_channel}
-use Rattle.deployed_runners.specs.Systems.{Gone, Played, PlayedTellNoStart, with_runner, has_ended}
-use Rattle.deployed_runners.proofs.FactOfHands as hands
+use Rattle.deployed_runners.specs.Items.{net_events}
+use Rattle.deployed_runners.specs.Systems.{Gone, Played, PlayedOver, Nothing, PlayedTellNoStart, with_runner, has_ended}
+use Rattle.deployed_runners.specs.Systems.{Begins, Fails, Turns as Turned, Dies, Closes}
+use Rattle.deployed_runners.proofs.FactOfPlayed.{runner-is}
+use Rattle.deployed_runners.proofs.ItemsOfCalls.{drives-adds}
 use Rattle.udp_runs.specs.declared.process.Process.{Process}
 use Rattle.udp_runs.specs.declared.node_state.NodeState.{NodeState}
 use Rattle.udp_runs.specs.Texts.{Line, Happens, Refuses, events_in}
@@ -25,16 +28,16 @@ use Rattle.udp_runs.proofs.FactOfPlaces.{set-same, set-other, places}
 use Rattle.udp_runs.proofs.FactOfTurns.{events-then}
 
 module _ {N S : Type 0} (log : N → Option Log) (failed : N → ℕ) (meaning : Meaning S) (group : List ℕ) where
-  abbrev Play : List (NodeState N S) → List (Gone N) → List Line → Type 0
-  Play states gone lines = Plays log failed meaning group states gone lines
+  abbrev Play : List (NodeState N S) → List (Gone N) → List Line → List NetEvent → Type 0
+  Play states gone lines nets = Plays log failed meaning group states gone lines nets
 
   -- ---- before anything happens
 
-  pub plays-unused : (states : List (NodeState N S)) → PlayedTellNoStart log failed meaning → AreUnused states → Play states [] []
+  pub plays-unused : (states : List (NodeState N S)) → PlayedTellNoStart log failed meaning → AreUnused states → Play states [] [] []
   plays-unused states law unused = record {
     law = law;
     at = λ p. None;
-    played = hands.nothing-played log failed meaning group;
+    played = Nothing;
     runs = λ k x q at is. absurd (none-some q (sym (unused k x at).1 ∙ is));
     last = λ k x p at is. absurd (none-some p (sym (unused k x at).0 ∙ is));
     fresh = λ p started. absurd (let bad : false ≡ true = started in cc);
@@ -43,21 +46,22 @@ module _ {N S : Type 0} (log : N → Option Log) (failed : N → ℕ) (meaning :
 
   -- ---- more is said, but nothing happened
 
-  pub plays-as : (states : List (NodeState N S)) (gone : List (Gone N)) (lines lines' : List Line) → events_in lines' ≡ events_in lines → Play states gone lines → Play states gone lines'
-  plays-as states gone lines lines' same x = record {
+  pub plays-as : (states : List (NodeState N S)) (gone : List (Gone N)) (lines lines' : List Line) (nets : List NetEvent) → events_in lines' ≡ events_in lines
+      → Play states gone lines nets → Play states gone lines' nets
+  plays-as states gone lines lines' nets same x = record {
     law = x.law;
     at = x.at;
-    played = subst (λ (l : List Event). Played log failed meaning group x.at gone l) (sym same) x.played;
+    played = subst (λ (l : List Event). PlayedOver log failed meaning group x.at gone l nets) (sym same) x.played;
     runs = x.runs;
     last = x.last;
     fresh = λ p started. x.fresh p (ap (has_started p) (sym same) ∙ started);
     there = x.there;
   }
 
-  pub plays-refused : (states : List (NodeState N S)) (gone : List (Gone N)) (lines : List Line) (line number : ℕ) → Play states gone lines
-      → Play states gone (lines ++ Refuses line number ∷ [])
-  plays-refused states gone lines line number x =
-      plays-as states gone lines (lines ++ Refuses line number ∷ []) (events-then lines (Refuses line number ∷ []) ∙ append-nil (events_in lines)) x
+  pub plays-refused : (states : List (NodeState N S)) (gone : List (Gone N)) (lines : List Line) (nets : List NetEvent) (line number : ℕ) → Play states gone lines nets
+      → Play states gone (lines ++ Refuses line number ∷ []) nets
+  plays-refused states gone lines nets line number x =
+      plays-as states gone lines (lines ++ Refuses line number ∷ []) nets (events-then lines (Refuses line number ∷ []) ∙ append-nil (events_in lines)) x
 
   -- ---- one node is as it was but for its process
 
@@ -74,12 +78,12 @@ module _ {N S : Type 0} (log : N → Option Log) (failed : N → ℕ) (meaning :
       by (inr (inl before)) = first_j k x before at_k same
       by (inr (inr before)) = first_k j y before at_j (sym same)
 
-  module _ (states : List (NodeState N S)) (gone : List (Gone N)) (lines : List Line) (x : Play states gone lines) (k : ℕ) (old new : NodeState N S) (here : slice_get states k ≡ Some old)
+  module _ (states : List (NodeState N S)) (gone : List (Gone N)) (lines : List Line) (nets : List NetEvent) (x : Play states gone lines nets) (k : ℕ) (old new : NodeState N S) (here : slice_get states k ≡ Some old)
       (node : new.node ≡ old.node) (p : Address) (last : new.last ≡ Some p) (own : p.node ≡ old.node) (first : IsFirst old.node k states) (o : Option (Driven N S))
       (is : new.process ≡ option_map (process_of p) o) (runs_on : IfSome o (λ r. has_ended r.channel.stage ≡ false))
       (was : (q : Process N S) → old.process ≡ Some q → q.address ≡ p)
       (later : (l : Address) → old.last ≡ Some l → (l.node ≡ p.node) × (l.incarnation ≤ p.incarnation))
-      (gone' : List (Gone N)) (lines' : List Line) (played : Played log failed meaning group (with_runner p o x.at) gone' (events_in lines'))
+      (gone' : List (Gone N)) (lines' : List Line) (nets' : List NetEvent) (played : PlayedOver log failed meaning group (with_runner p o x.at) gone' (events_in lines') nets')
       (starts : (a : Address) → has_started a (events_in lines') ≡ true → (has_started a (events_in lines) ≡ true) ⊎ (a ≡ p)) where
     abbrev states' : List (NodeState N S)
     states' = slice_set states k new
@@ -134,7 +138,7 @@ module _ {N S : Type 0} (log : N → Option Log) (failed : N → ℕ) (meaning :
         let on : has_ended r.channel.stage ≡ false = subst (λ (z : Option (Driven N S)). IfSome z (λ d. has_ended d.channel.stage ≡ false)) (sym same) runs_on in
         (ap (λ (z : Process N S). Some z.address) one, sym same ∙ ap (λ (z : Process N S). Some z.runner) one, subst (λ (z : Process N S). has_ended z.runner.channel.stage ≡ false) one on)
 
-    pub plays-set : Play states' gone' lines'
+    pub plays-set : Play states' gone' lines' nets'
     plays-set = record {
       law = x.law;
       at = with_runner p o x.at;
@@ -252,7 +256,7 @@ module _ {N S : Type 0} where
       by false a = refl
 
 module _ {N S : Type 0} (log : N → Option Log) (failed : N → ℕ) (meaning : Meaning S) (group : List ℕ) (states : List (NodeState N S)) (gone : List (Gone N)) (lines : List Line)
-    (x : Plays log failed meaning group states gone lines) (k : ℕ) (old : NodeState N S) (here : slice_get states k ≡ Some old) where
+    (nets : List NetEvent) (x : Plays log failed meaning group states gone lines nets) (k : ℕ) (old : NodeState N S) (here : slice_get states k ≡ Some old) where
   abbrev with_process : Option (Process N S) → NodeState N S
   with_process o = record { node = old.node; last = old.last; process = o }
 
@@ -278,53 +282,72 @@ module _ {N S : Type 0} (log : N → Option Log) (failed : N → ℕ) (meaning :
       all-said : events_in (lines ++ more) ≡ events_in lines ++ (t.taken ++ crash_of p t.fell)
       all-said = events-then lines more ∙ ap (λ (l : List Event). events_in lines ++ l) t.says
 
-      turned : Played log failed meaning group (with_runner p (Some r) x.at) gone (events_in (lines ++ more))
-      turned = subst (λ (l : List Event). Played log failed meaning group (with_runner p (Some r) x.at) gone l) (append_assoc (events_in lines) t.taken (crash_of p t.fell) ∙ sym all-said)
-          (hands.turn-played log failed meaning group x.at gone (events_in lines) p x.played q.runner t.taken t.fell r found.1 t.drives t.told)
+      -- its net lists more
+      turned-so : (listed : List NetEvent) × Lists (log q.runner.net) (λ l. l ++ listed) (log r.net)
+          × PlayedOver log failed meaning group (with_runner p (Some r) x.at) gone (events_in lines ++ t.taken ++ crash_of p t.fell) (nets ++ listed)
+      turned-so =
+          let a = runner-is log failed meaning group x.at gone (events_in lines) nets x.played p q.runner found.1 in
+          let adds = drives-adds log failed meaning group q.runner t.taken t.fell r a.0 a.1 t.drives in (
+            net_events adds.items,
+            adds.lists,
+            Turned x.at gone (events_in lines) nets p q.runner t.taken t.fell r (net_events adds.items) x.played found.1 t.drives t.told adds.lists,
+          )
+
+      pub turn-lists : List NetEvent
+      turn-lists = turned-so.0
+
+      pub turn-listed : Lists (log q.runner.net) (λ l. l ++ turn-lists) (log r.net)
+      unfolding turn-lists turned-so
+      turn-listed = turned-so.1
+
+      turned : PlayedOver log failed meaning group (with_runner p (Some r) x.at) gone (events_in (lines ++ more)) (nets ++ turn-lists)
+      unfolding turn-lists turned-so
+      turned = subst (λ (l : List Event). PlayedOver log failed meaning group (with_runner p (Some r) x.at) gone l (nets ++ turn-lists))
+          (append_assoc (events_in lines) t.taken (crash_of p t.fell) ∙ sym all-said) turned-so.2
 
       starts : (a : Address) → has_started a (events_in (lines ++ more)) ≡ true → (has_started a (events_in lines) ≡ true) ⊎ (a ≡ p)
       starts a e =
-          inl (started-before a p (events_in lines) t.taken t.fell (x.law group x.at gone (events_in lines) p q.runner t.taken t.fell r x.played found.1 t.drives t.told)
+          inl (started-before a p (events_in lines) t.taken t.fell (x.law group x.at gone (events_in lines) p q.runner t.taken t.fell r (nets, x.played) found.1 t.drives t.told)
           (ap (has_started a) (sym all-said) ∙ e))
 
       -- it takes a turn, and runs on
-      pub plays-turn : has_ended r.channel.stage ≡ false → Plays log failed meaning group (slice_set states k (with_process (Some (record { address = q.address; runner = r })))) gone (lines ++ more)
+      pub plays-turn : has_ended r.channel.stage ≡ false → Plays log failed meaning group (slice_set states k (with_process (Some (record { address = q.address; runner = r })))) gone (lines ++ more) (nets ++ turn-lists)
       plays-turn on =
-          plays-set log failed meaning group states gone lines x k old (with_process (Some (record { address = q.address; runner = r }))) here refl p found.0 its.0 its.1 (Some r) refl on was later
-          gone (lines ++ more) turned starts
+          plays-set log failed meaning group states gone lines nets x k old (with_process (Some (record { address = q.address; runner = r }))) here refl p found.0 its.0 its.1 (Some r) refl on was later
+          gone (lines ++ more) (nets ++ turn-lists) turned starts
 
-      closed : Played log failed meaning group (with_runner p None x.at) (gone ++ record { by = p; net = r.net } ∷ []) (events_in (lines ++ more))
-      closed = subst (λ (at : Address → Option (Driven N S)). Played log failed meaning group at (gone ++ record { by = p; net = r.net } ∷ []) (events_in (lines ++ more)))
+      closed : PlayedOver log failed meaning group (with_runner p None x.at) (gone ++ record { by = p; net = r.net } ∷ []) (events_in (lines ++ more)) (nets ++ turn-lists)
+      closed = subst (λ (at : Address → Option (Driven N S)). PlayedOver log failed meaning group at (gone ++ record { by = p; net = r.net } ∷ []) (events_in (lines ++ more)) (nets ++ turn-lists))
           (with-twice p (Some r) None x.at)
-          (hands.close-played log failed meaning group (with_runner p (Some r) x.at) gone (events_in (lines ++ more)) p turned r (ap (λ (b : Bool). cond b (Some r) (x.at p)) (same_address-refl p)))
+          (Closes (with_runner p (Some r) x.at) gone (events_in (lines ++ more)) (nets ++ turn-lists) p r turned (ap (λ (b : Bool). cond b (Some r) (x.at p)) (same_address-refl p)))
 
       -- it takes a turn, and is let go
-      pub plays-ended : Plays log failed meaning group (slice_set states k (with_process None)) (gone ++ record { by = q.address; net = r.net } ∷ []) (lines ++ more)
+      pub plays-ended : Plays log failed meaning group (slice_set states k (with_process None)) (gone ++ record { by = q.address; net = r.net } ∷ []) (lines ++ more) (nets ++ turn-lists)
       plays-ended =
-          plays-set log failed meaning group states gone lines x k old (with_process None) here refl p found.0 its.0 its.1 None refl tt was later
-          (gone ++ record { by = p; net = r.net } ∷ []) (lines ++ more) closed starts
+          plays-set log failed meaning group states gone lines nets x k old (with_process None) here refl p found.0 its.0 its.1 None refl tt was later
+          (gone ++ record { by = p; net = r.net } ∷ []) (lines ++ more) (nets ++ turn-lists) closed starts
 
       -- it takes a turn, whatever becomes of it
       pub turn-played : (at : Address → Option (Driven N S)) × (all : List (Gone N)) × Played log failed meaning group at all (events_in (lines ++ more))
-      turn-played = (with_runner p (Some r) x.at, gone, turned)
+      turn-played = (with_runner p (Some r) x.at, gone, (nets ++ turn-lists, turned))
 
     crashed-said : events_in (lines ++ Happens (Crashed p) ∷ []) ≡ events_in lines ++ Crashed p ∷ []
     crashed-said = events-then lines (Happens (Crashed p) ∷ [])
 
-    died : Played log failed meaning group (with_runner p None x.at) (gone ++ record { by = p; net = q.runner.net } ∷ []) (events_in (lines ++ Happens (Crashed p) ∷ []))
-    died = subst (λ (l : List Event). Played log failed meaning group (with_runner p None x.at) (gone ++ record { by = p; net = q.runner.net } ∷ []) l) (sym crashed-said)
-        (hands.death-played log failed meaning group x.at gone (events_in lines) p x.played q.runner found.1 found.2)
+    died : PlayedOver log failed meaning group (with_runner p None x.at) (gone ++ record { by = p; net = q.runner.net } ∷ []) (events_in (lines ++ Happens (Crashed p) ∷ [])) nets
+    died = subst (λ (l : List Event). PlayedOver log failed meaning group (with_runner p None x.at) (gone ++ record { by = p; net = q.runner.net } ∷ []) l nets) (sym crashed-said)
+        (Dies x.at gone (events_in lines) nets p q.runner x.played found.1 found.2)
 
     -- it is killed
     pub plays-killed : Plays log failed meaning group (slice_set states k (with_process None)) (gone ++ record { by = q.address; net = q.runner.net } ∷ [])
-        (lines ++ Happens (Crashed q.address) ∷ [])
+        (lines ++ Happens (Crashed q.address) ∷ []) nets
     plays-killed =
-        plays-set log failed meaning group states gone lines x k old (with_process None) here refl p found.0 its.0 its.1 None refl tt was later
-        (gone ++ record { by = p; net = q.runner.net } ∷ []) (lines ++ Happens (Crashed p) ∷ []) died
+        plays-set log failed meaning group states gone lines nets x k old (with_process None) here refl p found.0 its.0 its.1 None refl tt was later
+        (gone ++ record { by = p; net = q.runner.net } ∷ []) (lines ++ Happens (Crashed p) ∷ []) nets died
         (λ a e. inl (started-before a p (events_in lines) [] true refl (ap (has_started a) (sym crashed-said) ∙ e)))
 
     pub killed-played : (at : Address → Option (Driven N S)) × (all : List (Gone N)) × Played log failed meaning group at all (events_in (lines ++ Happens (Crashed q.address) ∷ []))
-    killed-played = (with_runner p None x.at, gone ++ record { by = p; net = q.runner.net } ∷ [], died)
+    killed-played = (with_runner p None x.at, gone ++ record { by = p; net = q.runner.net } ∷ [], (nets, died))
 
   -- ---- what starts there
 
@@ -332,12 +355,15 @@ module _ {N S : Type 0} (log : N → Option Log) (failed : N → ℕ) (meaning :
     abbrev started_at : Option (Process N S) → NodeState N S
     started_at o = record { node = old.node; last = Some p; process = o }
 
+    its-next : (l : Address) → old.last ≡ Some l → p ≡ record { node = l.node; incarnation = l.incarnation + 1 }
+    its-next l is = subst (λ (o : Option Address). IfSome o (λ q. p ≡ record { node = q.node; incarnation = q.incarnation + 1 })) is next.next
+
     its-node : (l : Option Address) → old.last ≡ l → p.node ≡ old.node
-    its-node None is = next.first is
-    its-node (Some l) is = (subst (λ (o : Option Address). IfSome o (λ q. (p.node ≡ q.node) × (q.incarnation < p.incarnation))) is next.next).0 ∙ (x.last k old l here is).0
+    its-node None is = ap (λ (a : Address). a.node) (next.first is)
+    its-node (Some l) is = ap (λ (a : Address). a.node) (its-next l is) ∙ (x.last k old l here is).0
 
     is-later : (l : Address) → old.last ≡ Some l → (l.node ≡ p.node) × (l.incarnation ≤ p.incarnation)
-    is-later l is = let z = subst (λ (o : Option Address). IfSome o (λ q. (p.node ≡ q.node) × (q.incarnation < p.incarnation))) is next.next in (sym z.0, omega arith)
+    is-later l is = let z = ap (λ (a : Address). a.incarnation) (its-next l is) in (sym (ap (λ (a : Address). a.node) (its-next l is)), omega arith)
 
     was-free : (q : Process N S) → old.process ≡ Some q → q.address ≡ p
     was-free q is = absurd (none-some q (sym next.free ∙ is))
@@ -357,7 +383,7 @@ module _ {N S : Type 0} (log : N → Option Log) (failed : N → ℕ) (meaning :
             here-or : (j ≡ k) ⊎ ((j < k) ⊎ (k < j)) → ⊥
             here-or (inl same) =
                 let is = ap (λ (w : NodeState N S). w.last) (sym (same_Some y old (sym at ∙ ap (slice_get states) same ∙ here))) ∙ is_last in
-                let z = subst (λ (o : Option Address). IfSome o (λ q. (p.node ≡ q.node) × (q.incarnation < p.incarnation))) is next.next in
+                let z = ap (λ (a : Address). a.incarnation) (its-next q is) in
                 omega arith
             here-or (inr (inl l)) = off (λ e. omega arith)
             here-or (inr (inr l)) = off (λ e. omega arith)
@@ -368,23 +394,23 @@ module _ {N S : Type 0} (log : N → Option Log) (failed : N → ℕ) (meaning :
 
     -- a process starts
     pub plays-started : (r : Driven N S) → r.channel ≡ new_channel meaning p → ForSome (log r.net) (λ l. l ≡ [])
-        → Plays log failed meaning group (slice_set states k (started_at (Some (record { address = p; runner = r })))) gone (lines ++ Happens (Started p) ∷ [])
+        → Plays log failed meaning group (slice_set states k (started_at (Some (record { address = p; runner = r })))) gone (lines ++ Happens (Started p) ∷ []) nets
     plays-started r channel lists =
         let said = events-then lines (Happens (Started p) ∷ []) in
-        plays-set log failed meaning group states gone lines x k old (started_at (Some (record { address = p; runner = r }))) here refl p refl (its-node old.last refl) first (Some r) refl
-        (ap (λ c. has_ended c.stage) channel) was-free is-later gone (lines ++ Happens (Started p) ∷ [])
-        (subst (λ (l : List Event). Played log failed meaning group (with_runner p (Some r) x.at) gone l) (sym said)
-        (hands.begin-played log failed meaning group x.at gone (events_in lines) p x.played r next.real is-unused channel lists))
+        plays-set log failed meaning group states gone lines nets x k old (started_at (Some (record { address = p; runner = r }))) here refl p refl (its-node old.last refl) first (Some r) refl
+        (ap (λ c. has_ended c.stage) channel) was-free is-later gone (lines ++ Happens (Started p) ∷ []) nets
+        (subst (λ (l : List Event). PlayedOver log failed meaning group (with_runner p (Some r) x.at) gone l nets) (sym said)
+        (Begins x.at gone (events_in lines) nets p r x.played next.real is-unused channel lists))
         (λ a e. started-or a p (events_in lines) [] (ap (has_started a) (sym said) ∙ e) refl)
 
-    failing : Played log failed meaning group x.at gone (events_in (lines ++ Happens (Started p) ∷ Happens (Crashed p) ∷ []))
-    failing = subst (λ (l : List Event). Played log failed meaning group x.at gone l) (sym (events-then lines (Happens (Started p) ∷ Happens (Crashed p) ∷ [])))
-        (hands.fail-played log failed meaning group x.at gone (events_in lines) p x.played next.real is-unused)
+    failing : PlayedOver log failed meaning group x.at gone (events_in (lines ++ Happens (Started p) ∷ Happens (Crashed p) ∷ [])) nets
+    failing = subst (λ (l : List Event). PlayedOver log failed meaning group x.at gone l nets) (sym (events-then lines (Happens (Started p) ∷ Happens (Crashed p) ∷ [])))
+        (Fails x.at gone (events_in lines) nets p x.played next.real is-unused)
 
     -- it ends as it starts; nobody is there
     pub start-failed : (at : Address → Option (Driven N S)) × (all : List (Gone N))
         × Played log failed meaning group at all (events_in (lines ++ Happens (Started p) ∷ Happens (Crashed p) ∷ []))
-    start-failed = (x.at, gone, failing)
+    start-failed = (x.at, gone, (nets, failing))
 
     -- no runner is there
     at-none : (o : Option (Driven N S)) → x.at p ≡ o → o ≡ None
@@ -412,9 +438,9 @@ module _ {N S : Type 0} (log : N → Option Log) (failed : N → ℕ) (meaning :
         by true a same = sym (ap x.at (same_address-true a p same) ∙ at-none (x.at p) refl)
         by false a same = refl
 
-    pub plays-failed : Plays log failed meaning group (slice_set states k (started_at None)) gone (lines ++ Happens (Started p) ∷ Happens (Crashed p) ∷ [])
+    pub plays-failed : Plays log failed meaning group (slice_set states k (started_at None)) gone (lines ++ Happens (Started p) ∷ Happens (Crashed p) ∷ []) nets
     plays-failed =
-        plays-set log failed meaning group states gone lines x k old (started_at None) here refl p refl (its-node old.last refl) first None refl tt was-free is-later
-        gone (lines ++ Happens (Started p) ∷ Happens (Crashed p) ∷ [])
-        (subst (λ (at : Address → Option (Driven N S)). Played log failed meaning group at gone (events_in (lines ++ Happens (Started p) ∷ Happens (Crashed p) ∷ []))) (sym without-own) failing)
+        plays-set log failed meaning group states gone lines nets x k old (started_at None) here refl p refl (its-node old.last refl) first None refl tt was-free is-later
+        gone (lines ++ Happens (Started p) ∷ Happens (Crashed p) ∷ []) nets
+        (subst (λ (at : Address → Option (Driven N S)). PlayedOver log failed meaning group at gone (events_in (lines ++ Happens (Started p) ∷ Happens (Crashed p) ∷ [])) nets) (sym without-own) failing)
         (λ a e. started-or a p (events_in lines) (Crashed p ∷ []) (ap (has_started a) (sym (events-then lines (Happens (Started p) ∷ Happens (Crashed p) ∷ []))) ∙ e) refl)

@@ -1,11 +1,14 @@
 pub mod FactOfPlaces
 pub mod FactOfTexts
 pub mod FactOfTurns
+pub mod FactOfListed
 pub mod FactOfNodes
 pub mod FactOfGoing
 pub mod FactOfPlaying
 pub mod FactOfEnds
+pub mod TellsBeforeOffers
 pub mod FactOfTelling
+pub mod FactOfOwed
 pub mod FactOfScripts
 pub mod FactOfMembers
 pub mod RanksAreOrdered

@@ -1,9 +1,9 @@
 -- Of two views one is the greater; and which is the greatest of some.
-use Rattle.std.proofs.Common.{◌≡◌, ℕ, zero, suc, ◌+◌, ◌<◌, Bool, true, false, ◌&&◌, ◌||◌, Option, Some, None, List, [], ◌∷◌, ◌++◌, filter_map, take, refl, sym, ap, ap₂, subst, ◌∙◌, arith, nat_eq, nat_lt, Contains, inl, inr, length, get_or, true≢false, if◌then◌else◌}
+use Rattle.std.proofs.Common.{◌≡◌, ℕ, zero, suc, ◌+◌, ◌<◌, Bool, true, false, ◌&&◌, ◌||◌, Option, Some, None, List, [], ◌∷◌, ◌++◌, filter_map, take, refl, sym, ap, ap₂, subst, ◌∙◌, arith, nat_eq, nat_lt, Contains, inl, inr, length, get_or, if◌then◌else◌}
 use Rattle.std.specs.Ordering.{nat_cmp, ordering_then, is_gt}
 use Rattle.std.proofs.lemmas.Bool.Decides.{nat_tests}
 use Rattle.std.proofs.lemmas.List.Elements.{Contains-append_left, Contains-append_right, Contains-append_cases, filter_map-append}
-use Rattle.address.specs.Ids.{Address, ViewId, view_id_cmp, same_view_id}
+use Rattle.address.specs.Ids.{ViewId, same_view_id}
 use Rattle.udp_runs.specs.declared.ranks.Rank.{Rank}
 use Rattle.udp_runs.specs.declared.ranks.Offer.{Offer}
 use Rattle.udp_runs.specs.declared.ranks.Moment.{Moment}

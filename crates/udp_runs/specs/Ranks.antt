@@ -1,9 +1,9 @@
 -- Which of two views is the greater one, and of which views a node is told.
-use Rattle.std.specs.Prelude.{◌≡◌, ℕ, ◌+◌, ◌-◌, Bool, true, false, not, ◌&&◌, ◌||◌, List, [], filter_map, filter, length, min, Option, None, Some, Contains, nat_lt, nat_le, nat_eq, if◌then◌else◌}
+use Rattle.std.specs.Prelude.{◌≡◌, ℕ, ◌-◌, Bool, false, not, ◌&&◌, ◌||◌, List, [], filter_map, filter, length, min, Option, None, Some, Contains, nat_lt, nat_le, nat_eq, if◌then◌else◌}
 use Rattle.std.specs.List.{slice_get}
 use Rattle.std.specs.Option.{option_map_or, option_and_then, is_some}
 use Rattle.std.specs.Ordering.{is_gt, is_lt}
-use Rattle.address.specs.Ids.{Address, ViewId, address_cmp, view_id_cmp, same_address, same_view_id}
+use Rattle.address.specs.Ids.{ViewId, address_cmp, view_id_cmp, same_address, same_view_id}
 use Rattle.udp_net.specs.declared.word.Echo.{Echo}
 use Rattle.udp_net.specs.declared.word.Place.{Place}
 use Rattle.udp_net.specs.declared.word.Word.{Word}

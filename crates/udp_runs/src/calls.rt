@@ -1,10 +1,12 @@
 //! The calls of a channel that a script asks for.
 
-ghost use Rattle.std.specs.Prelude.{◌≡◌, ℕ, List, [], IfOk, IfErr, OnOk};
+ghost use Rattle.std.specs.Prelude.{◌≡◌, ℕ, List, [], true, IfOk, IfErr, IsOk};
 ghost use Rattle.std.specs.Result.{result_err};
-ghost use Rattle.channel.specs.declared.stage.Stage.TheVariants.{Ended};
-ghost use Rattle.deployed_runners.specs.Runs.{Makes};
-ghost use Rattle.udp_runs.specs.declared.calls.Call.TheVariants as calls;
+ghost use Rattle.member.specs.declared.input.Input.TheVariants as input;
+ghost use Rattle.channel.specs.Calls.{CallsLent};
+ghost use Rattle.deployed_runners.specs.Runs.{MakesNoOffer};
+ghost use Rattle.udp_runs.specs.Carrying.{IsAsked, IsCall, MakesCall};
+ghost use Rattle.udp_runs.specs.Said.{IsThat, SaidBy, says_nothing};
 
 use address::{Address, Node};
 use application::Application;
@@ -34,17 +36,33 @@ pub(crate) enum Call<'a> {
     Leave,
 }
 
-// The call that an event is, and at which node; `None` for a start, a crash, and a delivery.
-pub(crate) fn call_of(event: &WorldEvent) -> Option<(Node, Call<'_>)> {
+/// What an event of a script asks for.
+pub(crate) enum Asked<'a> {
+    /// That the next member of a node starts.
+    Start(Node),
+    /// That the member of a node crashes.
+    Crash(Node),
+    /// A call of the member of a node.
+    Call(Node, Call<'a>),
+    /// Nothing: a delivery is left to the nets.
+    Nothing,
+}
+
+// What an event asks for.
+pub(crate) fn asked_by(event: &WorldEvent) -> Asked<'_>
+    ensures { IsAsked event.now result }
+{
     match event {
-        WorldEvent::Create(node) => Some((*node, Call::Create)),
-        WorldEvent::Join(node, contact) => Some((*node, Call::Join(*contact))),
-        WorldEvent::Send(node, payload) => Some((*node, Call::Send(payload))),
-        WorldEvent::Tick(node) => Some((*node, Call::Tick)),
-        WorldEvent::Suspect(node, address) => Some((*node, Call::Suspect(*address))),
-        WorldEvent::MergeHint(node, address) => Some((*node, Call::MergeHint(*address))),
-        WorldEvent::Leave(node) => Some((*node, Call::Leave)),
-        WorldEvent::Start(_) | WorldEvent::Crash(_) | WorldEvent::Deliver(_) => None,
+        WorldEvent::Start(node) => Asked::Start(*node),
+        WorldEvent::Crash(node) => Asked::Crash(*node),
+        WorldEvent::Create(node) => Asked::Call(*node, Call::Create),
+        WorldEvent::Join(node, contact) => Asked::Call(*node, Call::Join(*contact)),
+        WorldEvent::Send(node, payload) => Asked::Call(*node, Call::Send(payload)),
+        WorldEvent::Tick(node) => Asked::Call(*node, Call::Tick),
+        WorldEvent::Suspect(node, address) => Asked::Call(*node, Call::Suspect(*address)),
+        WorldEvent::MergeHint(node, address) => Asked::Call(*node, Call::MergeHint(*address)),
+        WorldEvent::Leave(node) => Asked::Call(*node, Call::Leave),
+        WorldEvent::Deliver(_) => Asked::Nothing,
     }
 }
 
@@ -54,7 +72,8 @@ pub(crate) fn send<N: Net, C: Application>(
     runner: &mut Runner<N, C>,
     payload: &Bytes,
 ) -> Result<Result<(), Error>, AllocError>
-    ensures called { (group : List ℕ) → IfOk result (λ answer. Makes N.log N.failed C.meaning group runner.old [] (result_err answer) runner.new) }
+    ensures makes { IfOk result (λ answer. IsCall (CallsLent C.meaning input.Send payload.now) runner.old (result_err answer) runner.new) }
+    ensures called { (group : List ℕ) → IfOk result (λ answer. MakesNoOffer N.log N.failed (IsThat runner.old.channel.stage payload.now) C.meaning group runner.old [] (result_err answer) runner.new) }
     ensures uncalled { IfErr result (λ _. runner.new ≡ runner.old) }
 {
     let payload = Vec::from_slice(alloc, payload.as_slice())?;
@@ -71,9 +90,10 @@ pub(crate) fn do_call<N: Net, C: Application>(
     group: &[u8],
     call: &Call<'_>,
 ) -> Result<Result<(), Error>, AllocError>
-    ensures called { IfOk result (λ answer. Makes N.log N.failed C.meaning group.now runner.old [] (result_err answer) runner.new) }
+    ensures makes { IfOk result (λ answer. MakesCall C.meaning group.now call.now runner.old (result_err answer) runner.new) }
+    ensures called { IfOk result (λ answer. MakesNoOffer N.log N.failed (SaidBy runner.old.channel.stage call.now) C.meaning group.now runner.old [] (result_err answer) runner.new) }
     ensures uncalled { IfErr result (λ _. runner.new ≡ runner.old) }
-    ensures left { call.now ≡ calls.Leave → IfOk result (λ answer. OnOk answer (runner.new.channel.stage ≡ Ended)) }
+    ensures plain { says_nothing call.now ≡ true → IsOk result }
 {
     match call {
         Call::Create => Ok(runner.channel().connect_new(group)),

@@ -2,12 +2,12 @@
 
 ghost use Rattle.std.specs.Prelude.{◌≡◌, ℕ, [], take, IfErr, OnOk, OnErr};
 ghost use Rattle.std.specs.Io.KnownBytes.{Appends};
-ghost use Rattle.commands.specs.Outcomes.{Written};
+ghost use Rattle.endings.specs.Outcomes.{Written};
 ghost use Rattle.udp_runs.specs.declared.ends.Cut.TheVariants as cut;
 ghost use Rattle.udp_runs.specs.declared.ends.Stop.TheVariants as stop;
 ghost use Rattle.udp_runs.specs.Ends.{IsEndOf, IsNetlessText};
 
-use commands::{Status, end_in_memory, end_with};
+use endings::{Status, end_in_memory, end_with};
 use std::alloc::{AllocError, Global};
 use std::io::Write;
 use udp_net::BindError;

@@ -1,12 +1,15 @@
 //! A member that runs by itself.
 
-ghost use Rattle.std.specs.Prelude.{◌≡◌, ℕ, List, []};
-ghost use Rattle.udp_runs.specs.Telling.{PlaysAlone, Quietly, Tells, Waits};
+ghost use Rattle.std.specs.Prelude.{◌≡◌, ℕ, Bool, List, [], Option, OnOk, IsOk};
+ghost use Rattle.std.specs.Option.{option_copied};
+ghost use Rattle.udp_runs.specs.Telling.{BeginsBy, PlaysAlone, Quietly, TellsEnd, TellsFrom, TellsOn, ThenOffers, Waits, WritesTurn, first_call};
+ghost use Rattle.udp_runs.specs.Said.{AreSame, MaySay};
+ghost use Rattle.node_lines.specs.Came.{IsEarlier, Keeps, Owes};
+ghost use Rattle.node_lines.specs.Outboxes.{nothing_waits};
 
 use crate::calls::Call;
 use crate::ends::Cut;
 use crate::finding::{Finder, milliseconds};
-use crate::outbox::Outbox;
 use crate::telling::Teller;
 use crate::watch::Watch;
 use crate::{Lines, Machine, Manner, Tally};
@@ -14,6 +17,7 @@ use address::{Address, ViewId};
 use application::Application;
 use channel::Error;
 use limits::Refusal;
+use node_lines::Outbox;
 use script_reader::MemberPlan;
 use std::alloc::Global;
 use std::io::Write;
@@ -66,7 +70,11 @@ impl<'a, N: Net, C: Application> Lone<'a, N, C> {
         once: Option<&'a [u8]>,
     ) -> Lone<'a, N, C>
         ensures member { result.member ≡ member }
-        ensures speaks { result.teller.speaks ≡ manner.speaks }
+        ensures once { option_copied result.once ≡ option_copied once.entry }
+        ensures outbox { result.outbox ≡ nothing_waits }
+        ensures unsaid { result.teller.unsaid ≡ record { sent = []; back = [] } }
+        ensures voice { result.teller.voice ≡ record { speaks = manner.speaks; stable = manner.stable } }
+        ensures manner { result.manner ≡ manner }
     {
         Lone {
             alloc,
@@ -76,7 +84,7 @@ impl<'a, N: Net, C: Application> Lone<'a, N, C> {
             is_unsent: once.is_some(),
             opened: None,
             outbox: Outbox::new(alloc),
-            teller: Teller::new(alloc, manner.speaks),
+            teller: Teller::new(alloc, manner),
             has_ended: false,
             finder: Finder::new(manner.tick, None),
             gives_up: false,
@@ -105,7 +113,9 @@ impl<'a, N: Net, C: Application> Lone<'a, N, C> {
     }
 
     /// Gives back the lines that were not sent, or were not delivered, where it finds its group: those first that were sent first.
-    pub(crate) fn give_back<L: Lines>(&self, lines: &mut L) {
+    pub(crate) fn give_back<L: Lines>(&self, lines: &mut L)
+        ensures { L.came lines.new ≡ L.came lines.old }
+    {
         if self.manner.finds {
             self.teller.unsaid.give_back(lines);
             lines.back(self.outbox.waiting());
@@ -121,8 +131,9 @@ impl<'a, N: Net, C: Application> Lone<'a, N, C> {
 
     // Makes a group, or asks the contact to be let into one.
     fn connect(&mut self, settings: &Settings, contact: Option<Address>) -> Result<(), Cut>
-        ensures drives { Quietly N.log N.failed C.meaning settings.now.group self.old.member self.new.member }
-        ensures speaks { self.new.teller.speaks ≡ self.old.teller.speaks }
+        ensures begins { (gave : Bool) × BeginsBy C.meaning settings.now.group self.old.member (first_call self.old.manner.finds contact) gave self.new.member }
+        ensures voice { self.new.teller.voice ≡ self.old.teller.voice }
+        ensures texts { AreSame self.old.once self.old.outbox self.old.teller.unsaid self.new.once self.new.outbox self.new.teller.unsaid }
     {
         let call = match contact {
             Some(contact) => Call::Join(contact),
@@ -137,7 +148,8 @@ impl<'a, N: Net, C: Application> Lone<'a, N, C> {
     // Whether it goes on after an answer of its runner: not where it has ended.
     fn goes_on(&mut self, answer: Result<(), Error>) -> Result<(), Cut>
         ensures member { self.new.member ≡ self.old.member }
-        ensures speaks { self.new.teller.speaks ≡ self.old.teller.speaks }
+        ensures voice { self.new.teller.voice ≡ self.old.teller.voice }
+        ensures texts { AreSame self.old.once self.old.outbox self.old.teller.unsaid self.new.once self.new.outbox self.new.teller.unsaid }
     {
         if answer == Err(Error::Refused(Refusal::Closed)) {
             self.has_ended = true;
@@ -148,8 +160,9 @@ impl<'a, N: Net, C: Application> Lone<'a, N, C> {
 
     // A round of its runner.
     fn run_round(&mut self) -> Result<(), Error>
-        ensures drives { (group : List ℕ) → Quietly N.log N.failed C.meaning group self.old.member self.new.member }
-        ensures speaks { self.new.teller.speaks ≡ self.old.teller.speaks }
+        ensures drives { (group : List ℕ) (start later : Option (List ℕ)) → Quietly N.log N.failed (MaySay (option_copied self.old.once) start later C.payload_within C.first_said) C.meaning group self.old.member self.new.member }
+        ensures voice { self.new.teller.voice ≡ self.old.teller.voice }
+        ensures texts { AreSame self.old.once self.old.outbox self.old.teller.unsaid self.new.once self.new.outbox self.new.teller.unsaid }
     {
         let answer = self.member.round();
         self.member.meet();
@@ -158,8 +171,10 @@ impl<'a, N: Net, C: Application> Lone<'a, N, C> {
 
     // A round; it seeks whom its view lacks, where it is time to.
     fn round(&mut self) -> Result<(), Cut>
-        ensures drives { (group : List ℕ) → Quietly N.log N.failed C.meaning group self.old.member self.new.member }
-        ensures speaks { self.new.teller.speaks ≡ self.old.teller.speaks }
+        ensures drives { (group : List ℕ) (start came later : Option (List ℕ)) → Owes start came self.old.outbox self.old.teller.unsaid → IsEarlier came later → Quietly N.log N.failed (MaySay (option_copied self.old.once) start later C.payload_within C.first_said) C.meaning group self.old.member self.new.member }
+        ensures voice { self.new.teller.voice ≡ self.old.teller.voice }
+        ensures once { self.new.once ≡ self.old.once }
+        ensures owes { OnOk result (Keeps self.old.outbox self.old.teller.unsaid self.new.outbox self.new.teller.unsaid) }
     {
         self.send_all()?;
         let answer = self.run_round();
@@ -172,11 +187,15 @@ impl<'a, N: Net, C: Application> Lone<'a, N, C> {
         self.goes_on(answer)
     }
 
-    // Listens, and sends what it may then; answers whether there is more to do at once.
-    fn listen(&mut self) -> Result<bool, Cut>
-        ensures drives { (group : List ℕ) → Quietly N.log N.failed C.meaning group self.old.member self.new.member }
-        ensures speaks { self.new.teller.speaks ≡ self.old.teller.speaks }
+    // Takes the lines that came, sends what it may, and listens; answers whether there is more to do at once.
+    fn listen<L: Lines>(&mut self, lines: &mut L) -> Result<bool, Cut>
+        ensures drives { (group : List ℕ) (start later : Option (List ℕ)) → Owes start (L.came lines.old) self.old.outbox self.old.teller.unsaid → IsEarlier (L.came lines.new) later → Quietly N.log N.failed (MaySay (option_copied self.old.once) start later C.payload_within C.first_said) C.meaning group self.old.member self.new.member }
+        ensures voice { self.new.teller.voice ≡ self.old.teller.voice }
+        ensures once { self.new.once ≡ self.old.once }
+        ensures owes { (start : Option (List ℕ)) → Owes start (L.came lines.old) self.old.outbox self.old.teller.unsaid → OnOk result (Owes start (L.came lines.new) self.new.outbox self.new.teller.unsaid) }
+        ensures grows { IsEarlier (L.came lines.old) (L.came lines.new) }
     {
+        self.take_lines(lines)?;
         let has_sent = self.send_lines()?;
         match self.member.listen() {
             Ok(count) => Ok(has_sent || count > 0),
@@ -187,26 +206,45 @@ impl<'a, N: Net, C: Application> Lone<'a, N, C> {
         }
     }
 
-    // Writes what happened.
-    fn show_events<W: Write>(&mut self, writer: &mut W) -> Result<(), Cut>
-        ensures tells { (group : List ℕ) → Tells N.log N.failed C.meaning group self.old.teller.speaks self.old.member self.new.member (W.contents writer.old) (W.contents writer.new) result }
-        ensures speaks { self.new.teller.speaks ≡ self.old.teller.speaks }
+    // Writes what is told of it, and then offers what waits; nothing is offered where that was not written whole.
+    fn tell_then_offer<L: Lines, W: Write>(
+        &mut self,
+        lines: &mut L,
+        writer: &mut W,
+    ) -> Result<(), Cut>
+        ensures tells { WritesTurn C.line_of self.old.teller.voice self.old.member.channel (W.contents writer.old) (W.contents writer.new) result }
+        ensures offers { ThenOffers N.log N.failed self.old.member self.new.member result }
+        ensures voice { self.new.teller.voice ≡ self.old.teller.voice }
+        ensures once { self.new.once ≡ self.old.once }
+        ensures owes { OnOk result (Keeps self.old.outbox self.old.teller.unsaid self.new.outbox self.new.teller.unsaid) }
+        ensures came { L.came lines.new ≡ L.came lines.old }
     {
-        self.teller.tell(self.member.channel(), writer)
+        match self.teller.tell(self.member.channel(), lines, writer) {
+            Ok(()) => {
+                self.member.offer();
+                Ok(())
+            }
+            Err(why) => Err(why),
+        }
     }
 
-    // Connects it, and writes what happened.
-    fn begin<W: Write>(
+    // Connects it, and tells what happened.
+    fn begin<L: Lines, W: Write>(
         &mut self,
         settings: &Settings,
         contact: Option<Address>,
+        lines: &mut L,
         writer: &mut W,
     ) -> Result<(), Cut>
-        ensures tells { Tells N.log N.failed C.meaning settings.now.group self.old.teller.speaks self.old.member self.new.member (W.contents writer.old) (W.contents writer.new) result }
-        ensures speaks { self.new.teller.speaks ≡ self.old.teller.speaks }
+        ensures tells { (start later : Option (List ℕ)) → TellsFrom N.log N.failed (MaySay (option_copied self.old.once) start later C.payload_within C.first_said) C.meaning C.line_of settings.now.group self.old.teller.voice (first_call self.old.manner.finds contact) self.old.member self.new.member
+            (W.contents writer.old) (W.contents writer.new) result }
+        ensures voice { self.new.teller.voice ≡ self.old.teller.voice }
+        ensures once { self.new.once ≡ self.old.once }
+        ensures owes { OnOk result (Keeps self.old.outbox self.old.teller.unsaid self.new.outbox self.new.teller.unsaid) }
+        ensures came { L.came lines.new ≡ L.came lines.old }
     {
         let connected = self.connect(settings, contact);
-        match self.show_events(writer) {
+        match self.tell_then_offer(lines, writer) {
             Ok(()) => connected,
             Err(why) => Err(why),
         }
@@ -214,41 +252,54 @@ impl<'a, N: Net, C: Application> Lone<'a, N, C> {
 
     // A round, and then what it does to find its group.
     fn round_and_find(&mut self, settings: &Settings) -> Result<(), Cut>
-        ensures drives { Quietly N.log N.failed C.meaning settings.now.group self.old.member self.new.member }
-        ensures speaks { self.new.teller.speaks ≡ self.old.teller.speaks }
+        ensures drives { (start came later : Option (List ℕ)) → Owes start came self.old.outbox self.old.teller.unsaid → IsEarlier came later → Quietly N.log N.failed (MaySay (option_copied self.old.once) start later C.payload_within C.first_said) C.meaning settings.now.group self.old.member self.new.member }
+        ensures voice { self.new.teller.voice ≡ self.old.teller.voice }
+        ensures once { self.new.once ≡ self.old.once }
+        ensures owes { OnOk result (Keeps self.old.outbox self.old.teller.unsaid self.new.outbox self.new.teller.unsaid) }
     {
         self.round()?;
         self.find(settings)
     }
 
-    // One of its rounds, and what happened by it.
+    // One of its rounds; it tells what happened by it.
     fn turn<L: Lines, W: Write>(
         &mut self,
         settings: &Settings,
         lines: &mut L,
         writer: &mut W,
     ) -> Result<(), Cut>
-        ensures tells { Tells N.log N.failed C.meaning settings.now.group self.old.teller.speaks self.old.member self.new.member (W.contents writer.old) (W.contents writer.new) result }
-        ensures speaks { self.new.teller.speaks ≡ self.old.teller.speaks }
+        ensures tells { (start later : Option (List ℕ)) → Owes start (L.came lines.old) self.old.outbox self.old.teller.unsaid → IsEarlier (L.came lines.new) later → TellsOn N.log N.failed (MaySay (option_copied self.old.once) start later C.payload_within C.first_said) C.meaning C.line_of settings.now.group self.old.teller.voice self.old.member self.new.member (W.contents writer.old) (W.contents writer.new) result }
+        ensures voice { self.new.teller.voice ≡ self.old.teller.voice }
+        ensures once { self.new.once ≡ self.old.once }
+        ensures owes { (start : Option (List ℕ)) → Owes start (L.came lines.old) self.old.outbox self.old.teller.unsaid → OnOk result (Owes start (L.came lines.new) self.new.outbox self.new.teller.unsaid) }
+        ensures grows { IsEarlier (L.came lines.old) (L.came lines.new) }
     {
         if let Err(why) = self.take_lines(lines) {
             return Err(why);
         }
         let went = self.round_and_find(settings);
-        match self.show_events(writer) {
+        match self.tell_then_offer(lines, writer) {
             Ok(()) => went,
             Err(why) => Err(why),
         }
     }
 
-    // Listens, and writes what happened; then it waits no longer than the rest of the time, unless there is more to do at once.
-    fn listen_for<W: Write>(&mut self, rest: Duration, writer: &mut W) -> Result<(), Cut>
-        ensures tells { (group : List ℕ) → Tells N.log N.failed C.meaning group self.old.teller.speaks self.old.member self.new.member (W.contents writer.old) (W.contents writer.new) result }
-        ensures speaks { self.new.teller.speaks ≡ self.old.teller.speaks }
+    // Listens, and tells what happened; then it waits no longer than the rest of the time, unless there is more to do at once.
+    fn listen_for<L: Lines, W: Write>(
+        &mut self,
+        rest: Duration,
+        lines: &mut L,
+        writer: &mut W,
+    ) -> Result<(), Cut>
+        ensures tells { (group : List ℕ) (start later : Option (List ℕ)) → Owes start (L.came lines.old) self.old.outbox self.old.teller.unsaid → IsEarlier (L.came lines.new) later → TellsOn N.log N.failed (MaySay (option_copied self.old.once) start later C.payload_within C.first_said) C.meaning C.line_of group self.old.teller.voice self.old.member self.new.member (W.contents writer.old) (W.contents writer.new) result }
+        ensures voice { self.new.teller.voice ≡ self.old.teller.voice }
+        ensures once { self.new.once ≡ self.old.once }
+        ensures owes { (start : Option (List ℕ)) → Owes start (L.came lines.old) self.old.outbox self.old.teller.unsaid → OnOk result (Owes start (L.came lines.new) self.new.outbox self.new.teller.unsaid) }
+        ensures grows { IsEarlier (L.came lines.old) (L.came lines.new) }
     {
-        let went = self.listen();
-        match self.show_events(writer) {
-            Ok(()) => self.wait_unless(rest, went),
+        let went = self.listen(lines);
+        match self.tell_then_offer(lines, writer) {
+            Ok(()) => self.wait_unless(lines.rest(rest), went),
             Err(why) => Err(why),
         }
     }
@@ -256,7 +307,9 @@ impl<'a, N: Net, C: Application> Lone<'a, N, C> {
     // Waits, unless there is more to do at once.
     fn wait_unless(&mut self, rest: Duration, went: Result<bool, Cut>) -> Result<(), Cut>
         ensures waits { Waits N.log self.old.member self.new.member }
-        ensures speaks { self.new.teller.speaks ≡ self.old.teller.speaks }
+        ensures voice { self.new.teller.voice ≡ self.old.teller.voice }
+        ensures texts { AreSame self.old.once self.old.outbox self.old.teller.unsaid self.new.once self.new.outbox self.new.teller.unsaid }
+        ensures went { OnOk result (IsOk went) }
     {
         match went {
             Ok(true) => Ok(()),
@@ -271,21 +324,26 @@ impl<'a, N: Net, C: Application> Lone<'a, N, C> {
     // It is this time.
     fn go_on(&mut self, now: Duration)
         ensures member { self.new.member ≡ self.old.member }
-        ensures speaks { self.new.teller.speaks ≡ self.old.teller.speaks }
+        ensures voice { self.new.teller.voice ≡ self.old.teller.voice }
+        ensures texts { AreSame self.old.once self.old.outbox self.old.teller.unsaid self.new.once self.new.outbox self.new.teller.unsaid }
     {
         self.time = now;
         self.finder.go_on(milliseconds(now));
     }
 
     // Handles datagrams as they come, until it is time for the next round.
-    fn listen_until<M: Machine, W: Write>(
+    fn listen_until<L: Lines, M: Machine, W: Write>(
         &mut self,
         due: Duration,
+        lines: &mut L,
         machine: &mut M,
         writer: &mut W,
     ) -> Result<(), Cut>
-        ensures tells { (group : List ℕ) → self.old.member.channel.happened ≡ [] → Tells N.log N.failed C.meaning group self.old.teller.speaks self.old.member self.new.member (W.contents writer.old) (W.contents writer.new) result }
-        ensures speaks { self.new.teller.speaks ≡ self.old.teller.speaks }
+        ensures tells { (group : List ℕ) (start later : Option (List ℕ)) → Owes start (L.came lines.old) self.old.outbox self.old.teller.unsaid → IsEarlier (L.came lines.new) later → self.old.member.channel.happened ≡ [] → TellsOn N.log N.failed (MaySay (option_copied self.old.once) start later C.payload_within C.first_said) C.meaning C.line_of group self.old.teller.voice self.old.member self.new.member (W.contents writer.old) (W.contents writer.new) result }
+        ensures voice { self.new.teller.voice ≡ self.old.teller.voice }
+        ensures once { self.new.once ≡ self.old.once }
+        ensures owes { (start : Option (List ℕ)) → Owes start (L.came lines.old) self.old.outbox self.old.teller.unsaid → OnOk result (Owes start (L.came lines.new) self.new.outbox self.new.teller.unsaid) }
+        ensures grows { IsEarlier (L.came lines.old) (L.came lines.new) }
         ensures gone { M.gone machine.new ≡ M.gone machine.old }
     {
         for _ in 0..LISTENS {
@@ -294,7 +352,8 @@ impl<'a, N: Net, C: Application> Lone<'a, N, C> {
             if self.has_ended || rest == Duration::ZERO {
                 return Ok(());
             }
-            match self.listen_for(rest, writer) {
+            lines.look(self.time);
+            match self.listen_for(rest, lines, writer) {
                 Ok(()) => (),
                 Err(why) => return Err(why),
             }
@@ -303,21 +362,25 @@ impl<'a, N: Net, C: Application> Lone<'a, N, C> {
     }
 
     // Handles datagrams as they come between a round and the one before, if there was one.
-    fn rest<M: Machine, W: Write>(
+    fn rest<L: Lines, M: Machine, W: Write>(
         &mut self,
         round: u64,
+        lines: &mut L,
         machine: &mut M,
         writer: &mut W,
     ) -> Result<(), Cut>
-        ensures tells { (group : List ℕ) → self.old.member.channel.happened ≡ [] → Tells N.log N.failed C.meaning group self.old.teller.speaks self.old.member self.new.member (W.contents writer.old) (W.contents writer.new) result }
-        ensures speaks { self.new.teller.speaks ≡ self.old.teller.speaks }
+        ensures tells { (group : List ℕ) (start later : Option (List ℕ)) → Owes start (L.came lines.old) self.old.outbox self.old.teller.unsaid → IsEarlier (L.came lines.new) later → self.old.member.channel.happened ≡ [] → TellsOn N.log N.failed (MaySay (option_copied self.old.once) start later C.payload_within C.first_said) C.meaning C.line_of group self.old.teller.voice self.old.member self.new.member (W.contents writer.old) (W.contents writer.new) result }
+        ensures voice { self.new.teller.voice ≡ self.old.teller.voice }
+        ensures once { self.new.once ≡ self.old.once }
+        ensures owes { (start : Option (List ℕ)) → Owes start (L.came lines.old) self.old.outbox self.old.teller.unsaid → OnOk result (Owes start (L.came lines.new) self.new.outbox self.new.teller.unsaid) }
+        ensures grows { IsEarlier (L.came lines.old) (L.came lines.new) }
         ensures gone { M.gone machine.new ≡ M.gone machine.old }
     {
         if round == 0 {
             return Ok(());
         }
         let due = machine.now().saturating_add(self.manner.tick);
-        self.listen_until(due, machine, writer)
+        self.listen_until(due, lines, machine, writer)
     }
 
     // All of its rounds, until its lines are over; between two it handles datagrams as they come.
@@ -329,15 +392,18 @@ impl<'a, N: Net, C: Application> Lone<'a, N, C> {
         machine: &mut M,
         writer: &mut W,
     ) -> Result<(), Cut>
-        ensures tells { self.old.member.channel.happened ≡ [] → Tells N.log N.failed C.meaning settings.now.group self.old.teller.speaks self.old.member self.new.member (W.contents writer.old) (W.contents writer.new) result }
-        ensures speaks { self.new.teller.speaks ≡ self.old.teller.speaks }
+        ensures tells { (start later : Option (List ℕ)) → Owes start (L.came lines.old) self.old.outbox self.old.teller.unsaid → IsEarlier (L.came lines.new) later → self.old.member.channel.happened ≡ [] → TellsOn N.log N.failed (MaySay (option_copied self.old.once) start later C.payload_within C.first_said) C.meaning C.line_of settings.now.group self.old.teller.voice self.old.member self.new.member (W.contents writer.old) (W.contents writer.new) result }
+        ensures voice { self.new.teller.voice ≡ self.old.teller.voice }
+        ensures once { self.new.once ≡ self.old.once }
+        ensures owes { (start : Option (List ℕ)) → Owes start (L.came lines.old) self.old.outbox self.old.teller.unsaid → OnOk result (Owes start (L.came lines.new) self.new.outbox self.new.teller.unsaid) }
+        ensures grows { IsEarlier (L.came lines.old) (L.came lines.new) }
         ensures gone { M.gone machine.new ≡ M.gone machine.old }
     {
         for round in 0..rounds {
             if self.has_ended || self.gives_up || self.outbox.is_over() {
                 return Ok(());
             }
-            match self.rest(round, machine, writer) {
+            match self.rest(round, lines, machine, writer) {
                 Ok(()) => (),
                 Err(why) => return Err(why),
             }
@@ -351,17 +417,22 @@ impl<'a, N: Net, C: Application> Lone<'a, N, C> {
         Ok(())
     }
 
-    // Leaves its group, where it is to.
-    fn leave<W: Write>(&mut self, writer: &mut W) -> Result<(), Cut>
-        ensures tells { (group : List ℕ) → self.old.member.channel.happened ≡ [] → Tells N.log N.failed C.meaning group self.old.teller.speaks self.old.member self.new.member (W.contents writer.old) (W.contents writer.new) result }
-        ensures speaks { self.new.teller.speaks ≡ self.old.teller.speaks }
+    // Leaves its group, where it is to, or gives up its address; a channel that has ended refuses that.
+    fn leave<L: Lines, W: Write>(
+        &mut self,
+        leaves: bool,
+        lines: &mut L,
+        writer: &mut W,
+    ) -> Result<(), Cut>
+        ensures tells { (group : List ℕ) (start later : Option (List ℕ)) → self.old.member.channel.happened ≡ [] → TellsEnd N.log N.failed (MaySay (option_copied self.old.once) start later C.payload_within C.first_said) C.meaning C.line_of group self.old.teller.voice leaves self.old.member self.new.member (W.contents writer.old) (W.contents writer.new) result }
+        ensures voice { self.new.teller.voice ≡ self.old.teller.voice }
+        ensures came { L.came lines.new ≡ L.came lines.old }
     {
-        if self.has_ended || !(self.manner.leaves || self.gives_up) {
+        if !(leaves || self.gives_up) {
             return Ok(());
         }
         let left = unless_memory(self.member.channel().disconnect());
-        let _ended = self.member.listen();
-        match self.show_events(writer) {
+        match self.tell_then_offer(lines, writer) {
             Ok(()) => left,
             Err(why) => Err(why),
         }
@@ -376,11 +447,13 @@ impl<'a, N: Net, C: Application> Lone<'a, N, C> {
         machine: &mut M,
         writer: &mut W,
     ) -> Result<(), Cut>
-        ensures plays { PlaysAlone N.log N.failed C.meaning C.line_of settings.now.group plan.now.address self.old.teller.speaks self.old.member self.new.member
-            (W.contents writer.old) (W.contents writer.new) result }
+        ensures plays { (start later : Option (List ℕ)) → Owes start (L.came lines.old) self.old.outbox self.old.teller.unsaid → IsEarlier (L.came lines.new) later → PlaysAlone N.log N.failed (MaySay (option_copied self.old.once) start later C.payload_within C.first_said) C.meaning C.line_of settings.now.group plan.now.address self.old.teller.voice (first_call self.old.manner.finds plan.now.contact)
+            self.old.manner.leaves self.old.member self.new.member (W.contents writer.old) (W.contents writer.new) result }
+        ensures grows { IsEarlier (L.came lines.old) (L.came lines.new) }
         ensures gone { M.gone machine.new ≡ M.gone machine.old }
     {
-        match self.begin(settings, plan.contact, writer) {
+        let leaves = self.manner.leaves;
+        match self.begin(settings, plan.contact, lines, writer) {
             Ok(()) => (),
             Err(why) => return Err(why),
         }
@@ -393,6 +466,6 @@ impl<'a, N: Net, C: Application> Lone<'a, N, C> {
             Ok(()) => (),
             Err(why) => return Err(why),
         }
-        self.leave(writer)
+        self.leave(leaves, lines, writer)
     }
 }

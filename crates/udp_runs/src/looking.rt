@@ -1,6 +1,7 @@
 //! What whoever looks after a member sees of it that runs by itself.
 
 ghost use Rattle.std.specs.Prelude.{◌≡◌};
+ghost use Rattle.udp_runs.specs.Said.{AreSame};
 
 use crate::lone::Lone;
 use crate::{Machine, NodeStatus};
@@ -11,7 +12,8 @@ impl<'a, N: Net, C: Application> Lone<'a, N, C> {
     // Tells the machine what whoever looks after it should know, and shows it how it is.
     pub(crate) fn look<M: Machine>(&mut self, machine: &mut M)
         ensures member { self.new.member ≡ self.old.member }
-        ensures speaks { self.new.teller.speaks ≡ self.old.teller.speaks }
+        ensures voice { self.new.teller.voice ≡ self.old.teller.voice }
+        ensures texts { AreSame self.old.once self.old.outbox self.old.teller.unsaid self.new.once self.new.outbox self.new.teller.unsaid }
         ensures gone { M.gone machine.new ≡ M.gone machine.old }
     {
         if let Some(notice) = self.watch.take_notice() {
@@ -33,7 +35,8 @@ impl<'a, N: Net, C: Application> Lone<'a, N, C> {
     // Notes where lines wait since its view has too few members.
     fn note_few(&mut self)
         ensures member { self.new.member ≡ self.old.member }
-        ensures speaks { self.new.teller.speaks ≡ self.old.teller.speaks }
+        ensures voice { self.new.teller.voice ≡ self.old.teller.voice }
+        ensures texts { AreSame self.old.once self.old.outbox self.old.teller.unsaid self.new.once self.new.outbox self.new.teller.unsaid }
     {
         if !self.is_few() || !(self.is_unsent || self.outbox.has_line()) {
             return;
@@ -46,7 +49,8 @@ impl<'a, N: Net, C: Application> Lone<'a, N, C> {
     // How it is.
     fn status(&mut self) -> NodeStatus
         ensures member { self.new.member ≡ self.old.member }
-        ensures speaks { self.new.teller.speaks ≡ self.old.teller.speaks }
+        ensures voice { self.new.teller.voice ≡ self.old.teller.voice }
+        ensures texts { AreSame self.old.once self.old.outbox self.old.teller.unsaid self.new.once self.new.outbox self.new.teller.unsaid }
     {
         let strange = self.member.net().strange();
         let blocked = self.watch.blocked(self.time);
@@ -68,7 +72,8 @@ impl<'a, N: Net, C: Application> Lone<'a, N, C> {
     // Shows the machine how it is.
     fn show<M: Machine>(&mut self, machine: &mut M)
         ensures member { self.new.member ≡ self.old.member }
-        ensures speaks { self.new.teller.speaks ≡ self.old.teller.speaks }
+        ensures voice { self.new.teller.voice ≡ self.old.teller.voice }
+        ensures texts { AreSame self.old.once self.old.outbox self.old.teller.unsaid self.new.once self.new.outbox self.new.teller.unsaid }
         ensures gone { M.gone machine.new ≡ M.gone machine.old }
     {
         let status = self.status();

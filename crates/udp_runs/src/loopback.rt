@@ -5,10 +5,16 @@ ghost use Rattle.udp_runs.specs.Loopbacks.{nothing_asked, unbound_after};
 
 use crate::{Machine, Tally};
 use address::{Address, Node};
+use frames::{BOOT, FramedNet};
 use std::alloc::Global;
 use std::marker::Model;
+use std::os::fd::RawFd;
+use std::random::RandomSource;
 use std::time::{Clock, Duration};
-use udp_net::{BindError, Hosts, Net, Settings, SocketNet};
+use udp_net::{BindError, EitherNet, Hosts, Net, Settings, SievedNet, SocketNet};
+
+/// The net of a node: plain datagrams; or frames that are sealed with its group's key, with the words and the packets in them (docs/WIRE.md, "Frames").
+pub type NodeNet = EitherNet<SocketNet, SievedNet<FramedNet<SocketNet>>>;
 
 /// This machine: each node has a socket of UDP, at its port by the settings. Contracts see whether a socket could not be bound, and what was told.
 #[derive(Drop)]
@@ -21,6 +27,10 @@ pub struct Loopback<'a, R> {
     tally: Option<Tally>,
     // Whether a node's datagrams are taken wherever they come from.
     is_open: bool,
+    // The key of the group, if its datagrams are sealed.
+    key: Option<&'a [u8]>,
+    // What ends the waits of its nets too.
+    other: Option<RawFd>,
 }
 
 impl<'a, R> Model for Loopback<'a, R> {
@@ -49,6 +59,8 @@ impl<'a, R> Loopback<'a, R> {
             is_unbound: false,
             tally: None,
             is_open: false,
+            key: None,
+            other: None,
         }
     }
 
@@ -57,6 +69,20 @@ impl<'a, R> Loopback<'a, R> {
         ensures { self.new ≡ self.old }
     {
         self.is_open = true;
+    }
+
+    /// From now on the nets that it makes seal their datagrams with a key of the group, of any length, and take none that is not sealed with it.
+    pub fn seal_with(&mut self, key: &'a [u8])
+        ensures { self.new ≡ self.old }
+    {
+        self.key = Some(key);
+    }
+
+    /// From now on the waits of the nets that it makes end too when this descriptor is readable.
+    pub fn also_wait_for(&mut self, other: RawFd)
+        ensures { self.new ≡ self.old }
+    {
+        self.other = Some(other);
     }
 
     /// What happened at a node that ran by itself and has ended; `None` where none has.
@@ -74,22 +100,60 @@ impl<'a, R> Loopback<'a, R> {
     }
 }
 
-impl<'a, R: std::net::Net + Clock> Machine for Loopback<'a, R> {
-    type Net = SocketNet;
+// A net of sealed frames over a socket, with a new boot id.
+fn sealed<R: RandomSource>(
+    alloc: Global,
+    runtime: &R,
+    settings: &Settings,
+    node: Node,
+    socket: SocketNet,
+    key: &[u8],
+) -> Result<SievedNet<FramedNet<SocketNet>>, BindError> {
+    let mut boot = [0; BOOT];
+    if runtime.fill_bytes(&mut boot).is_err() {
+        return Err(BindError::Bind);
+    }
+    let mut bare = socket;
+    bare.give_all();
+    let framed = FramedNet::new(alloc, bare, node, settings.nodes(), key, &boot)?;
+    Ok(SievedNet::new(alloc, framed, settings)?)
+}
+
+impl<'a, R: std::net::Net + RandomSource> Loopback<'a, R> {
+    // The net of a node, over a socket of its own.
+    fn bind(&self, node: Node) -> Result<NodeNet, BindError> {
+        let mut socket = SocketNet::bind(
+            self.alloc,
+            self.runtime,
+            self.settings,
+            &self.hosts,
+            node,
+        )?;
+        if self.is_open {
+            socket.hear_from_anywhere();
+        }
+        if let Some(other) = self.other {
+            let _ = socket.also_wait_for(self.alloc, self.runtime, other);
+        }
+        let Some(key) = self.key else {
+            return Ok(EitherNet::First(socket));
+        };
+        let net = sealed(self.alloc, self.runtime, self.settings, node, socket, key)?;
+        Ok(EitherNet::Second(net))
+    }
+}
+
+impl<'a, R: std::net::Net + RandomSource + Clock> Machine for Loopback<'a, R> {
+    type Net = NodeNet;
 
     ghost gone = { λ _. None };
 
-    fn net(&mut self, node: Node) -> Result<SocketNet, BindError>
-        ensures fresh { IfOk result (λ net. ForSome (⟦<SocketNet as Net>⟧.log net) (λ l. l ≡ [])) }
+    fn net(&mut self, node: Node) -> Result<NodeNet, BindError>
+        ensures fresh { IfOk result (λ net. ForSome (⟦<NodeNet as Net>⟧.log net) (λ l. l ≡ [])) }
         ensures after { self.new ≡ record self.old { is_unbound = unbound_after self.old.is_unbound (result_err result) } }
     {
-        match SocketNet::bind(self.alloc, self.runtime, self.settings, &self.hosts, node) {
-            Ok(mut net) => {
-                if self.is_open {
-                    net.hear_from_anywhere();
-                }
-                Ok(net)
-            }
+        match self.bind(node) {
+            Ok(net) => Ok(net),
             Err(error) => {
                 if error == BindError::Bind {
                     self.is_unbound = true;
@@ -100,7 +164,7 @@ impl<'a, R: std::net::Net + Clock> Machine for Loopback<'a, R> {
     }
 
     // Its socket is closed.
-    fn close(&mut self, _member: Address, _net: SocketNet)
+    fn close(&mut self, _member: Address, _net: NodeNet)
         ensures { self.new ≡ self.old }
     {}
 

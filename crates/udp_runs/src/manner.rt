@@ -20,6 +20,8 @@ pub struct Manner {
     pub finds: bool,
     /// It sends only in views of at least so many members.
     pub quorum: u32,
+    /// Whether it writes how many messages of its view are stable, each time that these are more (docs/FORMATS.md, "Nodes over UDP").
+    pub stable: bool,
 }
 
 /// What stopped a node that sends lines.

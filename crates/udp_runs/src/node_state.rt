@@ -1,10 +1,14 @@
 //! A node, and the process that runs there.
 
-ghost use Rattle.std.specs.Prelude.{◌≡◌, ◌++◌, ℕ, List, [], Option, None, Some, map, slice_get, slice_set, option_to_list, IfOk, OnOk, OnErr};
+ghost use Rattle.std.specs.Prelude.{◌≡◌, ◌++◌, ℕ, List, [], Option, None, Some, map, slice_get, slice_set, option_to_list, IfOk, IfErr, OnOk, OnErr};
 ghost use Rattle.std.specs.Option.{ForSome, option_map_or};
 ghost use Rattle.deployed_runners.specs.Systems.{Gone};
+ghost use Rattle.limits.specs.Refusals.{number_of};
+ghost use Rattle.world_model.specs.declared.WorldEvent.{WorldEvent};
+ghost use Rattle.world_model.specs.declared.WorldEvent.TheVariants as event;
+ghost use Rattle.udp_runs.specs.Carrying.{Asks, DoesAt, RoundAt, why_absent, why_unstarted};
 ghost use Rattle.udp_runs.specs.Machines.{GivesBack};
-ghost use Rattle.udp_runs.specs.Nodes.{GoesOn, GoesOnAt, IsFirst, IsNext};
+ghost use Rattle.udp_runs.specs.Nodes.{CannotStart, GoesOn, GoesOnAt, IsFirst, IsNext};
 ghost use Rattle.udp_runs.specs.Scripts.{state_text, net_of};
 
 use crate::Machine;
@@ -15,7 +19,7 @@ use application::Application;
 use limits::Refusal;
 use std::alloc::{AllocError, Global};
 use trace_props::Event;
-use udp_net::{Net, Settings};
+use udp_net::{Net, NodePort, Settings};
 use vsync_text::{append_event, append_refusal};
 
 /// A node, and the process that runs there. Each call appends to a text what happened by it.
@@ -28,12 +32,12 @@ pub(crate) struct NodeState<N: Net, C: Application> {
 }
 
 impl<N: Net, C: Application> NodeState<N, C> {
-    // A node where no member was started yet.
-    pub(crate) fn new(node: Node) -> NodeState<N, C>
-        ensures { result ≡ record { node = node; last = None; process = None } }
+    // The node of a place, where no member was started yet.
+    pub(crate) fn new(place: &NodePort) -> NodeState<N, C>
+        ensures { result ≡ record { node = place.now.node; last = None; process = None } }
     {
         NodeState {
-            node,
+            node: place.node,
             last: None,
             process: None,
         }
@@ -48,7 +52,9 @@ impl<N: Net, C: Application> NodeState<N, C> {
 
     // The address of the next member there. Refused with 5 where one runs, and with 8 after the last incarnation.
     pub(crate) fn next_address(&self) -> Result<Address, Refusal>
-        ensures { IfOk result (IsNext self.now) }
+        ensures ok { IfOk result (IsNext self.now) }
+        ensures err { IfErr result (λ refusal. number_of refusal ≡ why_unstarted self.now) }
+        ensures full { OnErr result (CannotStart self.now) }
     {
         if self.process.is_some() {
             return Err(Refusal::AlreadyConnected);
@@ -68,9 +74,9 @@ impl<N: Net, C: Application> NodeState<N, C> {
         settings: &Settings,
         text: &mut Vec<u8>,
     ) -> Result<(), AllocError>
-        ensures { (group : List ℕ) (given : Option (List (Gone N))) (states : List (NodeState N C)) (k : ℕ) → slice_get states k ≡ Some self.old → IsNext self.old address
+        ensures { (group : List ℕ) (line : ℕ) (given : Option (List (Gone N))) (states : List (NodeState N C)) (k : ℕ) → slice_get states k ≡ Some self.old → IsNext self.old address
             → IsFirst self.old.node k states → ForSome (N.log net) (λ l. l ≡ [])
-            → GoesOn N.log N.failed C.meaning group states (slice_set states k self.new) given given text.old.items text.new.items result }
+            → GoesOn N.log N.failed C.meaning group (DoesAt N.log N.failed C.meaning group line self.old (event.Start self.old.node) self.new) states (slice_set states k self.new) given given text.old.items text.new.items result }
     {
         self.last = Some(address);
         append_event(text, &Event::Started(address))?;
@@ -90,7 +96,8 @@ impl<N: Net, C: Application> NodeState<N, C> {
         line: u64,
         text: &mut Vec<u8>,
     ) -> Result<(), AllocError>
-        ensures { (group : List ℕ) → GoesOnAt N.log N.failed C.meaning group self.old self.new (M.gone machine.old) (M.gone machine.new) text.old.items text.new.items result }
+        ensures { (group : List ℕ) → GoesOnAt N.log N.failed C.meaning group (DoesAt N.log N.failed C.meaning group line self.old (event.Crash self.old.node) self.new) self.old self.new
+            (M.gone machine.old) (M.gone machine.new) text.old.items text.new.items result }
     {
         let Some(process) = self.process.take() else {
             return append_refusal(text, line, self.absence().number());
@@ -110,7 +117,8 @@ impl<N: Net, C: Application> NodeState<N, C> {
         call: &Call<'_>,
         text: &mut Vec<u8>,
     ) -> Result<(), AllocError>
-        ensures { GoesOnAt N.log N.failed C.meaning group.now self.old self.new (M.gone machine.old) (M.gone machine.new) text.old.items text.new.items result }
+        ensures { (asked : WorldEvent) → Asks asked self.old.node call.now → GoesOnAt N.log N.failed C.meaning group.now (DoesAt N.log N.failed C.meaning group.now line self.old asked self.new) self.old self.new
+            (M.gone machine.old) (M.gone machine.new) text.old.items text.new.items result }
     {
         let Some(process) = self.process.as_mut() else {
             return append_refusal(text, line, self.absence().number());
@@ -127,7 +135,8 @@ impl<N: Net, C: Application> NodeState<N, C> {
         machine: &mut M,
         text: &mut Vec<u8>,
     ) -> Result<(), AllocError>
-        ensures { (group : List ℕ) → GoesOnAt N.log N.failed C.meaning group self.old self.new (M.gone machine.old) (M.gone machine.new) text.old.items text.new.items result }
+        ensures { (group : List ℕ) → GoesOnAt N.log N.failed C.meaning group (RoundAt N.log N.failed C.meaning self.old self.new) self.old self.new
+            (M.gone machine.old) (M.gone machine.new) text.old.items text.new.items result }
     {
         let Some(process) = self.process.as_mut() else {
             return Ok(());
@@ -161,7 +170,9 @@ impl<N: Net, C: Application> NodeState<N, C> {
     }
 
     // Why nothing is done where no member runs.
-    fn absence(&self) -> Refusal {
+    fn absence(&self) -> Refusal
+        ensures { number_of result ≡ why_absent self.now }
+    {
         if self.last.is_some() {
             Refusal::Closed
         } else {

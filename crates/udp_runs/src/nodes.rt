@@ -1,14 +1,18 @@
 //! The nodes of the settings, in one process.
 
-ghost use Rattle.std.specs.Prelude.{◌≡◌, ◌++◌, ℕ, ◌<◌, List, take, map, vec_len, slice_get, IfErr, IfOk, IfSome, OnOk, OnErr};
-ghost use Rattle.std.specs.List.{concat};
+ghost use Rattle.std.specs.Prelude.{◌≡◌, ◌++◌, ℕ, ◌<◌, List, false, length, nat_eq, take, map, vec_len, slice_get, IfErr, IfNone, IfOk, IfSome, OnOk, OnErr};
+ghost use Rattle.std.specs.List.{concat, list_any};
+ghost use Rattle.std.specs.List.Sorted.{IsPermutation, IsNonDecreasingBy};
 ghost use Rattle.std.specs.Option.{IsSomeAnd};
+ghost use Rattle.world_model.specs.declared.WorldEvent.{WorldEvent};
+ghost use Rattle.world_model.specs.declared.WorldEvent.TheVariants as event;
+ghost use Rattle.udp_runs.specs.Carrying.{AreListed, Asks, DoesLine, RoundOf, RoundsOf, line_of_event, place_of};
 ghost use Rattle.udp_runs.specs.Machines.{GivesBack};
 ghost use Rattle.udp_runs.specs.Nodes.{AreUnused, GoesOn, IsFirst, IsNext, processes_in};
 ghost use Rattle.udp_runs.specs.Scripts.{StopsAt, IsNoNet, net_of, start_line, state_text};
 
 use crate::Machine;
-use crate::calls::{Call, call_of};
+use crate::calls::{Asked, Call, asked_by};
 use crate::ends::Stop;
 use crate::node_state::NodeState;
 use address::{Address, Node};
@@ -16,9 +20,8 @@ use application::Application;
 use limits::Refusal;
 use script_reader::{UdpEvent, UdpLine};
 use std::alloc::{AllocError, Global};
-use udp_net::{BindError, Net, Settings};
+use udp_net::{BindError, Net, NodePort, Settings};
 use vsync_text::append_refusal;
-use world_model::WorldEvent;
 
 /// The nodes of the settings, by number.
 #[derive(Drop)]
@@ -28,23 +31,29 @@ pub(crate) struct Nodes<N: Net, C: Application> {
 }
 
 // The nodes that settings list, by number.
-fn sorted(alloc: Global, settings: &Settings) -> Result<Vec<Node>, AllocError> {
-    let mut nodes = Vec::with_capacity(alloc, settings.nodes().len())?;
-    for listed in settings.nodes() {
-        nodes.push(listed.node)?;
-    }
-    nodes.sort()?;
-    Ok(nodes)
+fn sorted(alloc: Global, settings: &Settings) -> Result<Vec<NodePort>, AllocError>
+    ensures all { IfOk result (λ places. IsPermutation settings.now.nodes places.items) }
+    ensures by_number { IfOk result (λ places. IsNonDecreasingBy place_of places.items) }
+{
+    let mut places = Vec::from_slice(alloc, settings.nodes())?;
+    places.sort_by_key(
+        |place: &NodePort| -> Node
+            ensures { result ≡ place.now.node }
+        { place.node },
+    )?;
+    Ok(places)
 }
 
 impl<N: Net, C: Application> Nodes<N, C> {
     // The nodes that settings list; no member runs.
     pub(crate) fn new(alloc: Global, settings: &Settings) -> Result<Nodes<N, C>, AllocError>
-        ensures { IfOk result (λ nodes. AreUnused nodes.node_states.items) }
+        ensures unused { IfOk result (λ nodes. AreUnused nodes.node_states.items) }
+        ensures listed { IfOk result (λ nodes. AreListed settings.now.nodes nodes.node_states.items) }
     {
         let mut node_states = Vec::with_capacity(alloc, settings.nodes().len())?;
-        for node in sorted(alloc, settings)? {
-            node_states.push(NodeState::new(node))?;
+        let places = sorted(alloc, settings)?;
+        for place in places.as_slice() {
+            node_states.push(NodeState::new(place))?;
         }
         Ok(Nodes { alloc, node_states })
     }
@@ -57,19 +66,23 @@ impl<N: Net, C: Application> Nodes<N, C> {
         line: &UdpLine,
         text: &mut Vec<u8>,
     ) -> Result<(), Stop>
-        ensures goes { GoesOn N.log N.failed C.meaning settings.now.group self.old.node_states.items self.new.node_states.items (M.gone machine.old) (M.gone machine.new) text.old.items text.new.items result }
+        ensures goes { GoesOn N.log N.failed C.meaning settings.now.group (DoesLine N.log N.failed C.meaning settings.now.group self.old.node_states.items line.now self.new.node_states.items) self.old.node_states.items self.new.node_states.items
+            (M.gone machine.old) (M.gone machine.new) text.old.items text.new.items result }
         ensures stops { IfErr result (StopsAt line.now) }
-        ensures unchanged { IfErr result (λ stop. IsNoNet stop → text.new.items ≡ text.old.items) }
+        ensures unchanged { IfErr result (λ stop. IsNoNet stop → (text.new.items ≡ text.old.items) × (self.new.node_states.items ≡ self.old.node_states.items) × (M.gone machine.new ≡ M.gone machine.old)) }
     {
         match &line.event {
             UdpEvent::Rounds(count) => self.rounds(machine, *count, text)?,
-            UdpEvent::Node(WorldEvent::Start(node)) => {
-                return self.start(settings, machine, line.number, *node, text);
-            }
-            UdpEvent::Node(WorldEvent::Crash(node)) => {
-                self.crash(machine, line.number, *node, text)?;
-            }
-            UdpEvent::Node(event) => self.call(settings, machine, line.number, event, text)?,
+            UdpEvent::Node(event) => match asked_by(event) {
+                Asked::Start(node) => {
+                    return self.start(settings, machine, line.number, node, text);
+                }
+                Asked::Crash(node) => self.crash(machine, line.number, node, text)?,
+                Asked::Call(node, call) => {
+                    self.call(settings, machine, line.number, node, &call, text)?;
+                }
+                Asked::Nothing => (),
+            },
         }
         Ok(())
     }
@@ -102,9 +115,10 @@ impl<N: Net, C: Application> Nodes<N, C> {
         count: u64,
         text: &mut Vec<u8>,
     ) -> Result<(), AllocError>
-        ensures { (group : List ℕ) → GoesOn N.log N.failed C.meaning group self.old.node_states.items self.new.node_states.items (M.gone machine.old) (M.gone machine.new) text.old.items text.new.items result }
+        ensures { (group : List ℕ) → GoesOn N.log N.failed C.meaning group (RoundsOf N.log N.failed C.meaning self.old.node_states.items count self.new.node_states.items) self.old.node_states.items self.new.node_states.items
+            (M.gone machine.old) (M.gone machine.new) text.old.items text.new.items result }
     {
-        for _ in 0..count {
+        for done in 0..count {
             self.round(machine, text)?;
         }
         Ok(())
@@ -116,7 +130,8 @@ impl<N: Net, C: Application> Nodes<N, C> {
         machine: &mut M,
         text: &mut Vec<u8>,
     ) -> Result<(), AllocError>
-        ensures { (group : List ℕ) → GoesOn N.log N.failed C.meaning group self.old.node_states.items self.new.node_states.items (M.gone machine.old) (M.gone machine.new) text.old.items text.new.items result }
+        ensures { (group : List ℕ) → GoesOn N.log N.failed C.meaning group (RoundOf N.log N.failed C.meaning self.old.node_states.items (length self.old.node_states.items) self.new.node_states.items) self.old.node_states.items self.new.node_states.items
+            (M.gone machine.old) (M.gone machine.new) text.old.items text.new.items result }
     {
         for index in 0..self.node_states.len() {
             self.node_states[index].round(machine, text)?;
@@ -129,6 +144,7 @@ impl<N: Net, C: Application> Nodes<N, C> {
         ensures within { IfSome result (λ index. index < vec_len self.now.node_states) }
         ensures node { IfSome result (λ index. IsSomeAnd (slice_get self.now.node_states.items index) (λ x. x.node ≡ node)) }
         ensures first { IfSome result (λ index. IsFirst node index self.now.node_states.items) }
+        ensures unlisted { IfNone result (list_any (λ x. nat_eq x.node node) self.now.node_states.items ≡ false) }
     {
         for index in 0..self.node_states.len() {
             if self.node_states[index].node() == node {
@@ -147,9 +163,10 @@ impl<N: Net, C: Application> Nodes<N, C> {
         node: Node,
         text: &mut Vec<u8>,
     ) -> Result<(), Stop>
-        ensures goes { GoesOn N.log N.failed C.meaning settings.now.group self.old.node_states.items self.new.node_states.items (M.gone machine.old) (M.gone machine.new) text.old.items text.new.items result }
+        ensures goes { GoesOn N.log N.failed C.meaning settings.now.group (DoesLine N.log N.failed C.meaning settings.now.group self.old.node_states.items (start_line line node) self.new.node_states.items) self.old.node_states.items self.new.node_states.items
+            (M.gone machine.old) (M.gone machine.new) text.old.items text.new.items result }
         ensures stops { IfErr result (StopsAt (start_line line node)) }
-        ensures unchanged { IfErr result (λ stop. IsNoNet stop → text.new.items ≡ text.old.items) }
+        ensures unchanged { IfErr result (λ stop. IsNoNet stop → (text.new.items ≡ text.old.items) × (self.new.node_states.items ≡ self.old.node_states.items) × (M.gone machine.new ≡ M.gone machine.old)) }
     {
         let Some(index) = self.index_of(node) else {
             append_refusal(text, line, BindError::Config.number())?;
@@ -175,10 +192,11 @@ impl<N: Net, C: Application> Nodes<N, C> {
         text: &mut Vec<u8>,
     ) -> Result<(), Stop>
         requires within { index < vec_len self.old.node_states }
-        ensures goes { IsSomeAnd (slice_get self.old.node_states.items index) (λ x. IsNext x address × IsFirst x.node index self.old.node_states.items)
-            → GoesOn N.log N.failed C.meaning settings.now.group self.old.node_states.items self.new.node_states.items (M.gone machine.old) (M.gone machine.new) text.old.items text.new.items result }
+        ensures goes { (node : ℕ) → IsSomeAnd (slice_get self.old.node_states.items index) (λ x. (x.node ≡ node) × IsNext x address × IsFirst node index self.old.node_states.items)
+            → GoesOn N.log N.failed C.meaning settings.now.group (DoesLine N.log N.failed C.meaning settings.now.group self.old.node_states.items (start_line line node) self.new.node_states.items) self.old.node_states.items self.new.node_states.items
+            (M.gone machine.old) (M.gone machine.new) text.old.items text.new.items result }
         ensures stops { (node : ℕ) → IfErr result (StopsAt (start_line line node)) }
-        ensures unchanged { IfErr result (λ stop. IsNoNet stop → text.new.items ≡ text.old.items) }
+        ensures unchanged { IfErr result (λ stop. IsNoNet stop → (text.new.items ≡ text.old.items) × (self.new.node_states.items ≡ self.old.node_states.items) × (M.gone machine.new ≡ M.gone machine.old)) }
     {
         match machine.net(address.node()) {
             Ok(net) => {
@@ -197,7 +215,8 @@ impl<N: Net, C: Application> Nodes<N, C> {
         node: Node,
         text: &mut Vec<u8>,
     ) -> Result<(), AllocError>
-        ensures { (group : List ℕ) → GoesOn N.log N.failed C.meaning group self.old.node_states.items self.new.node_states.items (M.gone machine.old) (M.gone machine.new) text.old.items text.new.items result }
+        ensures { (group : List ℕ) → GoesOn N.log N.failed C.meaning group (DoesLine N.log N.failed C.meaning group self.old.node_states.items (line_of_event line (event.Crash node)) self.new.node_states.items) self.old.node_states.items self.new.node_states.items
+            (M.gone machine.old) (M.gone machine.new) text.old.items text.new.items result }
     {
         match self.index_of(node) {
             Some(index) => self.node_states[index].crash(machine, line, text),
@@ -205,25 +224,8 @@ impl<N: Net, C: Application> Nodes<N, C> {
         }
     }
 
-    // Does the call that an event of a line is. One that is none is left to the net, as a delivery.
-    fn call<M: Machine<Net = N>>(
-        &mut self,
-        settings: &Settings,
-        machine: &mut M,
-        line: u64,
-        event: &WorldEvent,
-        text: &mut Vec<u8>,
-    ) -> Result<(), AllocError>
-        ensures { GoesOn N.log N.failed C.meaning settings.now.group self.old.node_states.items self.new.node_states.items (M.gone machine.old) (M.gone machine.new) text.old.items text.new.items result }
-    {
-        match call_of(event) {
-            Some((node, call)) => self.call_at(settings, machine, line, node, &call, text),
-            None => Ok(()),
-        }
-    }
-
     // Does a call at the member of a node. Refused with 1 where no member was started there.
-    fn call_at<M: Machine<Net = N>>(
+    fn call<M: Machine<Net = N>>(
         &mut self,
         settings: &Settings,
         machine: &mut M,
@@ -232,7 +234,8 @@ impl<N: Net, C: Application> Nodes<N, C> {
         call: &Call<'_>,
         text: &mut Vec<u8>,
     ) -> Result<(), AllocError>
-        ensures { GoesOn N.log N.failed C.meaning settings.now.group self.old.node_states.items self.new.node_states.items (M.gone machine.old) (M.gone machine.new) text.old.items text.new.items result }
+        ensures { (asked : WorldEvent) → Asks asked node call.now → GoesOn N.log N.failed C.meaning settings.now.group (DoesLine N.log N.failed C.meaning settings.now.group self.old.node_states.items (line_of_event line asked) self.new.node_states.items) self.old.node_states.items self.new.node_states.items
+            (M.gone machine.old) (M.gone machine.new) text.old.items text.new.items result }
     {
         match self.index_of(node) {
             Some(index) => self.node_states[index].call(

@@ -1,11 +1,12 @@
 //! One node that runs by itself.
 
-ghost use Rattle.std.specs.Prelude.{◌≡◌, []};
-ghost use Rattle.std.specs.Option.{ForSome};
+ghost use Rattle.std.specs.Prelude.{◌≡◌, [], false};
+ghost use Rattle.std.specs.Option.{ForSome, option_copied};
 ghost use Rattle.address.specs.Ids.{IsAddress};
 ghost use Rattle.udp_net.specs.Settings.{port_of};
-ghost use Rattle.commands.specs.Outcomes.{Written};
-ghost use Rattle.udp_runs.specs.Members.{GoesAlone, IsListedText, RunsMember, StartsUp, WritesStart};
+ghost use Rattle.endings.specs.Outcomes.{Written};
+ghost use Rattle.udp_runs.specs.Members.{GoesAlone, IsListedText, RunsMember, StartsUp, WritesFirst, WritesStart, way_of};
+ghost use Rattle.udp_runs.specs.Said.{MaySay};
 
 use crate::ends::{Cut, end, end_without_net, settle};
 use crate::lone::Lone;
@@ -13,8 +14,8 @@ use crate::process::member_at;
 use crate::{Lines, Machine, Manner};
 use address::Address;
 use application::Application;
-use commands::Status;
 use deployed_runners::runners_are_synchronous;
+use endings::Status;
 use script_reader::MemberPlan;
 use std::alloc::Global;
 use std::io::Write;
@@ -43,7 +44,7 @@ fn go_on<C: Application, L: Lines, M: Machine, W: Write>(
     writer: &mut W,
 ) -> Result<(), Cut>
     ensures { ForSome (M.Net.log net) (λ l. l ≡ [])
-        → GoesAlone M.Net.log C.meaning C.line_of settings.now.group (M.gone machine.old) (M.gone machine.new) manner.speaks plan.now.address
+        → GoesAlone M.Net.log M.Net.failed (MaySay (option_copied plan.now.send) (L.came lines.old) (L.came lines.new) C.payload_within C.first_said) C.meaning C.line_of settings.now.group (M.gone machine.old) (M.gone machine.new) manner.speaks (way_of manner plan.now.contact) plan.now.address
         (W.contents writer.old) (W.contents writer.new) result }
 {
     runners_are_synchronous::<M::Net, C>();
@@ -83,7 +84,7 @@ fn start<C: Application, L: Lines, M: Machine, W: Write>(
     writer: &mut W,
 ) -> Result<(), Cut>
     ensures { ForSome (M.Net.log net) (λ l. l ≡ [])
-        → StartsUp M.Net.log C.meaning C.line_of settings.now.group (M.gone machine.old) (M.gone machine.new) manner.speaks plan.now.address
+        → StartsUp M.Net.log M.Net.failed (MaySay (option_copied plan.now.send) (L.came lines.old) (L.came lines.new) C.payload_within C.first_said) C.meaning C.line_of settings.now.group (M.gone machine.old) (M.gone machine.new) manner.speaks (way_of manner plan.now.contact) plan.now.address
         (W.contents writer.old) (W.contents writer.new) result }
 {
     runners_are_synchronous::<M::Net, C>();
@@ -106,8 +107,10 @@ fn run_listed<C: Application, L: Lines, M: Machine, W: Write>(
     machine: &mut M,
     writer: &mut W,
 ) -> Status
-    ensures { Written (IsListedText M.Net.log C.meaning C.line_of settings.now.group (M.gone machine.old) (M.gone machine.new) manner.speaks plan.now.address)
+    ensures written { Written (IsListedText M.Net.log M.Net.failed (MaySay (option_copied plan.now.send) (L.came lines.old) (L.came lines.new) C.payload_within C.first_said) C.meaning C.line_of settings.now.group (M.gone machine.old) (M.gone machine.new) manner.speaks (way_of manner plan.now.contact) plan.now.address)
         (W.contents writer.old) (W.contents writer.new) result }
+    ensures first { manner.speaks ≡ false → WritesFirst M.Net.log M.Net.failed (MaySay (option_copied plan.now.send) (L.came lines.old) (L.came lines.new) C.payload_within C.first_said) C.meaning C.line_of settings.now.group (M.gone machine.old) (M.gone machine.new) (way_of manner plan.now.contact)
+        plan.now.address (W.contents writer.old) (W.contents writer.new) }
 {
     match machine.net(plan.address.node()) {
         Ok(net) => {
@@ -127,6 +130,13 @@ fn run_listed<C: Application, L: Lines, M: Machine, W: Write>(
 ///
 /// What it writes with status 0, unless it speaks, is the line of its start, a line for each thing that its channel told, in order, the line of its state, and a line for each
 /// thing that it told then: with a crash, which it cannot tell, a history of one process, for every receiver and every net. In every other case it is a beginning of such a text.
+/// Where the manner says so, lines stand between them that say how many messages of its view are stable, each as its channel knew it there.
+///
+/// It begins by the call of its plan: it makes a group, or asks the contact to be let into one; without a contact, where it finds its group, it begins with its rounds. With
+/// status 0, where it is to leave it has left behind the line of its state, and else it did nothing there, unless it gave up its address.
+///
+/// It tells first: before its net is offered what its channel put out, all that had happened until then is written. Where that cannot be written, nothing more is offered; so
+/// however it ends, unless it speaks, its text has the line of each thing that had happened when its net was offered something last.
 ///
 /// Where the lines can be read no more, one is too long, or one says no payload, it ends at once with status 5, and the machine is told why. Where the settings do not list the node it writes `fault 0 50` alone, status 3; where the node can have no socket `fault 0 51` alone, status 5. Where memory is
 /// refused, it writes the text so far and `# memory`.
@@ -139,8 +149,10 @@ pub fn run_member<C: Application, L: Lines, M: Machine, W: Write>(
     machine: &mut M,
     writer: &mut W,
 ) -> Status
-    ensures { RunsMember M.Net.log C.meaning C.line_of settings.now.group (M.gone machine.old) (M.gone machine.new) manner.speaks plan.now.address
+    ensures runs { RunsMember M.Net.log M.Net.failed (MaySay (option_copied plan.now.send) (L.came lines.old) (L.came lines.new) C.payload_within C.first_said) C.meaning C.line_of settings.now.group (M.gone machine.old) (M.gone machine.new) manner.speaks (way_of manner plan.now.contact) plan.now.address
         (port_of plan.now.address.node settings.now.nodes) (W.contents writer.old) (W.contents writer.new) result }
+    ensures first { manner.speaks ≡ false → WritesFirst M.Net.log M.Net.failed (MaySay (option_copied plan.now.send) (L.came lines.old) (L.came lines.new) C.payload_within C.first_said) C.meaning C.line_of settings.now.group (M.gone machine.old) (M.gone machine.new) (way_of manner plan.now.contact)
+        plan.now.address (W.contents writer.old) (W.contents writer.new) }
 {
     match settings.port(plan.address.node()) {
         Some(_) => {

@@ -1,19 +1,19 @@
 //! A process: a member that was started, and its runner.
 
-ghost use Rattle.std.specs.Prelude.{◌≡◌, ◌++◌, ◌∷◌, [], ℕ, List, true, false, map, take, IfOk, OnOk, OnErr};
+ghost use Rattle.std.specs.Prelude.{◌≡◌, ◌++◌, ◌∷◌, [], ℕ, List, false, map, take, is_some, IfOk, OnOk, OnErr};
 ghost use Rattle.std.specs.List.{concat};
 ghost use Rattle.std.specs.Option.{option_map_or};
+ghost use Rattle.std.specs.Result.{result_err};
 ghost use Rattle.channel.specs.Errors.{is_end};
 ghost use Rattle.channel.specs.Channels.{receiver_in};
-ghost use Rattle.channel.specs.declared.stage.Stage.TheVariants.{Ended};
-ghost use Rattle.trace_props.specs.declared.event.Event.TheVariants.{Crashed};
-ghost use Rattle.vsync_text.specs.TraceText.{line_of};
 ghost use Rattle.udp_net.specs.Logs.{Log};
+ghost use Rattle.udp_member.specs.Rounds.{Rounds};
 ghost use Rattle.deployed_runners.specs.Runs.{new_channel};
 ghost use Rattle.deployed_runners.specs.Systems.{has_ended};
-ghost use Rattle.udp_runs.specs.declared.calls.Call.TheVariants as calls;
+ghost use Rattle.udp_runs.specs.Answers.{IsOffered, TakesTurn, answer_lines, quiet, turn_lines};
+ghost use Rattle.udp_runs.specs.Carrying.{MakesCall};
 ghost use Rattle.udp_runs.specs.Machines.{GivesBack};
-ghost use Rattle.udp_runs.specs.Nodes.{TakesTurn, all_told};
+ghost use Rattle.udp_runs.specs.Nodes.{all_told};
 ghost use Rattle.udp_runs.specs.Texts.{Happens, texts_of};
 ghost use Rattle.udp_runs.specs.Scripts.{state_text, net_of};
 
@@ -92,9 +92,30 @@ fn is_end(error: &Error) -> bool
     matches!(error, Error::Refused(Refusal::Memory | Refusal::Closed))
 }
 
+// Appends the answer of a call, unless it was taken: that the event of the line is refused, or that its member has crashed, where its channel has ended by it.
+fn append_answer(
+    text: &mut Vec<u8>,
+    line: u64,
+    member: Address,
+    answer: Result<(), Error>,
+) -> Result<(), AllocError>
+    ensures text { OnOk result (text.new.items ≡ text.old.items ++ concat (texts_of (answer_lines member line (result_err answer)))) }
+    ensures err { OnErr result (text.new.items ≡ text.old.items) }
+{
+    match answer {
+        Ok(()) => Ok(()),
+        Err(error) => {
+            if is_end(&error) {
+                append_event(text, &Event::Crashed(member))
+            } else {
+                append_refusal(text, line, error.number())
+            }
+        }
+    }
+}
+
 impl<N: Net, C: Application> Process<N, C> {
-    // Does the call of a line, in the group of this name; a member that leaves has one round more, by which its last packets go out. Answers whether it runs on: not where
-    // it has left, and not where it was refused memory, by which it has crashed.
+    // Does the call of a line, in the group of this name. Answers whether it runs on: not where it has left, and not where it was refused memory, by which it has crashed.
     pub(crate) fn call(
         &mut self,
         alloc: Global,
@@ -103,36 +124,24 @@ impl<N: Net, C: Application> Process<N, C> {
         call: &Call<'_>,
         text: &mut Vec<u8>,
     ) -> Result<bool, AllocError>
-        ensures turn { has_ended self.old.runner.channel.stage ≡ false → TakesTurn N.log N.failed C.meaning group.now self.old self.new text.old.items text.new.items result }
+        ensures turn { has_ended self.old.runner.channel.stage ≡ false
+            → TakesTurn N.log N.failed C.meaning group.now (MakesCall C.meaning group.now call.now) line self.old self.new text.old.items text.new.items result }
         ensures address { self.new.address ≡ self.old.address }
-        ensures runs { IfOk result (λ runs_on. runs_on ≡ true → has_ended self.new.runner.channel.stage ≡ false) }
+        ensures runs { IfOk result (λ runs_on. runs_on ≡ is_some (receiver_in self.new.runner.channel.stage)) }
     {
         let answer = do_call(alloc, &mut self.runner, group, call)?;
-        self.tell(text)?;
-        match answer {
-            Ok(()) => self.goes_on(call, text),
-            Err(error) => {
-                if is_end(&error) {
-                    return self.end_by_crash(text);
-                }
-                append_refusal(text, line, error.number())?;
-                Ok(self.runs())
-            }
-        }
+        self.end_turn(line, answer, text)
     }
 
     // A round. Answers whether it runs on: not where it was refused memory, or given a state that it cannot read, by which it has crashed.
     pub(crate) fn round(&mut self, text: &mut Vec<u8>) -> Result<bool, AllocError>
-        ensures turn { (group : List ℕ) → has_ended self.old.runner.channel.stage ≡ false → TakesTurn N.log N.failed C.meaning group self.old self.new text.old.items text.new.items result }
+        ensures turn { (group : List ℕ) → has_ended self.old.runner.channel.stage ≡ false
+            → TakesTurn N.log N.failed C.meaning group (Rounds N.log N.failed C.meaning) 0 self.old self.new text.old.items text.new.items result }
         ensures address { self.new.address ≡ self.old.address }
-        ensures runs { IfOk result (λ runs_on. runs_on ≡ true → has_ended self.new.runner.channel.stage ≡ false) }
+        ensures runs { IfOk result (λ runs_on. runs_on ≡ is_some (receiver_in self.new.runner.channel.stage)) }
     {
         let answer = self.runner.round();
-        self.tell(text)?;
-        match answer {
-            Ok(()) => Ok(self.runs()),
-            Err(_) => self.end_by_crash(text),
-        }
+        self.end_turn(0, answer, text)
     }
 
     // Appends the line of its state.
@@ -151,49 +160,22 @@ impl<N: Net, C: Application> Process<N, C> {
         machine.close(self.address, self.runner.into_net());
     }
 
-    // After a call that was taken: whether it runs on. One that has left has a last round.
-    fn goes_on(&mut self, call: &Call<'_>, text: &mut Vec<u8>) -> Result<bool, AllocError>
-        ensures turn { (group : List ℕ) → self.old.runner.channel.happened ≡ [] → (call.now ≡ calls.Leave → self.old.runner.channel.stage ≡ Ended)
-            → TakesTurn N.log N.failed C.meaning group self.old self.new text.old.items text.new.items result }
+    // Ends a turn: appends what is told and the answer of the call, and then offers what the channel put out. Answers whether its channel has not ended.
+    fn end_turn(
+        &mut self,
+        line: u64,
+        answer: Result<(), Error>,
+        text: &mut Vec<u8>,
+    ) -> Result<bool, AllocError>
+        ensures says { OnOk result (text.new.items ≡ text.old.items ++ concat (texts_of (turn_lines self.old.address line (result_err answer) self.old.runner))) }
+        ensures err { OnErr result ((count : ℕ) × (text.new.items ≡ text.old.items ++ concat (take count (texts_of (turn_lines self.old.address line (result_err answer) self.old.runner))))) }
+        ensures offers { OnOk result (IsOffered N.log N.failed (quiet self.old.runner) self.new.runner) }
         ensures address { self.new.address ≡ self.old.address }
-        ensures runs { IfOk result (λ runs_on. runs_on ≡ true → has_ended self.new.runner.channel.stage ≡ false) }
+        ensures runs { IfOk result (λ runs_on. runs_on ≡ is_some (receiver_in self.new.runner.channel.stage)) }
     {
-        match call {
-            Call::Leave => {
-                let _ended = self.runner.round();
-                self.tell(text)?;
-                Ok(false)
-            }
-            _ => Ok(self.runs()),
-        }
-    }
-
-    // Appends what happened.
-    fn tell(&mut self, text: &mut Vec<u8>) -> Result<(), AllocError>
-        ensures text { OnOk result (text.new.items ≡ text.old.items ++ concat (texts_of (map Happens self.old.runner.channel.happened))) }
-        ensures told { OnOk result (self.new ≡ record self.old { runner = record self.old.runner { channel = all_told self.old.runner.channel } }) }
-        ensures err { OnErr result ((count : ℕ) × (text.new.items ≡ text.old.items ++ concat (take count (texts_of (map Happens self.old.runner.channel.happened))))) }
-        ensures address { self.new.address ≡ self.old.address }
-    {
-        append_events(text, self.runner.channel())
-    }
-
-    // Whether its channel has not ended.
-    fn runs(&mut self) -> bool
-        ensures runs { result ≡ true → has_ended self.new.runner.channel.stage ≡ false }
-        ensures same { self.new ≡ self.old }
-    {
-        self.runner.channel().receiver().is_some()
-    }
-
-    // Appends that it has crashed: it runs no more.
-    fn end_by_crash(&mut self, text: &mut Vec<u8>) -> Result<bool, AllocError>
-        ensures runs { IfOk result (λ runs_on. runs_on ≡ false) }
-        ensures text { OnOk result (text.new.items ≡ text.old.items ++ line_of (Crashed self.old.address)) }
-        ensures err { OnErr result (text.new.items ≡ text.old.items) }
-        ensures same { self.new ≡ self.old }
-    {
-        append_event(text, &Event::Crashed(self.address))?;
-        Ok(false)
+        append_events(text, self.runner.channel())?;
+        append_answer(text, line, self.address, answer)?;
+        self.runner.offer();
+        Ok(self.runner.channel().receiver().is_some())
     }
 }

@@ -3,9 +3,11 @@
 ghost use Rattle.std.specs.Prelude.{◌≡◌, ℕ, List, [], ◌++◌, map, take, IfOk, IfErr, OnOk, OnErr};
 ghost use Rattle.std.specs.List.{concat};
 ghost use Rattle.std.specs.Io.KnownBytes.{Appends};
-ghost use Rattle.commands.specs.Outcomes.{IsAnswer};
+ghost use Rattle.endings.specs.Outcomes.{IsAnswer};
 ghost use Rattle.deployed_runners.specs.Systems.{Gone};
 ghost use Rattle.udp_runs.specs.declared.ends.Cut.TheVariants as cut;
+ghost use Rattle.udp_net.specs.Logs.{NetEvent};
+ghost use Rattle.udp_runs.specs.Carrying.{AreListed};
 ghost use Rattle.udp_runs.specs.Nodes.{AreUnused, Plays, processes_in};
 ghost use Rattle.udp_runs.specs.Playing.{GoesOnBy, RunsLines, WritesStates};
 ghost use Rattle.udp_runs.specs.Scripts.{IsUnreadText, ReadsLines, RunsUdp, StopsAt, state_text};
@@ -15,8 +17,8 @@ use crate::Machine;
 use crate::ends::{Cut, Stop, end, end_without_net, settle};
 use crate::nodes::Nodes;
 use application::Application;
-use commands::{Status, Unreadable, end_in_fault, end_in_memory, read_all};
 use deployed_runners::runners_are_synchronous;
+use endings::{Status, Unreadable, end_in_fault, end_in_memory, read_all};
 use script_reader::{UdpLine, Unread, read_udp_script};
 use std::alloc::Global;
 use std::io::{Read, Write};
@@ -52,9 +54,9 @@ fn play_line<N: Net, C: Application, M: Machine<Net = N>, W: Write>(
     text: &mut Vec<u8>,
     writer: &mut W,
 ) -> Result<(), Stop>
-    ensures goes { (gone : List (Gone N)) (lines : List Line) → Plays N.log N.failed C.meaning settings.now.group nodes.old.node_states.items gone lines → text.old.items ≡ []
-        → GoesOnBy N.log N.failed C.meaning settings.now.group nodes.old.node_states.items nodes.new.node_states.items (M.gone machine.old) (M.gone machine.new) text.new.items
-        (W.contents writer.old) (W.contents writer.new) gone lines result }
+    ensures goes { (gone : List (Gone N)) (lines : List Line) (nets : List NetEvent) → Plays N.log N.failed C.meaning settings.now.group nodes.old.node_states.items gone lines nets
+        → text.old.items ≡ [] → GoesOnBy N.log N.failed C.meaning settings.now.group line.now nodes.old.node_states.items nodes.new.node_states.items (M.gone machine.old) (M.gone machine.new)
+        text.new.items (W.contents writer.old) (W.contents writer.new) gone lines nets result }
     ensures stops { IfErr result (StopsAt line.now) }
 {
     let done = nodes.carry_out(settings, machine, line, text);
@@ -93,20 +95,20 @@ fn play_lines<N: Net, C: Application, M: Machine<Net = N>, W: Write>(
     text: &mut Vec<u8>,
     writer: &mut W,
 ) -> Result<(), Stop>
-    ensures { AreUnused nodes.old.node_states.items → text.old.items ≡ []
-        → RunsLines N.log C.meaning C.line_of settings.now.group (M.gone machine.old) (M.gone machine.new) lines.now (W.contents writer.old) (W.contents writer.new) result }
+    ensures { AreUnused nodes.old.node_states.items → AreListed settings.now.nodes nodes.old.node_states.items → text.old.items ≡ []
+        → RunsLines N.log N.failed C.meaning C.line_of settings.now.group settings.now.nodes (M.gone machine.old) (M.gone machine.new) lines.now (W.contents writer.old) (W.contents writer.new) result }
 {
     runners_are_synchronous::<N, C>();
     for line in lines {
         if let Err(stop) = play_line(nodes, settings, machine, line, text, writer) {
+            nodes.close(machine);
             return Err(stop);
         }
     }
-    match write_states(nodes, text, writer) {
-        Ok(()) => {
-            nodes.close(machine);
-            Ok(())
-        }
+    let written = write_states(nodes, text, writer);
+    nodes.close(machine);
+    match written {
+        Ok(()) => Ok(()),
         Err(why) => Err(Stop::Cut(why)),
     }
 }
@@ -119,7 +121,7 @@ fn play<C: Application, M: Machine, W: Write>(
     lines: &[UdpLine],
     writer: &mut W,
 ) -> Result<(), Stop>
-    ensures { RunsLines M.Net.log C.meaning C.line_of settings.now.group (M.gone machine.old) (M.gone machine.new) lines.now (W.contents writer.old) (W.contents writer.new) result }
+    ensures { RunsLines M.Net.log M.Net.failed C.meaning C.line_of settings.now.group settings.now.nodes (M.gone machine.old) (M.gone machine.new) lines.now (W.contents writer.old) (W.contents writer.new) result }
 {
     runners_are_synchronous::<M::Net, C>();
     let Ok(mut nodes) = Nodes::<M::Net, C>::new(alloc, settings) else {
@@ -134,7 +136,10 @@ fn play<C: Application, M: Machine, W: Write>(
 /// (docs/FORMATS.md, "Nodes over UDP"). Answers the exit status.
 ///
 /// Where a node that starts can have no socket, it writes the text so far and `fault LINE 51`, status 5. A member that is refused memory has crashed; where memory
-/// is refused elsewhere, it writes the text so far and `# memory`.
+/// is refused elsewhere, it writes the text so far and `# memory`. The nets are given back to the machine at every status.
+///
+/// With status 0 the lines of the script were carried out, one after the other, each at the node that it names; what is written of a line is what happened by it there, and the answer of its
+/// call. What happened is a history of processes; where their nets list what happens at them, it is virtually synchronous if they gave only what was offered before, in the order of the lines.
 pub fn run_udp<C: Application, M: Machine, I: Read, W: Write>(
     alloc: Global,
     settings: &Settings,
@@ -142,7 +147,7 @@ pub fn run_udp<C: Application, M: Machine, I: Read, W: Write>(
     reader: &mut I,
     writer: &mut W,
 ) -> Status
-    ensures { RunsUdp M.Net.log C.meaning C.line_of settings.now.group (M.gone machine.old) (M.gone machine.new) (I.remaining reader.old) (W.contents writer.old) (W.contents writer.new) result }
+    ensures { RunsUdp M.Net.log M.Net.failed C.meaning C.line_of settings.now.group settings.now.nodes (M.gone machine.old) (M.gone machine.new) (I.remaining reader.old) (W.contents writer.old) (W.contents writer.new) result }
 {
     let lines = match lines_from(alloc, reader, writer) {
         Ok(lines) => lines,

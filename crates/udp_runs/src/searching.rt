@@ -1,7 +1,11 @@
 //! How a member that runs by itself finds its group (docs/PROTOCOL.md, "Finding").
 
-ghost use Rattle.std.specs.Prelude.{◌≡◌, ℕ, List};
+ghost use Rattle.std.specs.Prelude.{◌≡◌, ℕ, List, Option, true};
+ghost use Rattle.std.specs.Option.{option_copied};
+ghost use Rattle.member.specs.declared.error.Error.{Error};
+ghost use Rattle.udp_runs.specs.Carrying.{MakesCall};
 ghost use Rattle.udp_runs.specs.Telling.{Quietly};
+ghost use Rattle.udp_runs.specs.Said.{AreSame, MaySay, says_nothing};
 
 use crate::calls::{Call, do_call};
 use crate::ends::Cut;
@@ -12,10 +16,13 @@ use application::Application;
 use udp_net::{MOST_NODES, Neighbour, Net, Settings};
 
 impl<'a, N: Net, C: Application> Lone<'a, N, C> {
-    // Does a call of its channel, in the group of the settings.
+    // Does a call of its channel that says nothing, in the group of the settings.
     pub(crate) fn call(&mut self, settings: &Settings, call: &Call<'_>) -> Result<(), Cut>
-        ensures drives { Quietly N.log N.failed C.meaning settings.now.group self.old.member self.new.member }
-        ensures speaks { self.new.teller.speaks ≡ self.old.teller.speaks }
+        requires { says_nothing call.now ≡ true }
+        ensures drives { (start later : Option (List ℕ)) → Quietly N.log N.failed (MaySay (option_copied self.old.once) start later C.payload_within C.first_said) C.meaning settings.now.group self.old.member self.new.member }
+        ensures makes { (failure : Option Error) × MakesCall C.meaning settings.now.group call.now self.old.member failure self.new.member }
+        ensures voice { self.new.teller.voice ≡ self.old.teller.voice }
+        ensures texts { AreSame self.old.once self.old.outbox self.old.teller.unsaid self.new.once self.new.outbox self.new.teller.unsaid }
     {
         let group = settings.group();
         let answer = do_call(self.alloc, &mut self.member, group.as_slice(), call)?;
@@ -25,7 +32,8 @@ impl<'a, N: Net, C: Application> Lone<'a, N, C> {
     // Where it is.
     pub(crate) fn whereabouts(&mut self) -> Whereabouts
         ensures member { self.new.member ≡ self.old.member }
-        ensures speaks { self.new.teller.speaks ≡ self.old.teller.speaks }
+        ensures voice { self.new.teller.voice ≡ self.old.teller.voice }
+        ensures texts { AreSame self.old.once self.old.outbox self.old.teller.unsaid self.new.once self.new.outbox self.new.teller.unsaid }
     {
         let channel = self.member.channel();
         let view = match channel.view() {
@@ -43,8 +51,9 @@ impl<'a, N: Net, C: Application> Lone<'a, N, C> {
 
     // Says to a node where it is, if it is time to.
     fn say_to(&mut self, now: u64, own: Address, node: &Neighbour)
-        ensures drives { (group : List ℕ) → Quietly N.log N.failed C.meaning group self.old.member self.new.member }
-        ensures speaks { self.new.teller.speaks ≡ self.old.teller.speaks }
+        ensures drives { (group : List ℕ) (start later : Option (List ℕ)) → Quietly N.log N.failed (MaySay (option_copied self.old.once) start later C.payload_within C.first_said) C.meaning group self.old.member self.new.member }
+        ensures voice { self.new.teller.voice ≡ self.old.teller.voice }
+        ensures texts { AreSame self.old.once self.old.outbox self.old.teller.unsaid self.new.once self.new.outbox self.new.teller.unsaid }
     {
         if node.node != own.node() && self.finder.says(self.round, node.is_asked) {
             let word = self.finder.word(now, own, node);
@@ -54,8 +63,9 @@ impl<'a, N: Net, C: Application> Lone<'a, N, C> {
 
     // Says to each node to which it is time to where it is.
     fn say(&mut self, now: u64, own: Address)
-        ensures drives { (group : List ℕ) → Quietly N.log N.failed C.meaning group self.old.member self.new.member }
-        ensures speaks { self.new.teller.speaks ≡ self.old.teller.speaks }
+        ensures drives { (group : List ℕ) (start later : Option (List ℕ)) → Quietly N.log N.failed (MaySay (option_copied self.old.once) start later C.payload_within C.first_said) C.meaning group self.old.member self.new.member }
+        ensures voice { self.new.teller.voice ≡ self.old.teller.voice }
+        ensures texts { AreSame self.old.once self.old.outbox self.old.teller.unsaid self.new.once self.new.outbox self.new.teller.unsaid }
     {
         for place in 0..MOST_NODES {
             match self.neighbour(place) {
@@ -68,15 +78,17 @@ impl<'a, N: Net, C: Application> Lone<'a, N, C> {
     // What words told of a node, if there are so many.
     fn neighbour(&mut self, place: usize) -> Option<Neighbour>
         ensures member { self.new.member ≡ self.old.member }
-        ensures speaks { self.new.teller.speaks ≡ self.old.teller.speaks }
+        ensures voice { self.new.teller.voice ≡ self.old.teller.voice }
+        ensures texts { AreSame self.old.once self.old.outbox self.old.teller.unsaid self.new.once self.new.outbox self.new.teller.unsaid }
     {
         self.member.net().words().get(place).copied()
     }
 
     // What it is to do to find its group; it says where it is to whom it is time to.
     fn next_step(&mut self) -> Step
-        ensures drives { (group : List ℕ) → Quietly N.log N.failed C.meaning group self.old.member self.new.member }
-        ensures speaks { self.new.teller.speaks ≡ self.old.teller.speaks }
+        ensures drives { (group : List ℕ) (start later : Option (List ℕ)) → Quietly N.log N.failed (MaySay (option_copied self.old.once) start later C.payload_within C.first_said) C.meaning group self.old.member self.new.member }
+        ensures voice { self.new.teller.voice ≡ self.old.teller.voice }
+        ensures texts { AreSame self.old.once self.old.outbox self.old.teller.unsaid self.new.once self.new.outbox self.new.teller.unsaid }
     {
         let now = milliseconds(self.time);
         let at = self.whereabouts();
@@ -87,8 +99,9 @@ impl<'a, N: Net, C: Application> Lone<'a, N, C> {
 
     // Finds its group, where it is to: from its second round on, for it knows no time in the first.
     pub(crate) fn find(&mut self, settings: &Settings) -> Result<(), Cut>
-        ensures drives { Quietly N.log N.failed C.meaning settings.now.group self.old.member self.new.member }
-        ensures speaks { self.new.teller.speaks ≡ self.old.teller.speaks }
+        ensures drives { (start later : Option (List ℕ)) → Quietly N.log N.failed (MaySay (option_copied self.old.once) start later C.payload_within C.first_said) C.meaning settings.now.group self.old.member self.new.member }
+        ensures voice { self.new.teller.voice ≡ self.old.teller.voice }
+        ensures texts { AreSame self.old.once self.old.outbox self.old.teller.unsaid self.new.once self.new.outbox self.new.teller.unsaid }
     {
         if !self.manner.finds || self.has_ended || self.round == 0 {
             return Ok(());

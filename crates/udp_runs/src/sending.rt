@@ -1,16 +1,20 @@
 //! What a member sends that runs by itself, and when.
 
-ghost use Rattle.std.specs.Prelude.{◌≡◌, ℕ, List};
+ghost use Rattle.std.specs.Prelude.{◌≡◌, ◌++◌, ℕ, List, [], Option, Some, OnOk, IfOk, IfSome};
+ghost use Rattle.std.specs.Option.{option_copied};
+ghost use Rattle.view.specs.Members.{View as ViewValue};
+ghost use Rattle.channel.specs.Channels.{view_in};
 ghost use Rattle.udp_runs.specs.Telling.{Quietly};
+ghost use Rattle.udp_runs.specs.Said.{AreSame, IsId, MaySay};
+ghost use Rattle.node_lines.specs.Came.{Fills, IsEarlier, IsLineOf, IsSentOf, IsText, Keeps, Owes};
 
 use crate::calls::send;
 use crate::ends::Cut;
 use crate::lone::{Lone, unless_memory};
-use crate::outbox::OutboxError;
-use crate::unsaid::Sent;
 use crate::{Lines, LinesError, Notice, Trouble};
 use address::ViewId;
 use application::Application;
+use node_lines::{OutboxError, Sent};
 use script_reader::{Fault, Unheard};
 use trace_props::Bytes;
 use udp_net::Net;
@@ -28,11 +32,23 @@ enum Said {
     Bad(Fault),
 }
 
+// It does nothing: its clause is what the type of a view's id says of it.
+fn is_id(view: ViewId)
+    ensures { IsId view }
+{
+    let _counter = view.counter();
+    let creator = view.creator();
+    let _node = creator.node().number();
+    let _incarnation = creator.incarnation();
+}
+
 impl<'a, N: Net, C: Application> Lone<'a, N, C> {
     // Sends, as the coordinator of its view, what that sends first in the view, if it may.
     fn send_first(&mut self) -> Result<(), Cut>
-        ensures drives { (group : List ℕ) → Quietly N.log N.failed C.meaning group self.old.member self.new.member }
-        ensures speaks { self.new.teller.speaks ≡ self.old.teller.speaks }
+        ensures drives { (group : List ℕ) (start later : Option (List ℕ)) → Quietly N.log N.failed (MaySay (option_copied self.old.once) start later C.payload_within C.first_said) C.meaning group self.old.member self.new.member }
+        ensures voice { self.new.teller.voice ≡ self.old.teller.voice }
+        ensures once { self.new.once ≡ self.old.once }
+        ensures owes { OnOk result (Keeps self.old.outbox self.old.teller.unsaid self.new.outbox self.new.teller.unsaid) }
     {
         let Some(id) = self.unopened() else {
             return Ok(());
@@ -46,7 +62,8 @@ impl<'a, N: Net, C: Application> Lone<'a, N, C> {
     // The id of its view, where it is the coordinator there and has not said yet what that says first.
     fn unopened(&mut self) -> Option<ViewId>
         ensures member { self.new.member ≡ self.old.member }
-        ensures speaks { self.new.teller.speaks ≡ self.old.teller.speaks }
+        ensures voice { self.new.teller.voice ≡ self.old.teller.voice }
+        ensures texts { AreSame self.old.once self.old.outbox self.old.teller.unsaid self.new.once self.new.outbox self.new.teller.unsaid }
     {
         let channel = self.member.channel();
         let view = channel.view()?;
@@ -62,12 +79,15 @@ impl<'a, N: Net, C: Application> Lone<'a, N, C> {
 
     // Sends what the coordinator of its view sends first there, if it sends anything; answers whether nothing of it is left.
     fn opens(&mut self) -> Result<bool, Cut>
-        ensures drives { (group : List ℕ) → Quietly N.log N.failed C.meaning group self.old.member self.new.member }
-        ensures speaks { self.new.teller.speaks ≡ self.old.teller.speaks }
+        ensures drives { (group : List ℕ) (start later : Option (List ℕ)) → Quietly N.log N.failed (MaySay (option_copied self.old.once) start later C.payload_within C.first_said) C.meaning group self.old.member self.new.member }
+        ensures voice { self.new.teller.voice ≡ self.old.teller.voice }
+        ensures once { self.new.once ≡ self.old.once }
+        ensures owes { OnOk result (Keeps self.old.outbox self.old.teller.unsaid self.new.outbox self.new.teller.unsaid) }
     {
         let Some(view) = self.member.channel().view() else {
             return Ok(false);
         };
+        is_id(view.id());
         match C::first_message(self.alloc, view)? {
             Some(payload) => self.sends(&payload, Sent::First),
             None => Ok(true),
@@ -77,7 +97,9 @@ impl<'a, N: Net, C: Application> Lone<'a, N, C> {
     // What it has to send once yet, if anything: what was not sent, or came back.
     fn next_once(&mut self) -> Option<&'a [u8]>
         ensures member { self.new.member ≡ self.old.member }
-        ensures speaks { self.new.teller.speaks ≡ self.old.teller.speaks }
+        ensures voice { self.new.teller.voice ≡ self.old.teller.voice }
+        ensures texts { AreSame self.old.once self.old.outbox self.old.teller.unsaid self.new.once self.new.outbox self.new.teller.unsaid }
+        ensures text { IfSome result (λ text. option_copied self.old.once ≡ Some text.now) }
     {
         if self.teller.unsaid.take_once() {
             self.is_unsent = true;
@@ -87,8 +109,10 @@ impl<'a, N: Net, C: Application> Lone<'a, N, C> {
 
     // Sends what it has to send once, if it may.
     fn send_once(&mut self) -> Result<(), Cut>
-        ensures drives { (group : List ℕ) → Quietly N.log N.failed C.meaning group self.old.member self.new.member }
-        ensures speaks { self.new.teller.speaks ≡ self.old.teller.speaks }
+        ensures drives { (group : List ℕ) (start later : Option (List ℕ)) → Quietly N.log N.failed (MaySay (option_copied self.old.once) start later C.payload_within C.first_said) C.meaning group self.old.member self.new.member }
+        ensures voice { self.new.teller.voice ≡ self.old.teller.voice }
+        ensures once { self.new.once ≡ self.old.once }
+        ensures owes { OnOk result (Keeps self.old.outbox self.old.teller.unsaid self.new.outbox self.new.teller.unsaid) }
     {
         let Some(text) = self.next_once() else {
             return Ok(());
@@ -108,13 +132,17 @@ impl<'a, N: Net, C: Application> Lone<'a, N, C> {
 
     // Sends what a text says in its view, and answers what became of it.
     fn says(&mut self, text: &[u8], sent: Sent) -> Result<Said, Cut>
-        ensures drives { (group : List ℕ) → Quietly N.log N.failed C.meaning group self.old.member self.new.member }
-        ensures speaks { self.new.teller.speaks ≡ self.old.teller.speaks }
+        ensures drives { (group : List ℕ) (start came later : Option (List ℕ)) → IsText (option_copied self.old.once) start came text.now → IsEarlier came later → Quietly N.log N.failed (MaySay (option_copied self.old.once) start later C.payload_within C.first_said) C.meaning group self.old.member self.new.member }
+        ensures voice { self.new.teller.voice ≡ self.old.teller.voice }
+        ensures once { self.new.once ≡ self.old.once }
+        ensures owes { (start came : Option (List ℕ)) → IsSentOf start came sent → Owes start came self.old.outbox self.old.teller.unsaid → OnOk result (Owes start came self.new.outbox self.new.teller.unsaid) }
     {
         let Some(view) = self.member.channel().view() else {
             return Ok(Said::Waits);
         };
-        match C::payload_in_view(self.alloc, view.id(), text) {
+        let id = view.id();
+        is_id(id);
+        match C::payload_in_view(self.alloc, id, text) {
             Ok(payload) => {
                 if self.sends(&payload, sent)? {
                     Ok(Said::Taken)
@@ -127,10 +155,13 @@ impl<'a, N: Net, C: Application> Lone<'a, N, C> {
         }
     }
 
-    // Sends a payload, and answers whether it was taken.
+    // Sends a payload that may be said in its view, and answers whether it was taken.
     fn sends(&mut self, payload: &Bytes, sent: Sent) -> Result<bool, Cut>
-        ensures drives { (group : List ℕ) → Quietly N.log N.failed C.meaning group self.old.member self.new.member }
-        ensures speaks { self.new.teller.speaks ≡ self.old.teller.speaks }
+        ensures drives { (group : List ℕ) (start later : Option (List ℕ)) → ((view : ViewValue) → view_in self.old.member.channel.stage ≡ Some view
+            → MaySay (option_copied self.old.once) start later C.payload_within C.first_said view.id payload.now) → Quietly N.log N.failed (MaySay (option_copied self.old.once) start later C.payload_within C.first_said) C.meaning group self.old.member self.new.member }
+        ensures voice { self.new.teller.voice ≡ self.old.teller.voice }
+        ensures once { self.new.once ≡ self.old.once }
+        ensures owes { (start came : Option (List ℕ)) → IsSentOf start came sent → Owes start came self.old.outbox self.old.teller.unsaid → OnOk result (Owes start came self.new.outbox self.new.teller.unsaid) }
     {
         let answer = send(self.alloc, &mut self.member, payload)?;
         let is_taken = answer.is_ok();
@@ -139,12 +170,14 @@ impl<'a, N: Net, C: Application> Lone<'a, N, C> {
         Ok(is_taken)
     }
 
-    // Notes what was sent, if it was and this node finds its group.
+    // Notes what was sent, if it was and is said again where it comes back.
     fn note_sent(&mut self, is_taken: bool, sent: Sent) -> Result<(), Cut>
         ensures member { self.new.member ≡ self.old.member }
-        ensures speaks { self.new.teller.speaks ≡ self.old.teller.speaks }
+        ensures voice { self.new.teller.voice ≡ self.old.teller.voice }
+        ensures once { self.new.once ≡ self.old.once }
+        ensures owes { (start came : Option (List ℕ)) → IsSentOf start came sent → Owes start came self.old.outbox self.old.teller.unsaid → OnOk result (Owes start came self.new.outbox self.new.teller.unsaid) }
     {
-        if is_taken && self.manner.finds {
+        if is_taken && (self.manner.finds || C::says_again()) {
             self.teller.unsaid.send(sent)?;
         }
         Ok(())
@@ -152,8 +185,11 @@ impl<'a, N: Net, C: Application> Lone<'a, N, C> {
 
     // Takes the lines that came back, to send them before all that wait.
     fn take_back(&mut self) -> Result<(), Cut>
+        ensures outbox { OnOk result (self.new.outbox ≡ record (self.old.outbox) { waiting = self.old.teller.unsaid.back ++ self.old.outbox.waiting }) }
+        ensures unsaid { OnOk result (self.new.teller.unsaid ≡ record (self.old.teller.unsaid) { back = [] }) }
         ensures member { self.new.member ≡ self.old.member }
-        ensures speaks { self.new.teller.speaks ≡ self.old.teller.speaks }
+        ensures voice { self.new.teller.voice ≡ self.old.teller.voice }
+        ensures once { self.new.once ≡ self.old.once }
     {
         let lines = self.teller.unsaid.take_lines();
         self.outbox.begin_with(lines.as_slice())?;
@@ -163,11 +199,15 @@ impl<'a, N: Net, C: Application> Lone<'a, N, C> {
     // The line that it is to send next; none while a line is to be told of that cannot be sent.
     fn next_line(&mut self) -> Result<Option<Vec<u8>>, Cut>
         ensures member { self.new.member ≡ self.old.member }
-        ensures speaks { self.new.teller.speaks ≡ self.old.teller.speaks }
+        ensures voice { self.new.teller.voice ≡ self.old.teller.voice }
+        ensures once { self.new.once ≡ self.old.once }
+        ensures owes { OnOk result (Keeps self.old.outbox self.old.teller.unsaid self.new.outbox self.new.teller.unsaid) }
+        ensures line { (start came : Option (List ℕ)) → Owes start came self.old.outbox self.old.teller.unsaid → IfOk result (λ line. IfSome line (λ text. IsLineOf start came text.items)) }
     {
         if self.watch.has_notice() {
             return Ok(None);
         }
+        self.outbox.see_end();
         match self.outbox.next() {
             Ok(Some(line)) => Ok(Some(Vec::from_slice(self.alloc, line)?)),
             Ok(None) => Ok(None),
@@ -181,8 +221,10 @@ impl<'a, N: Net, C: Application> Lone<'a, N, C> {
 
     // Sends the next line, and answers whether it did.
     fn send_line(&mut self) -> Result<bool, Cut>
-        ensures drives { (group : List ℕ) → Quietly N.log N.failed C.meaning group self.old.member self.new.member }
-        ensures speaks { self.new.teller.speaks ≡ self.old.teller.speaks }
+        ensures drives { (group : List ℕ) (start came later : Option (List ℕ)) → Owes start came self.old.outbox self.old.teller.unsaid → IsEarlier came later → Quietly N.log N.failed (MaySay (option_copied self.old.once) start later C.payload_within C.first_said) C.meaning group self.old.member self.new.member }
+        ensures voice { self.new.teller.voice ≡ self.old.teller.voice }
+        ensures once { self.new.once ≡ self.old.once }
+        ensures owes { OnOk result (Keeps self.old.outbox self.old.teller.unsaid self.new.outbox self.new.teller.unsaid) }
     {
         let Some(line) = self.next_line()? else {
             return Ok(false);
@@ -204,8 +246,10 @@ impl<'a, N: Net, C: Application> Lone<'a, N, C> {
 
     // Sends the lines that wait, as many as it may, where it holds none back; answers whether it sent any.
     pub(crate) fn send_lines(&mut self) -> Result<bool, Cut>
-        ensures drives { (group : List ℕ) → Quietly N.log N.failed C.meaning group self.old.member self.new.member }
-        ensures speaks { self.new.teller.speaks ≡ self.old.teller.speaks }
+        ensures drives { (group : List ℕ) (start came later : Option (List ℕ)) → Owes start came self.old.outbox self.old.teller.unsaid → IsEarlier came later → Quietly N.log N.failed (MaySay (option_copied self.old.once) start later C.payload_within C.first_said) C.meaning group self.old.member self.new.member }
+        ensures voice { self.new.teller.voice ≡ self.old.teller.voice }
+        ensures once { self.new.once ≡ self.old.once }
+        ensures owes { OnOk result (Keeps self.old.outbox self.old.teller.unsaid self.new.outbox self.new.teller.unsaid) }
     {
         self.take_back()?;
         if self.holds() {
@@ -222,8 +266,10 @@ impl<'a, N: Net, C: Application> Lone<'a, N, C> {
 
     // Sends what it has to send, as much as it may, where it holds nothing back.
     pub(crate) fn send_all(&mut self) -> Result<(), Cut>
-        ensures drives { (group : List ℕ) → Quietly N.log N.failed C.meaning group self.old.member self.new.member }
-        ensures speaks { self.new.teller.speaks ≡ self.old.teller.speaks }
+        ensures drives { (group : List ℕ) (start came later : Option (List ℕ)) → Owes start came self.old.outbox self.old.teller.unsaid → IsEarlier came later → Quietly N.log N.failed (MaySay (option_copied self.old.once) start later C.payload_within C.first_said) C.meaning group self.old.member self.new.member }
+        ensures voice { self.new.teller.voice ≡ self.old.teller.voice }
+        ensures once { self.new.once ≡ self.old.once }
+        ensures owes { OnOk result (Keeps self.old.outbox self.old.teller.unsaid self.new.outbox self.new.teller.unsaid) }
     {
         if self.holds() {
             return Ok(());
@@ -237,7 +283,10 @@ impl<'a, N: Net, C: Application> Lone<'a, N, C> {
     // Takes the lines that came.
     pub(crate) fn take_lines<L: Lines>(&mut self, lines: &mut L) -> Result<(), Cut>
         ensures member { self.new.member ≡ self.old.member }
-        ensures speaks { self.new.teller.speaks ≡ self.old.teller.speaks }
+        ensures voice { self.new.teller.voice ≡ self.old.teller.voice }
+        ensures once { self.new.once ≡ self.old.once }
+        ensures unsaid { self.new.teller.unsaid ≡ self.old.teller.unsaid }
+        ensures fills { Fills (L.came lines.old) (L.came lines.new) self.old.outbox self.new.outbox result }
     {
         match self.outbox.fill(lines) {
             Ok(()) => Ok(()),
@@ -252,7 +301,8 @@ impl<'a, N: Net, C: Application> Lone<'a, N, C> {
     // Whether its view has too few members to send in it.
     pub(crate) fn is_few(&mut self) -> bool
         ensures member { self.new.member ≡ self.old.member }
-        ensures speaks { self.new.teller.speaks ≡ self.old.teller.speaks }
+        ensures voice { self.new.teller.voice ≡ self.old.teller.voice }
+        ensures texts { AreSame self.old.once self.old.outbox self.old.teller.unsaid self.new.once self.new.outbox self.new.teller.unsaid }
     {
         match self.whereabouts().view {
             Some(standing) => standing.members < self.manner.quorum as usize,
@@ -263,7 +313,8 @@ impl<'a, N: Net, C: Application> Lone<'a, N, C> {
     // Whether it sends nothing for now.
     pub(crate) fn holds(&mut self) -> bool
         ensures member { self.new.member ≡ self.old.member }
-        ensures speaks { self.new.teller.speaks ≡ self.old.teller.speaks }
+        ensures voice { self.new.teller.voice ≡ self.old.teller.voice }
+        ensures texts { AreSame self.old.once self.old.outbox self.old.teller.unsaid self.new.once self.new.outbox self.new.teller.unsaid }
     {
         (self.manner.finds && self.finder.holds()) || self.is_few()
     }

@@ -91,6 +91,7 @@ impl Lan {
             return Ok(Ok(()));
         };
         let answer = member.round();
+        member.offer();
         for _ in 0..100u16 {
             if !self.carry_one(number)? {
                 break;
@@ -115,6 +116,7 @@ impl Lan {
             for number in 1..=last {
                 if let Some(member) = self.at(number) {
                     let _ = member.round();
+                    member.offer();
                 }
                 let sends = self.sends(number);
                 if let Some(carried) = self.carried.get_mut(usize::from(number).saturating_sub(1)) {
@@ -129,6 +131,7 @@ impl Lan {
     pub fn seek(&mut self, number: u16) {
         if let Some(member) = self.at(number) {
             let _ = member.seek();
+            member.offer();
         }
     }
 

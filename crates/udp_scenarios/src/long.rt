@@ -2,10 +2,9 @@
 
 use crate::lines::{put_number, put_truth};
 use crate::sockets::{free_settings, run_with};
+use crate::stories::{holds, trace_of};
 use chat_log::LongChat;
-use commands::run_check;
 use std::alloc::{AllocError, Global};
-use test_net::trace_of;
 
 /// How often eight lines of 512 bytes are said: a state of three chunks.
 const TIMES: u16 = 16;
@@ -28,14 +27,6 @@ fn script(alloc: Global) -> Result<Vec<u8>, AllocError> {
     Ok(script)
 }
 
-/// Whether a text's trace is virtually synchronous.
-fn holds(alloc: Global, text: &[u8]) -> bool {
-    let mut reader = trace_of(text);
-    let mut verdict = Vec::new(alloc);
-    let _ = run_check::<LongChat, _, _>(alloc, &mut reader, &mut verdict);
-    verdict.as_slice() == b"holds\n".as_slice()
-}
-
 /// The chat of a chat line: what stands behind the member.
 fn chat_of(line: &[u8]) -> &[u8] {
     line.splitn(3, |byte| *byte == b' ').last().unwrap_or(&[])
@@ -47,7 +38,11 @@ pub fn joins(rt: &HostRuntime, told: &mut Vec<u8>) -> Result<(), AllocError> {
     let script = script(rt.alloc())?;
     let (text, status) = run_with::<LongChat>(rt, &settings, script.as_slice());
     put_number(told, "status", u64::from(status.code()))?;
-    put_truth(told, "the trace holds", holds(rt.alloc(), text.as_slice()))?;
+    put_truth(
+        told,
+        "the trace holds",
+        holds::<LongChat>(rt.alloc(), text.as_slice()),
+    )?;
     let before = trace_of(text.as_slice()).len();
     let chats = text.get(before..).unwrap_or(&[]);
     let mut count = 0u64;

@@ -7,16 +7,24 @@ mod bursts;
 mod calls;
 mod channels;
 mod documents;
+mod failing;
+mod failing_four;
+mod failing_nodes;
+mod failing_runners;
 mod files;
+mod hub;
 mod lan;
 mod lines;
+mod listing;
 mod long;
 mod members;
 mod pair;
 mod scripts;
 mod seeking;
+mod shelf;
 mod silent;
 mod sockets;
+mod stories;
 mod words;
 
 use files::bytes_of;
@@ -116,6 +124,8 @@ fn print_commands(rt: &HostRuntime, text: &mut Vec<u8>) -> io::Result<()> {
     let file = bytes_of(rt, "scripts.txt")?;
     let told = scripts::all(rt.alloc(), text, file.as_slice());
     print(rt, "scripts of nodes over datagrams", told, text)?;
+    let told = listing::all(rt.alloc(), text);
+    print(rt, "nets that list what happens at them", told, text)?;
     let told = scripts::members(rt.alloc(), text);
     print(rt, "a node by itself", told, text)?;
     let told = scripts::lines(rt.alloc(), text);
@@ -163,6 +173,19 @@ fn print_nets(rt: &HostRuntime, text: &mut Vec<u8>) -> io::Result<()> {
     )
 }
 
+/// Prints the stories of nets that fail.
+fn print_failing(rt: &HostRuntime, text: &mut Vec<u8>) -> io::Result<()> {
+    let told = failing::runners(rt.alloc(), text);
+    print(rt, "four runners, a call of whose nets fails", told, text)?;
+    let told = failing::nodes(rt.alloc(), text);
+    print(
+        rt,
+        "a script of four nodes, a call of whose nets fails",
+        told,
+        text,
+    )
+}
+
 /// Prints all stories.
 fn print_all(rt: &HostRuntime) -> io::Result<()> {
     let mut text = Vec::new(rt.alloc());
@@ -173,7 +196,8 @@ fn print_all(rt: &HostRuntime) -> io::Result<()> {
     print_silence(rt, &mut text)?;
     print_commands(rt, &mut text)?;
     print_words(rt, &mut text)?;
-    print_nets(rt, &mut text)
+    print_nets(rt, &mut text)?;
+    print_failing(rt, &mut text)
 }
 
 fn main(rt: HostRuntime) -> ExitCode {

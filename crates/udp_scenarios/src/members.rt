@@ -171,6 +171,7 @@ fn left_of(alloc: Global, count: u16) -> Result<usize, AllocError> {
 /// A round of a member, and how often it asked for a datagram.
 fn put_round(text: &mut Vec<u8>, member: &mut Member) -> Result<(), AllocError> {
     let answer = number(member.round());
+    member.offer();
     put_refusal(text, "a round before a connect", answer)?;
     put_number(text, "receives", member.net().receives())
 }
@@ -189,6 +190,7 @@ fn after_the_end(alloc: Global, text: &mut Vec<u8>) -> Result<(), AllocError> {
     let before = member.net().sends();
     let _ = member.channel().disconnect();
     let answer = number(member.round());
+    member.offer();
     put_refusal(text, "a round after the end", answer)?;
     put_number(
         text,

@@ -1,16 +1,18 @@
 //! What the commands for members over datagrams write, over wires in memory.
 
+ghost use Rattle.std.specs.Prelude.{None};
+
 use crate::channels::first_at;
 use crate::files::{first_block, first_line};
+use crate::hub::Hub;
 use crate::lines::put_number;
 use address::Node;
 use chat_log::ChatLog;
-use commands::Status;
+use endings::Status;
 use memory_net::{FOUR, Wires, settings_of};
 use std::alloc::{AllocError, Global};
 use std::cell::RefCell;
 use std::time::Duration;
-use test_net::Hub;
 use udp_runs::{Lines, LinesError, Manner, MemberPlan, NoLines, Tally, run_member, run_udp};
 
 /// The most scripts of a file.
@@ -62,6 +64,7 @@ fn plain() -> Manner {
         speaks: false,
         finds: false,
         quorum: 1,
+        stable: false,
     }
 }
 
@@ -122,6 +125,8 @@ struct Typed<'a> {
 }
 
 impl Lines for Typed<'_> {
+    ghost came = { λ _. None };
+
     fn more(&mut self, text: &mut Vec<u8>) -> Result<(), LinesError> {
         text.extend_from_slice(self.rest)?;
         self.rest = &[];
@@ -184,6 +189,7 @@ pub fn finding(alloc: Global, told: &mut Vec<u8>) -> Result<(), AllocError> {
     told.extend_from_slice(b"# two members are to be there\n")?;
     let careful = Manner {
         quorum: 2,
+        stable: false,
         ..plain()
     };
     put_lines(alloc, told, b"one\n", 10, careful)?;

@@ -2,14 +2,14 @@
 
 use crate::channels::first_at;
 use crate::lines::{put_number, put_refusal, put_truth};
+use crate::stories::{MERGE, holds, trace_of};
 use address::Node;
 use application::Application;
 use chat_log::ChatLog;
-use commands::Status;
+use endings::Status;
 use memory_net::settings_of;
 use std::alloc::{AllocError, Global};
 use std::time::Duration;
-use test_net::{MERGE, holds, trace_of};
 use udp_net::{BindError, Hosts, Net, Settings, SocketNet};
 use udp_runs::{Loopback, run_udp};
 
@@ -74,7 +74,7 @@ fn put_judged(
     status: Status,
 ) -> Result<(), AllocError> {
     put_number(told, "status", u64::from(status.code()))?;
-    put_truth(told, "the trace holds", holds(alloc, text))?;
+    put_truth(told, "the trace holds", holds::<ChatLog>(alloc, text))?;
     let before = trace_of(text).len();
     if let Some(chats) = text.get(before..) {
         told.extend_from_slice(chats)?;

@@ -5,7 +5,7 @@ use Rattle.std.specs.Str.Parse.{ParsesUnsigned}
 use Rattle.clap.specs.declared.parser.matches.Found.{Found}
 use Rattle.clap.specs.Words.{ReadsOne, Text, one_of, one_text, rows_of}
 use Rattle.clap.proofs.WalkLemmas.{one_text-rows}
-use Rattle.vsync_words.specs.Grammar.{IsNumberIn}
+use Rattle.vsync_words.specs.Words.{IsNumberIn}
 
 -- what holds of a value that is made holds where it is
 pub if_made : {X : Type 0} (r : Option X) (P : Type 0) (v : X) (Q : X → Type 0) → SomeIff r P v → (P → Q v) → IfSome r Q

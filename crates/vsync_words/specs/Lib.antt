@@ -1,3 +1,4 @@
 pub mod Grammar
 pub mod Plans
 pub mod Words
+pub mod Kept

@@ -1,10 +1,11 @@
 -- What a node does by the words of `member`, and what is wrong with them.
-use Rattle.std.specs.Prelude.{◌≡◌, ℕ, List, Option, None, Some, Result, Ok, Err, length, nat_lt, option_map, is_ok, true, false, Bool, ◌&&◌, if◌then◌else◌}
+use Rattle.std.specs.Prelude.{◌≡◌, ℕ, List, Option, None, Some, Result, Ok, Err, length, nat_lt, option_map, is_ok, true, false, Bool, if◌then◌else◌}
 use Rattle.std.specs.Borrow.{Bor}
 use Rattle.address.specs.Ids.{Address}
 use Rattle.limits.specs.declared.TheConstants.{PAYLOAD}
 use Rattle.script_reader.specs.AddressText.{address_of_text}
 use Rattle.script_reader.specs.declared.member_plan.MemberPlan.{MemberPlan}
+use Rattle.vsync_words.specs.Kept.{flags_keep_two}
 use Rattle.vsync_words.specs.declared.udp_words.MemberWords.{MemberWords}
 use Rattle.vsync_words.specs.declared.udp_words.MemberMistake.{MemberMistake}
 use Rattle.vsync_words.specs.declared.udp_words.MemberMistake.TheVariants.{NoAddress, LongText, MapAndLocks}
@@ -30,7 +31,7 @@ payload_of (Some text) = if nat_lt PAYLOAD (length text) then Err LongText else 
 
 -- the member would keep a map and locks
 abbrev pub keeps_two : MemberWords → Bool
-keeps_two words = words.options.map && words.options.locks
+keeps_two words = flags_keep_two words.options.flags
 
 -- the node does what the words say: it has their address and rounds, ADDR's address as its contact, TEXT as what it sends, and keeps one kind of state
 pub record IsPlan (words : MemberWords) (plan : MemberPlan) : Type 0 where

@@ -2,23 +2,23 @@
 
 ghost use Rattle.std.specs.Prelude.{◌≡◌, ◌∷◌, [], codes, is_some, IfOk, IfSome};
 ghost use Rattle.clap.specs.Words.{found_of, kind_of, rows_of, HasKind};
-ghost use Rattle.vsync_words.specs.Grammar.{check_app, flag_rule, has_stray_trace, several_rule, stands, AddsCommand, AreProcessesWords, IsArg, IsCommand, IsSaid};
+ghost use Rattle.vsync_words.specs.Grammar.{check_app, several_rule, IsArg, IsCommand};
+ghost use Rattle.vsync_words.specs.Words.{has_stray_trace, AreProcessesWords};
 
-use crate::Invocation;
-use crate::member_options::{flag, values_of};
+use crate::kept_words::{KeptFlags, flag, kept_flags, stands, with_kept};
+use crate::member_options::values_of;
 use crate::udp_words::required;
-use crate::words::{TextCommand, long_flag, text_words};
 use clap::error::ErrorKind;
 use clap::{Arg, ArgAction, ArgMatches, Error};
 use std::alloc::{AllocError, Global};
 
-/// The words of `check --processes FILE..`: the paths of the texts, and perhaps `--long` (docs/FORMATS.md, "Texts of several processes").
+/// The words of `check --processes FILE..`: the paths of the texts, and perhaps flags that say what the members keep (docs/FORMATS.md, "Texts of several processes").
 #[derive(Debug, Drop)]
 pub struct ProcessesWords<'a> {
     /// The path of each process's text, in their order; `-` is the standard input.
     pub paths: Vec<&'a str>,
-    /// Whether `--long` stands there: the members keep the long chat.
-    pub long: bool,
+    /// What the members keep.
+    pub flags: KeptFlags,
 }
 
 // The argument of `check`.
@@ -33,16 +33,16 @@ fn traces<'a>(alloc: Global) -> Arg<'a>
     .action(ArgAction::Append)
 }
 
-// The subcommand `check` as clap reads it.
-fn check_command<'a>(alloc: Global) -> Result<clap::Command<'a>, AllocError>
+/// The subcommand `check` as clap reads it.
+pub(crate) fn check_command<'a>(alloc: Global) -> Result<clap::Command<'a>, AllocError>
     ensures { IfOk result (IsCommand check_app) }
 {
-    clap::Command::new(alloc, "check")
+    let command = clap::Command::new(alloc, "check")
         .about("Checks whether a trace is virtually synchronous")
         .after_help(
-            "The trace has a line for each event, as `vsync world` prints it; empty lines and lines that begin with # are skipped.\nIt prints `holds`, or `broken RULE PLACE`: the rule that breaks first, and the length of the shortest beginning that breaks one.\n\nExamples:\n  vsync check examples/hello.trace\n  vsync check --processes one.text two.text",
-        )
-        .arg(long_flag(alloc))?
+            "The trace has a line for each event, as `vsync world` prints it; empty lines and lines that begin with # are skipped.\nIt prints `holds`, or `broken RULE PLACE`: the rule that breaks first, and the length of the shortest beginning that breaks one.\n\nExamples:\n  vsync check examples/hello.trace\n  vsync check --processes one.text two.text\n  vsync check --map --processes one.text two.text",
+        );
+    with_kept(alloc, command)?
         .arg(flag(
             alloc,
             "processes",
@@ -51,50 +51,18 @@ fn check_command<'a>(alloc: Global) -> Result<clap::Command<'a>, AllocError>
         .arg(traces(alloc))
 }
 
-/// The program with `check [--long] [--processes] TRACE..` as well.
-pub(crate) fn with_check<'a>(
+/// The words of `check --processes` in its matches.
+pub(crate) fn processes_words<'a>(
     alloc: Global,
-    program: clap::Command<'a>,
-) -> Result<clap::Command<'a>, AllocError>
-    ensures { IfOk result (AddsCommand program.entry check_app) }
-{
-    let command = check_command(alloc)?;
-    program.subcommand(command)
-}
-
-// Whether a flag stands among the words.
-fn stands(matches: &ArgMatches<'_>, name: &str) -> bool
-    ensures { result ≡ stands name.now (rows_of (found_of matches.now)) }
-{
-    match matches.get_str(name) {
-        Some(value) => value == "true",
-        None => false,
-    }
-}
-
-// The words of `check --processes` in its matches.
-fn processes_words<'a>(alloc: Global, matches: &ArgMatches<'a>) -> Option<ProcessesWords<'a>>
+    matches: &ArgMatches<'a>,
+) -> Option<ProcessesWords<'a>>
     ensures { IfSome result (AreProcessesWords (rows_of (found_of matches.now))) }
 {
     let Ok(paths) = values_of(alloc, matches, "TRACE") else {
         return None;
     };
-    let long = matches.get_flag("long");
-    Some(ProcessesWords { paths, long })
-}
-
-/// What the words of `check` name.
-pub(crate) fn check_words<'a>(alloc: Global, matches: &ArgMatches<'a>) -> Option<Invocation<'a>>
-    ensures { IfSome result (IsSaid (codes "check", rows_of (found_of matches.now))) }
-{
-    if stands(matches, "processes") {
-        return match processes_words(alloc, matches) {
-            Some(words) => Some(Invocation::Processes(words)),
-            None => None,
-        };
-    }
-    let words = text_words(matches, "TRACE")?;
-    Some(Invocation::Text(TextCommand::Check(words)))
+    let flags = kept_flags("check", matches);
+    Some(ProcessesWords { paths, flags })
 }
 
 /// The trace behind the first of `check`, where `--processes` does not stand there: nothing reads it.

@@ -1,13 +1,13 @@
 //! The words of `explain`.
 
 ghost use Rattle.std.specs.Prelude.{IfOk};
-ghost use Rattle.vsync_words.specs.Grammar.{explain_app, AddsCommand, IsCommand};
+ghost use Rattle.vsync_words.specs.Grammar.{explain_app, IsCommand};
 
 use crate::udp_words::required;
 use std::alloc::{AllocError, Global};
 
-// The subcommand `explain` as clap reads it.
-fn explain_command<'a>(alloc: Global) -> Result<clap::Command<'a>, AllocError>
+/// The subcommand `explain` as clap reads it.
+pub(crate) fn explain_command<'a>(alloc: Global) -> Result<clap::Command<'a>, AllocError>
     ensures { IfOk result (IsCommand explain_app) }
 {
     clap::Command::new(alloc, "explain")
@@ -20,15 +20,4 @@ fn explain_command<'a>(alloc: Global) -> Result<clap::Command<'a>, AllocError>
             "CODE",
             "A number as in `fault 3 41` or `# refused 3 1`, a rule as D9 in `broken D9 8`, or unordered",
         ))
-}
-
-/// The program with `explain CODE` as well.
-pub(crate) fn with_explain<'a>(
-    alloc: Global,
-    program: clap::Command<'a>,
-) -> Result<clap::Command<'a>, AllocError>
-    ensures { IfOk result (AddsCommand program.entry explain_app) }
-{
-    let command = explain_command(alloc)?;
-    program.subcommand(command)
 }

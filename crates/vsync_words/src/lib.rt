@@ -3,12 +3,16 @@
 
 mod check_words;
 mod explain_words;
+mod kept_words;
 mod member_options;
+mod text_words;
 mod udp_words;
 mod words;
 
 pub use check_words::ProcessesWords;
+pub use kept_words::{Kept, KeptFlags};
 pub use member_options::{MOST_MERGE, MOST_TICK, MemberOptions};
 pub use script_reader::MemberPlan;
+pub use text_words::{Task, TextCommand};
 pub use udp_words::{MemberMistake, MemberWords, UdpWords};
-pub use words::{DrawWords, Invocation, Kept, TextCommand, TextWords, command};
+pub use words::{Invocation, command};

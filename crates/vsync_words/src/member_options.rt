@@ -2,10 +2,10 @@
 
 ghost use Rattle.std.specs.Prelude.{◌≡◌, ◌≤◌, [], codes, map, unwrap_or, IfOk, IfSome};
 ghost use Rattle.clap.specs.Words.{App, all_of, found_of, rows_of};
-ghost use Rattle.vsync_words.specs.Words.{kept_by};
-ghost use Rattle.vsync_words.specs.Grammar.{flag_rule, numeric_rule, repeated_rule, times_app, files_app, hosts_app, flags_app, options_app, AreMemberOptions, IsArg, IsCommand, IsOptionalIn};
+ghost use Rattle.vsync_words.specs.Grammar.{numeric_rule, repeated_rule, times_app, files_app, hosts_app, flags_app, group_flags_app, options_app, IsArg, IsCommand};
+ghost use Rattle.vsync_words.specs.Words.{AreMemberOptions, IsOptionalIn};
 
-use crate::Kept;
+use crate::kept_words::{KeptFlags, flag, kept_flags, stands};
 use crate::udp_words::option;
 use clap::builder::ValueParser;
 use clap::{Arg, ArgAction, ArgMatches};
@@ -36,6 +36,8 @@ pub struct MemberOptions<'a> {
     pub bind: Option<&'a str>,
     /// `--peer NODE=HOST`, for each time that it stands there.
     pub peers: Vec<&'a str>,
+    /// `--http HOST:PORT` or `--http PORT`: where it answers requests of HTTP.
+    pub http: Option<&'a str>,
     /// `--forever`: it has rounds without end, not ROUNDS of them.
     pub forever: bool,
     /// `--leave`: it leaves its group at its end.
@@ -44,37 +46,20 @@ pub struct MemberOptions<'a> {
     pub text: bool,
     /// `--stats`: it prints at its end what happened, in numbers.
     pub stats: bool,
-    /// `--long`: it keeps the long chat.
-    pub long: bool,
-    /// `--map`: it keeps the map.
-    pub map: bool,
-    /// `--locks`: it keeps the table of locks.
-    pub locks: bool,
+    /// `--long`, `--map` and `--locks`: what it keeps. `MemberWords::plan` refuses a map beside locks.
+    pub flags: KeptFlags,
     /// `--find`: it finds its group by itself, and gives way to a greater view.
     pub find: bool,
     /// `--any-source`: it takes a node's datagrams wherever they come from.
     pub any_source: bool,
+    /// `--stable`: it prints among its events which messages it knows to be stable.
+    pub stable: bool,
     /// `--quorum N`: it sends only in views of at least so many members, 1 to `MEMBERS` (`limits`).
     pub quorum: Option<u16>,
     /// `--status FILE`: where its status is written each second.
     pub status: Option<&'a str>,
-}
-
-impl MemberOptions<'_> {
-    /// What it keeps: the first of the table of locks, the map and the long chat whose flag is there, else the chat. `MemberWords::plan` refuses a map beside locks.
-    pub fn kept(&self) -> Kept
-        ensures { result ≡ kept_by self.now.locks self.now.map self.now.long }
-    {
-        if self.locks {
-            Kept::Locks
-        } else if self.map {
-            Kept::Map
-        } else if self.long {
-            Kept::LongChat
-        } else {
-            Kept::Chat
-        }
-    }
+    /// `--key-file FILE`: the file of the key of its group.
+    pub key_file: Option<&'a str>,
 }
 
 // An option whose value is a number in a range.
@@ -96,16 +81,6 @@ fn repeated<'a>(alloc: Global, name: &'a str, value: &'a str, help: &'a str) -> 
     ensures { IsArg (repeated_rule name.now) result }
 {
     option(alloc, name, value, help).action(ArgAction::Append)
-}
-
-/// A flag.
-pub(crate) fn flag<'a>(alloc: Global, name: &'a str, help: &'a str) -> Arg<'a>
-    ensures { IsArg (flag_rule name.now) result }
-{
-    Arg::new(alloc, name)
-        .long(name)
-        .action(ArgAction::SetTrue)
-        .help(help)
 }
 
 // A command with the options of times as well.
@@ -167,6 +142,12 @@ fn with_files<'a>(
             "status",
             "FILE",
             "Where its status is written each second: its view, and what an operator asks for",
+        ))?
+        .arg(option(
+            alloc,
+            "key-file",
+            "FILE",
+            "The file of the group's key, 16 to 1024 bytes: its datagrams are sealed with it, and others are not heard; all of the group must",
         ))
 }
 
@@ -189,6 +170,12 @@ fn with_hosts<'a>(
             "peer",
             "NODE=HOST",
             "Where a node is reached, once for each that is not at 127.0.0.1",
+        ))?
+        .arg(option(
+            alloc,
+            "http",
+            "HOST:PORT",
+            "Where it answers requests of HTTP, for what --map or --locks says; a PORT alone is one of 127.0.0.1",
         ))
 }
 
@@ -202,10 +189,11 @@ pub(crate) fn with_options<'a>(
     let command = with_times(alloc, command)?;
     let command = with_files(alloc, command)?;
     let command = with_hosts(alloc, command)?;
-    with_flags(alloc, command)
+    let command = with_flags(alloc, command)?;
+    with_group_flags(alloc, command)
 }
 
-// A command with the flags as well.
+// A command with the flags that say how it ends and what it prints as well.
 fn with_flags<'a>(
     alloc: Global,
     command: clap::Command<'a>,
@@ -228,7 +216,17 @@ fn with_flags<'a>(
             alloc,
             "stats",
             "It prints on the standard error at its end what happened, in numbers",
-        ))?
+        ))
+}
+
+// A command with the flags that say what it keeps, whom it finds and what it tells as well.
+fn with_group_flags<'a>(
+    alloc: Global,
+    command: clap::Command<'a>,
+) -> Result<clap::Command<'a>, AllocError>
+    ensures { (app : App) → IsCommand app command.entry → IfOk result (IsCommand (group_flags_app app)) }
+{
+    command
         .arg(flag(
             alloc,
             "long",
@@ -253,6 +251,11 @@ fn with_flags<'a>(
             alloc,
             "any-source",
             "It takes a node's datagrams wherever they come from, as where addresses are translated",
+        ))?
+        .arg(flag(
+            alloc,
+            "stable",
+            "It prints among its events which messages it knows to be stable",
         ))
 }
 
@@ -305,16 +308,17 @@ pub(crate) fn member_options<'a>(
         say: matches.get_str("say"),
         bind: matches.get_str("bind"),
         peers,
-        forever: matches.get_flag("forever"),
-        leave: matches.get_flag("leave"),
-        text: matches.get_flag("text"),
-        stats: matches.get_flag("stats"),
-        long: matches.get_flag("long"),
-        map: matches.get_flag("map"),
-        locks: matches.get_flag("locks"),
-        find: matches.get_flag("find"),
-        any_source: matches.get_flag("any-source"),
+        http: matches.get_str("http"),
+        forever: stands(matches, "forever"),
+        leave: stands(matches, "leave"),
+        text: stands(matches, "text"),
+        stats: stands(matches, "stats"),
+        flags: kept_flags("member", matches),
+        find: stands(matches, "find"),
+        any_source: stands(matches, "any-source"),
+        stable: stands(matches, "stable"),
         quorum,
         status: matches.get_str("status"),
+        key_file: matches.get_str("key-file"),
     })
 }

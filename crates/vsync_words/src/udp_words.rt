@@ -3,7 +3,8 @@
 ghost use Rattle.std.specs.Prelude.{◌≡◌, codes, IfOk, IfSome, MatchResult, Ok, Err};
 ghost use Rattle.clap.specs.Words.{found_of, one_of, rows_of};
 ghost use Rattle.script_reader.specs.declared.udp_script.TheConstants.{ROUNDS};
-ghost use Rattle.vsync_words.specs.Grammar.{required_rule, number_rule, option_rule, udp_app, member_numbers_app, member_talk_app, member_app, AddsCommand, AreUdpWords, AreMemberWords, IsArg, IsCommand, IsNumberIn};
+ghost use Rattle.vsync_words.specs.Grammar.{required_rule, number_rule, option_rule, udp_app, member_numbers_app, member_talk_app, member_app, IsArg, IsCommand};
+ghost use Rattle.vsync_words.specs.Words.{AreUdpWords, AreMemberWords, IsNumberIn};
 ghost use Rattle.vsync_words.specs.Plans.{contact_of, payload_of, text_of, IsMistaken, IsPlan};
 ghost use Rattle.limits.specs.declared.TheConstants.{GREATEST_NODE, GREATEST_INCARNATION};
 
@@ -63,7 +64,7 @@ impl<'a> MemberWords<'a> {
     {
         let contact = contact_in(self.contact)?;
         let send = payload_in(self.send)?;
-        if self.options.map && self.options.locks {
+        if self.options.flags.are_two() {
             return Err(MemberMistake::MapAndLocks);
         }
         Ok(MemberPlan {
@@ -136,8 +137,8 @@ fn config<'a>(alloc: Global) -> Arg<'a>
     )
 }
 
-// The subcommand `udp`.
-fn udp_command<'a>(alloc: Global) -> Result<clap::Command<'a>, AllocError>
+/// The subcommand `udp` as clap reads it.
+pub(crate) fn udp_command<'a>(alloc: Global) -> Result<clap::Command<'a>, AllocError>
     ensures { IfOk result (IsCommand udp_app) }
 {
     clap::Command::new(alloc, "udp")
@@ -151,17 +152,6 @@ fn udp_command<'a>(alloc: Global) -> Result<clap::Command<'a>, AllocError>
             "SCRIPT",
             "The script's path, or - for the standard input",
         ))
-}
-
-/// The program with `udp CONFIG SCRIPT` as well.
-pub(crate) fn with_udp<'a>(
-    alloc: Global,
-    program: clap::Command<'a>,
-) -> Result<clap::Command<'a>, AllocError>
-    ensures { IfOk result (AddsCommand program.entry udp_app) }
-{
-    let command = udp_command(alloc)?;
-    program.subcommand(command)
 }
 
 // The subcommand `member` with its numbers.
@@ -210,23 +200,12 @@ fn member_talk<'a>(alloc: Global) -> Result<clap::Command<'a>, AllocError>
         ))
 }
 
-// The subcommand `member`.
-fn member_command<'a>(alloc: Global) -> Result<clap::Command<'a>, AllocError>
+/// The subcommand `member` as clap reads it.
+pub(crate) fn member_command<'a>(alloc: Global) -> Result<clap::Command<'a>, AllocError>
     ensures { IfOk result (IsCommand member_app) }
 {
     let command = member_talk(alloc)?;
     with_options(alloc, command)
-}
-
-/// The program with `member CONFIG NODE INCARNATION ROUNDS` and its options as well.
-pub(crate) fn with_member<'a>(
-    alloc: Global,
-    program: clap::Command<'a>,
-) -> Result<clap::Command<'a>, AllocError>
-    ensures { IfOk result (AddsCommand program.entry member_app) }
-{
-    let command = member_command(alloc)?;
-    program.subcommand(command)
 }
 
 /// The words of `udp` in its matches.

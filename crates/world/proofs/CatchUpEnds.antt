@@ -1,5 +1,6 @@
 -- Whom a catch-up is about, and what comes of it: the two are level, or one has crashed, or both run.
 use Rattle.std.proofs.Common.{◌≡◌, ℕ, Bool, true, false, cond, Option, Some, None, length, refl, sym, ap, ◌∙◌, subst}
+use Rattle.std.specs.Prelude.{◌||◌, is_some}
 use Rattle.std.specs.Option.{option_map, option_map_or, option_and_then}
 use Rattle.std.proofs.lemmas.Bool.{and_parts}
 use Rattle.std.proofs.lemmas.Option.{none-some, same_Some}
@@ -31,10 +32,12 @@ use Rattle.world_step.proofs.FactOfSystem.{system_of}
 use Rattle.world_step.specs.Invariant.{IsWorld, IsNodeStateOf}
 use Rattle.world_step.specs.Worlds.{WorldModel}
 use Rattle.world_step.specs.Pools.{first_for}
-use Rattle.world.specs.Gaps.{open_view, is_open_in, pair_of, pair_in, pair_at, lacks_memory, Plays, Hands, CatchesUp, IsLevel}
+use Rattle.world_plays.specs.Plays.{lacks_memory, Plays}
+use Rattle.world.specs.Gaps.{open_view, is_open_in, pair_of, pair_in, pair_at, Hands, CatchesUp, IsLevel}
 use Rattle.world.proofs.FactOfPairs
 use Rattle.world_step.proofs.KeepOfWorlds
 use Rattle.world.proofs.FactOfReplies
+use Rattle.world_plays.proofs.Standing
 use Rattle.world.proofs.CatchUpLevels
 
 -- ---- one that is open in a view
@@ -139,7 +142,18 @@ module _ {S : Type 0} (meaning : Meaning S) (laws : KeepBySteps.Laws meaning) wh
       let k = node_state-of w n m keeps node_state in
       let here = FactOfMembers.is-here meaning laws w.node_states w.history n m keeps node_state k.1 in
       let node : p.node ≡ n = ap (λ (q : Address). q.node) (sym is) ∙ k.1 in
-      record { member = m; node_state = ap (λ (j : ℕ). w.node_states j) node ∙ node_state; address = is; group = here.group_is; member_state = o.lives; view_state = o.keeps; installed = o.installed }
+      record {
+        stands = record {
+          member = m;
+          node_state = ap (λ (j : ℕ). w.node_states j) node ∙ node_state;
+          address = is;
+          group = here.group_is;
+          member_state = o.lives;
+          connected = ap (λ (z : Option ViewState). is_some z || is_some o.member_state.contact) o.keeps;
+        };
+        view_state = o.keeps;
+        installed = o.installed;
+      }
 
   orderly-of : (w : WorldModel S) (n : ℕ) (p : Address) (m : MemberModel S) (v : View) → Keeps w → w.node_states n ≡ Running m → m.address ≡ p → (o : IsOpen m v) → IsOrderly p o.view_state
   orderly-of w n p m v keeps node_state is o =
@@ -222,7 +236,7 @@ module _ {S : Type 0} (meaning : Meaning S) (laws : KeepBySteps.Laws meaning) wh
       subst (λ (o : Option ℕ). Hands meaning o announced asked) t.found hands in
       let m = packet pair.view.creator (bodies.Status f.leads.view.id (progress_of f.leads.window)) pair.member in
       let h = CatchUpLevels.sure meaning laws (lacks_memory x.step.answer) x.whole
-      (FactOfReplies.heard meaning announced asked t.number pair.member f.other (kinds.Follower f.follows) t.couple.other m t.status x.step) in
+      (Standing.heard meaning laws announced asked t.couple.keeps t.number pair.member f.other t.couple.other.stands m t.status x.step) in
       CatchUpLevels.asked-by meaning laws announced asked pair.view.creator pair.member f.first f.other f.leads f.follows t.couple
       (keeps-on announced asked (Deliver t.number) x t.couple.keeps) h
 

@@ -1,11 +1,8 @@
 -- A catch-up brings a member level with the coordinator of its view.
 use Rattle.std.proofs.Common.{◌≡◌, ℕ, zero, suc, ◌+◌, ◌-◌, ◌<◌, ◌≤◌, Bool, true, false, Option, Some, None, List, [], ◌∷◌, ◌++◌, map, drop, length, is_some, nat_eq, nat_lt, inl, inr, ◌⊎◌, refl, sym, ap, ◌∙◌, subst, arith}
-use Rattle.std.specs.Prelude.{◌||◌}
-use Rattle.std.specs.List.{slice_get, position_from, AllByRecursion}
-use Rattle.std.specs.Option.{option_map, option_map_or}
-use Rattle.std.proofs.lemmas.Bool.{cond-true, cond-false, eqb-true}
+use Rattle.std.specs.List.{position_from}
+use Rattle.std.specs.Option.{option_map_or}
 use Rattle.std.proofs.lemmas.Bool.Decides.{nat_tests}
-use Rattle.std.proofs.lemmas.Option.{none-some, same_Some}
 use Rattle.std.proofs.lemmas.List.{append-nil, length-append, length-map}
 use Rattle.std.proofs.Math.Seq.{drop-append_seam}
 use Rattle.limits.specs.declared.TheConstants.{WINDOW}
@@ -13,16 +10,13 @@ use Rattle.address.specs.Ids.{Address, ViewId, same_address}
 use Rattle.view.specs.Members.{View, stands_in}
 use Rattle.wire_values.specs.Values.{Entry, Missing, held_at}
 use Rattle.state_transfer.specs.Meanings.{Meaning}
-use Rattle.wire_values.specs.declared.packet.Body.{Body}
 use Rattle.wire_values.specs.declared.packet.Body.TheVariants as bodies
 use Rattle.trace_props.specs.Observed.{delivered_in}
-use Rattle.address.proofs.SameIds.{same_address-refl, same_address-true, same_address-sym}
-use Rattle.trace_props.proofs.FactOfPlaces.{slice_get-before}
+use Rattle.address.proofs.SameIds.{same_address-sym}
 use Rattle.acts.specs.Histories.{Posted}
 use Rattle.acts.specs.Cores.{ViewCore}
 use Rattle.acts.specs.Acts.{packet, others_of}
 use Rattle.agreement.specs.Packets.{HoldsAll}
-use Rattle.acts.proofs.Lists.{slice_get-right}
 use Rattle.agreement.proofs.ActBegins.{others-there}
 use Rattle.agreement.proofs.KeepBySteps
 use Rattle.step_output.specs.declared.output.Output.{Output}
@@ -38,121 +32,26 @@ use Rattle.membership.specs.declared.member_state.MemberState.{MemberState}
 use Rattle.membership.specs.MemberStates.{core_of as core_at, view_core_in}
 use Rattle.member_messages.specs.Heard.{is_near}
 use Rattle.member_messages.specs.Ordered.{IsOrderly}
-use Rattle.member.specs.Members.{MemberModel}
 use Rattle.world_model.specs.declared.WorldEvent.TheVariants.{Deliver}
 use Rattle.world_model.specs.Packets.{world_group, packet_numbered}
-use Rattle.world_step.specs.declared.node_state.NodeState.TheVariants.{Running}
 use Rattle.world_step.specs.NodeStates.{bytes_of}
 use Rattle.world_step.specs.Turns.{OthersStand}
 use Rattle.world_step.specs.Invariant.{IsWorld}
 use Rattle.world_step.specs.Worlds.{WorldModel}
 use Rattle.world_step.specs.Pools.{is_destined, first_for}
-use Rattle.world.specs.Gaps.{lacks_memory, Plays, Delivers, DeliversPast}
-use Rattle.world.specs.Gaps.Delivers.{Still, Next}
+use Rattle.world_plays.specs.Plays.{lacks_memory, Delivers, DeliversPast}
 use Rattle.world.proofs.WindowFills.{MissesWithin, asked-within, nothing-missing, filled}
 use Rattle.world.proofs.FactOfPairs
 use Rattle.world_step.proofs.FactOfMembers
-use Rattle.world_step.proofs.FactOfSystem.{core_here, runs, core-running, system_of}
+use Rattle.world_step.proofs.FactOfSystem.{runs, system_of}
 use Rattle.deployment.proofs.FactOfPosts.{EachSound, bytes_for}
 use Rattle.world_step.proofs.KeepOfWorlds
 use Rattle.world.proofs.FactOfReplies
-use Rattle.world.proofs.FactOfReplies.{bytes_as, IsSound, goes-to}
-use Rattle.world_step.proofs.FactOfFirst.{numbered-at}
+use Rattle.settling.proofs.FirstPackets.{first-found, each-at}
+use Rattle.world_plays.proofs.Standing
 use Rattle.step_output.specs.Steps.{who}
-
--- ---- packets by their numbers
-
--- these packets are the next past so many
-abbrev pub AreNext : ℕ → List Posted → List (List ℕ) → Type 0
-AreNext past posted pool = (j : ℕ) (m : Posted) → slice_get posted j ≡ Some m → packet_numbered (past + 1 + j) pool ≡ Some (bytes_as m)
-
-pub put-next : (pool : List (List ℕ)) (posted : List Posted) → AreNext (length pool) posted (pool ++ bytes_for world_group posted)
-put-next pool posted j m at =
-    let e : length pool + 1 + j ≡ length pool + j + 1 = omega arith in
-    ap (λ (k : ℕ). packet_numbered k (pool ++ bytes_for world_group posted)) e ∙ numbered-at (length pool + j) (pool ++ bytes_for world_group posted)
-    ∙ slice_get-right pool (bytes_for world_group posted) j ∙ by posted j at
-  where
-    by : (l : List Posted) (i : ℕ) → slice_get l i ≡ Some m → slice_get (bytes_for world_group l) i ≡ Some (bytes_as m)
-    by [] i e = absurd (none-some m e)
-    by (x ∷ l) zero e = ap (λ (o : Option Posted). option_map bytes_as o) e
-    by (x ∷ l) (suc i) e = by l i e
-
-stays-by : (k : ℕ) (pool more : List (List ℕ)) (bytes : List ℕ) (b : Bool) → nat_eq k 0 ≡ b → packet_numbered k pool ≡ Some bytes → packet_numbered k (pool ++ more) ≡ Some bytes
-stays-by k pool more bytes true zero_is at = absurd (none-some bytes (sym (cond-true (nat_eq k 0) None (slice_get pool (k - 1)) zero_is) ∙ at))
-stays-by k pool more bytes false some at =
-    cond-false (nat_eq k 0) None (slice_get (pool ++ more) (k - 1)) some
-    ∙ slice_get-before pool more (k - 1) bytes (sym (cond-false (nat_eq k 0) None (slice_get pool (k - 1)) some) ∙ at)
-
-pub number-stays : (k : ℕ) (pool more : List (List ℕ)) (bytes : List ℕ) → packet_numbered k pool ≡ Some bytes → packet_numbered k (pool ++ more) ≡ Some bytes
-number-stays k pool more bytes at = stays-by k pool more bytes (nat_eq k 0) refl at
-
--- the rest of them, past one more
-pub next-rest : (past : ℕ) (m : Posted) (posted : List Posted) (pool more : List (List ℕ)) → AreNext past (m ∷ posted) pool → AreNext (past + 1) posted (pool ++ more)
-next-rest past m posted pool more each j x at =
-    let e : past + 1 + 1 + j ≡ past + 1 + suc j = omega arith in
-    ap (λ (k : ℕ). packet_numbered k (pool ++ more)) e ∙ number-stays (past + 1 + suc j) pool more (bytes_as x) (each (suc j) x at)
-
-pub next-first : (past : ℕ) (m : Posted) (posted : List Posted) (pool : List (List ℕ)) → AreNext past (m ∷ posted) pool → packet_numbered (past + 1) pool ≡ Some (bytes_as m)
-next-first past m posted pool each = let e : past + 1 ≡ past + 1 + 0 = omega arith in ap (λ (k : ℕ). packet_numbered k pool) e ∙ each 0 m refl
-
--- the first packet for a member, where each of a list is put out one
-pub record FirstFor (q : Address) (m : Posted) (start : ℕ) (posted : List Posted) : Type 0 where
-  pub place : ℕ
-  pub found : position_from (is_destined q) start (bytes_for world_group posted) ≡ Some (start + place)
-  pub there : slice_get posted place ≡ Some m
-
-right-of : (a b : Bool) → a ≡ false → (a || b) ≡ true → b ≡ true
-right-of true b e x = absurd (let bad : true ≡ false = e in cc)
-right-of false b e x = x
-
-pub first-found : (c q : Address) (b : Body) (list : List Address) (start : ℕ) → EachSound world_group (map (packet c b) list) → stands_in q list ≡ true
-    → FirstFor q (packet c b q) start (map (packet c b) list)
-first-found c q b [] start sound there = absurd (let bad : false ≡ true = there in cc)
-first-found c q b (x ∷ list) start sound there = by (same_address x q) refl (first-found c q b list (start + 1) sound.1)
-  where
-    tested : is_destined q (bytes_as (packet c b x)) ≡ same_address x q
-    tested = ap (λ (o : Option Address). option_map_or (λ z. same_address z q) o false) (goes-to (packet c b x) sound.0)
-
-    by : (z : Bool) → same_address x q ≡ z → (stands_in q list ≡ true → FirstFor q (packet c b q) (start + 1) (map (packet c b) list)) → FirstFor q (packet c b q) start (map (packet c b) (x ∷ list))
-    by true e more =
-        let is : x ≡ q = same_address-true x q e in
-        record {
-          place = 0;
-          found = cond-true (is_destined q (bytes_as (packet c b x))) _ _ (tested ∙ e) ∙ (let n : start ≡ start + 0 = omega arith in ap (λ (k : ℕ). Some k) n);
-          there = ap (λ (y : Address). Some (packet c b y)) is;
-        }
-    by false e more =
-        let other : same_address q x ≡ false = same_address-sym q x ∙ e in
-        let later : stands_in q list ≡ true = right-of (same_address q x) (stands_in q list) other there in
-        let r = more later in
-        record {
-          place = suc r.place;
-          found = cond-false (is_destined q (bytes_as (packet c b x))) _ _ (tested ∙ e) ∙ r.found ∙ (let n : start + 1 + r.place ≡ start + suc r.place = omega arith in ap (λ (k : ℕ). Some k) n);
-          there = r.there;
-        }
-
-each-at : (P : Posted → Type 0) (posted : List Posted) (j : ℕ) (m : Posted) → AllByRecursion P posted → slice_get posted j ≡ Some m → P m
-each-at P [] j m all at = absurd (none-some m at)
-each-at P (x ∷ posted) zero m all at = subst P (same_Some x m at) all.0
-each-at P (x ∷ posted) (suc j) m all at = each-at P posted j m all.1 at
-
--- ---- no deliveries
-
-module _ {S : Type 0} (meaning : Meaning S) where
-  pub delivers-none : (past n : ℕ) (old new : WorldModel S) → n ≡ 0 → Delivers meaning past n old new → new ≡ old
-  delivers-none _ _ old _ e (Still past w) = refl
-  delivers-none _ _ old _ e (Next past count w mid new plays rest) = absurd (omega (arith, e))
-
-  pub record Delivered (past n : ℕ) (old new : WorldModel S) : Type 0 where
-    pub mid : WorldModel S
-    pub plays : Plays meaning old (Deliver (past + 1)) mid
-    pub rest : Delivers meaning (past + 1) n mid new
-
-  pub delivers-next : (past m n : ℕ) (old new : WorldModel S) → m ≡ suc n → Delivers meaning past m old new → Delivered past n old new
-  delivers-next _ _ n old _ e (Still past w) = absurd (omega (arith, e))
-  delivers-next _ _ n _ _ e (Next past count old mid new plays rest) =
-      let same : count ≡ n = omega (arith, e) in
-      record { mid = mid; plays = plays; rest = subst (λ (k : ℕ). Delivers meaning (past + 1) k mid new) same rest }
+use Rattle.world_plays.proofs.PoolPackets.{IsSound, put-out, AreNext, put-next, next-rest, next-first}
+use Rattle.world_plays.proofs.Deliveries.{delivers-none, delivers-next}
 
 -- ---- the two
 
@@ -161,20 +60,8 @@ module _ {S : Type 0} (meaning : Meaning S) (laws : KeepBySteps.Laws meaning) wh
   abbrev pub RunsAs : WorldModel S → Address → MemberState S → ViewState → Type 0
   RunsAs w p l t = FactOfReplies.RunsAs meaning w p l t
 
-  same-member : (m n : MemberModel S) → Running m ≡ Running n → m ≡ n
-  same-member m n e = cc
-
-  nodes-by : (w : WorldModel S) (p q : Address) (l k : MemberState S) (t u : ViewState) → RunsAs w p l t → RunsAs w q k u → same_address q p ≡ false → (b : Bool) → nat_eq p.node q.node ≡ b → b ≡ false
-  nodes-by w p q l k t u x y other false e = refl
-  nodes-by w p q l k t u x y other true e =
-      let node : p.node ≡ q.node = eqb-true p.node q.node e in
-      let node_state : Running x.member ≡ Running y.member = sym x.node_state ∙ ap (λ (n : ℕ). w.node_states n) node ∙ y.node_state in
-      let is : p ≡ q = sym x.address ∙ ap (λ (m : MemberModel S). m.address) (same-member x.member y.member node_state) ∙ y.address in
-      let bad : true ≡ false = sym (same_address-refl q) ∙ ap (same_address q) (sym is) ∙ other in
-      absurd cc
-
   pub nodes-apart : (w : WorldModel S) (p q : Address) (l k : MemberState S) (t u : ViewState) → RunsAs w p l t → RunsAs w q k u → same_address q p ≡ false → nat_eq p.node q.node ≡ false
-  nodes-apart w p q l k t u x y other = nodes-by w p q l k t u x y other (nat_eq p.node q.node) refl
+  nodes-apart w p q l k t u x y other = Standing.nodes-apart meaning w p q l k x.stands y.stands other
 
   -- the coordinator of a view and another member of it
   pub record Couple (w : WorldModel S) (c q : Address) (lc lq : MemberState S) (kc : Coordinator) (kq : Follower) : Type 0 where
@@ -186,7 +73,7 @@ module _ {S : Type 0} (meaning : Meaning S) (laws : KeepBySteps.Laws meaning) wh
     pub apart : same_address q c ≡ false
 
   pub runs-in : (w : WorldModel S) (p : Address) (l : MemberState S) (t : ViewState) → RunsAs w p l t → runs w.node_states p ≡ Some (core_at p l)
-  runs-in w p l t r = ap (core_here p) r.node_state ∙ core-running p r.member r.address ∙ FactOfReplies.core-is meaning w p l t r
+  runs-in w p l t r = Standing.runs-in meaning w p l r.stands
 
   -- how far they have come
   pub record Numbers (w : WorldModel S) (c q : Address) (kc : Coordinator) (kq : Follower) : Type 0 where
@@ -228,9 +115,9 @@ module _ {S : Type 0} (meaning : Meaning S) (laws : KeepBySteps.Laws meaning) wh
   -- the other holds nothing that comes next
   pub none-next : (w : WorldModel S) (c q : Address) (lc lq : MemberState S) (kc : Coordinator) (kq : Follower) → Couple w c q lc lq kc kq → held_at (kq.window.delivered + 1) kq.window.held ≡ None
   none-next w c q lc lq kc kq x =
-      let m = x.other.member in
-      let k = FactOfMembers.is-here meaning laws w.node_states w.history q.node m x.keeps x.other.node_state (ap (λ (p : Address). p.node) x.other.address) in
-      let o : IsOrderly m.address (kinds.Follower kq) = (k.alive lq x.other.member_state).ordered (kinds.Follower kq) x.other.view_state in
+      let m = x.other.stands.member in
+      let k = FactOfMembers.is-here meaning laws w.node_states w.history q.node m x.keeps x.other.stands.node_state (ap (λ (p : Address). p.node) x.other.stands.address) in
+      let o : IsOrderly m.address (kinds.Follower kq) = (k.alive lq x.other.stands.member_state).ordered (kinds.Follower kq) x.other.view_state in
       o.1
 
   -- ---- the steps
@@ -278,7 +165,7 @@ module _ {S : Type 0} (meaning : Meaning S) (laws : KeepBySteps.Laws meaning) wh
     pub couple : Couple announced c q lc lq kc kq
     pub number : ℕ
     pub found : first_for q (length old.history.pool) announced.history.pool ≡ Some number
-    pub status : FactOfReplies.IsFor meaning announced number q (packet c (bodies.Status kc.view.id (progress_of kc.window)) q)
+    pub status : Standing.IsFor meaning announced number q (packet c (bodies.Status kc.view.id (progress_of kc.window)) q)
 
   pub announced-by : (old announced : WorldModel S) (c q : Address) (lc lq : MemberState S) (kc : Coordinator) (kq : Follower) → Couple old c q lc lq kc kq → Keeps announced
       → FactOfReplies.Ticked meaning old announced c lc kc → AnnouncedSo old announced c q lc lq kc kq
@@ -297,7 +184,6 @@ module _ {S : Type 0} (meaning : Meaning S) (laws : KeepBySteps.Laws meaning) wh
           sound = each-at IsSound posted f.place (packet c body q) t.sound f.there;
           goes = refl;
           other = same_address-sym c q ∙ x.apart;
-          plain = refl;
         };
       }
 
@@ -328,13 +214,13 @@ module _ {S : Type 0} (meaning : Meaning S) (laws : KeepBySteps.Laws meaning) wh
     pub puts : asked.history.pool ≡ announced.history.pool ++ map bytes_of out.packets.items
 
   pub asked-by : (announced asked : WorldModel S) (c q : Address) (lc lq : MemberState S) (kc : Coordinator) (kq : Follower) → Couple announced c q lc lq kc kq → Keeps asked
-      → FactOfReplies.Heard meaning announced asked q lq (packet c (bodies.Status kc.view.id (progress_of kc.window)) q) → AskedSo announced asked c q lc kc
+      → Standing.Heard meaning announced asked q lq (packet c (bodies.Status kc.view.id (progress_of kc.window)) q) → AskedSo announced asked c q lc kc
   asked-by announced asked c q lc lq kc kq x keeps h =
       let n = numbers announced c q lc lq kc kq x in
       let a = progress_of kc.window in
       let r = FactOfReplies.asked meaning announced asked c q lq kq a x.other (own-of kc.view kq.view c x.same x.own) (listed-of kc.view kq.view c x.same n.coordinator)
       (near-by announced c q kc kq n)
-      (subst (λ (v : View). FactOfReplies.Heard meaning announced asked q lq (packet c (bodies.Status v.id a) q)) (sym x.same) h) in
+      (subst (λ (v : View). Standing.Heard meaning announced asked q lq (packet c (bodies.Status v.id a) q)) (sym x.same) h) in
       record {
         after = r.after;
         now = r.now;
@@ -369,7 +255,7 @@ module _ {S : Type 0} (meaning : Meaning S) (laws : KeepBySteps.Laws meaning) wh
 
   pub round : (w mid : WorldModel S) (c q : Address) (lc lq : MemberState S) (kc : Coordinator) (kq : Follower) (g last : ℕ) (e : Entry) → Couple w c q lc lq kc kq
       → MissesWithin g last kc.window.delivered kq.window → g ≤ kc.window.delivered → IsSound (packet c (bodies.Order kc.view.id g e) q) → Keeps mid
-      → FactOfReplies.Heard meaning w mid q lq (packet c (bodies.Order kc.view.id g e) q) → Round w mid c q lc kc g last
+      → Standing.Heard meaning w mid q lq (packet c (bodies.Order kc.view.id g e) q) → Round w mid c q lc kc g last
   round w mid c q lc lq kc kq g last e x within known sound keeps h =
       let n = numbers w c q lc lq kc kq x in
       let stable = n.stable in
@@ -377,7 +263,7 @@ module _ {S : Type 0} (meaning : Meaning S) (laws : KeepBySteps.Laws meaning) wh
       let far : g - WINDOW ≤ kq.window.delivered = omega (arith, stable, reach, known) in
       let near : nat_lt kq.window.delivered (g - WINDOW) ≡ false = grind (arith, nat_tests) in
       let r = FactOfReplies.ordered meaning w mid c q lq kq g e x.other (own-of kc.view kq.view c x.same x.own) (listed-of kc.view kq.view c x.same n.coordinator) near
-      (subst (λ (v : View). FactOfReplies.Heard meaning w mid q lq (packet c (bodies.Order v.id g e) q)) (sym x.same) h) in
+      (subst (λ (v : View). Standing.Heard meaning w mid q lq (packet c (bodies.Order v.id g e) q)) (sym x.same) h) in
       record {
         member_state = r.after;
         now = r.now;
@@ -426,9 +312,9 @@ module _ {S : Type 0} (meaning : Meaning S) (laws : KeepBySteps.Laws meaning) wh
       let nexts : AreNext past (m ∷ rest) w.history.pool = subst (λ (l : List Posted). AreNext past l w.history.pool) o.is next in
       let d = delivers-next meaning past (length (m ∷ rest)) (length rest) w new refl
       (subst (λ (l : List Posted). Delivers meaning past (length l) w new) o.is all) in
-      let f : FactOfReplies.IsFor meaning w (past + 1) q m =
-      record { there = next-first past m rest w.history.pool nexts; sound = sounds.0; goes = refl; other = same_address-sym c q ∙ x.apart; plain = refl } in
-      let h = sure (lacks_memory d.plays.step.answer) d.plays.whole (FactOfReplies.heard meaning w d.mid (past + 1) q lq (kinds.Follower kq) x.other m f d.plays.step) in
+      let f : Standing.IsFor meaning w (past + 1) q m =
+      record { there = next-first past m rest w.history.pool nexts; sound = sounds.0; goes = refl; other = same_address-sym c q ∙ x.apart } in
+      let h = sure (lacks_memory d.plays.step.answer) d.plays.whole (Standing.heard meaning laws w d.mid x.keeps (past + 1) q lq x.other.stands m f d.plays.step) in
       let keeps = KeepOfWorlds.step-keeps meaning laws w d.mid (Deliver (past + 1)) d.plays.step x.keeps in
       let r = round w d.mid c q lc lq kc kq g last o.entry x within known sounds.0 keeps h in
       rounds n (g + 1) (past + 1) d.mid new c q lc r.member_state kc r.now last r.couple r.within (omega (arith, count)) (omega (arith, low)) high sounds.1
@@ -460,7 +346,7 @@ module _ {S : Type 0} (meaning : Meaning S) (laws : KeepBySteps.Laws meaning) wh
   -- the NAK that it put out, if it asks
   pub record Nak (announced asked : WorldModel S) (c q : Address) (lc : MemberState S) (kc : Coordinator) (missing : Missing) : Type 0 where
     pub many : length asked.history.pool - length announced.history.pool ≡ 1
-    pub packet : FactOfReplies.IsFor meaning asked (length announced.history.pool + 1) c (packet q (bodies.Nak kc.view.id missing) c)
+    pub packet : Standing.IsFor meaning asked (length announced.history.pool + 1) c (packet q (bodies.Nak kc.view.id missing) c)
 
   module _ (announced asked : WorldModel S) (c q : Address) (lc : MemberState S) (kc : Coordinator) (s : AskedSo announced asked c q lc kc) where
     pub silent-pool : s.out ≡ s.start → asked.history.pool ≡ announced.history.pool
@@ -474,11 +360,11 @@ module _ {S : Type 0} (meaning : Meaning S) (laws : KeepBySteps.Laws meaning) wh
         ap (λ (v : View). packet q (bodies.Nak v.id k.missing) v.id.creator) s.couple.same ∙ ap (packet q (bodies.Nak kc.view.id k.missing)) s.couple.own in
         let grows : Grows world_group s.start s.out (nak ∷ []) [] = subst (λ (m : Posted). Grows world_group s.start s.out (m ∷ []) []) is k.grows in
         let pool : asked.history.pool ≡ announced.history.pool ++ bytes_for world_group (nak ∷ []) =
-        s.puts ∙ ap (λ (ps : List (List ℕ)). announced.history.pool ++ ps) (FactOfReplies.put-out meaning s.start s.out s.nothing (nak ∷ []) [] grows) in
+        s.puts ∙ ap (λ (ps : List (List ℕ)). announced.history.pool ++ ps) (put-out s.start s.out s.nothing (nak ∷ []) [] grows) in
         let next : AreNext (length announced.history.pool) (nak ∷ []) asked.history.pool = subst (AreNext (length announced.history.pool) (nak ∷ [])) (sym pool) (put-next announced.history.pool (nak ∷ [])) in
         record {
           many = some-more asked.history.pool announced.history.pool (nak ∷ []) pool;
-          packet = record { there = next-first (length announced.history.pool) nak [] asked.history.pool next; sound = grows.sound.0; goes = refl; other = s.couple.apart; plain = refl };
+          packet = record { there = next-first (length announced.history.pool) nak [] asked.history.pool next; sound = grows.sound.0; goes = refl; other = s.couple.apart };
         }
 
   module _ (announced asked replied : WorldModel S) (c q : Address) (lc : MemberState S) (kc : Coordinator) (s : AskedSo announced asked c q lc kc)
@@ -509,7 +395,7 @@ module _ {S : Type 0} (meaning : Meaning S) (laws : KeepBySteps.Laws meaning) wh
         let d = delivers-next meaning (length announced.history.pool) (length asked.history.pool - length announced.history.pool) 0 asked replied nak.many asks in
         let mid : replied ≡ d.mid = delivers-none meaning (length announced.history.pool + 1) 0 d.mid replied refl d.rest in
         let h = sure (lacks_memory d.plays.step.answer) d.plays.whole
-        (FactOfReplies.heard meaning asked d.mid (length announced.history.pool + 1) c lc (kinds.Coordinator kc) s.couple.first _ nak.packet d.plays.step) in
+        (Standing.heard meaning laws asked d.mid s.couple.keeps (length announced.history.pool + 1) c lc s.couple.first.stands _ nak.packet d.plays.step) in
         let keeps = KeepOfWorlds.step-keeps meaning laws asked d.mid (Deliver (length announced.history.pool + 1)) d.plays.step s.couple.keeps in
         let r = FactOfReplies.answered meaning asked d.mid c q lc kc k.missing s.couple.first n.listed h in
         let first = k.missing.first in

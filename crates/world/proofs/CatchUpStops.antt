@@ -1,5 +1,5 @@
 -- A catch-up that ends in an error: the coordinator or the member has crashed at last, or both run as before.
-use Rattle.std.proofs.Common.{◌≡◌, ℕ, zero, suc, ◌+◌, ◌-◌, ◌<◌, ◌≤◌, true, false, Option, Some, List, ◌∷◌, length, inl, inr, ◌⊎◌, refl, sym, ap, ◌∙◌, subst, arith, ⊎_elim}
+use Rattle.std.proofs.Common.{◌≡◌, ℕ, zero, suc, ◌+◌, ◌-◌, ◌<◌, ◌≤◌, true, false, Option, Some, List, ◌∷◌, length, inl, inr, refl, sym, ap, ◌∙◌, subst, arith, ⊎_elim}
 use Rattle.std.specs.Option.{IsSomeAnd, option_map_or}
 use Rattle.std.proofs.lemmas.Bool.{and_from}
 use Rattle.address.specs.Ids.{Address, ViewId, same_address, same_view_id}
@@ -25,43 +25,29 @@ use Rattle.world_step.specs.declared.node_state.NodeState.TheVariants.{Running}
 use Rattle.world_step.specs.Invariant.{IsWorld}
 use Rattle.world_step.specs.Worlds.{WorldModel}
 use Rattle.world_step.specs.Pools.{first_for}
-use Rattle.world.specs.Gaps.{open_view, is_open_in, pair_at, lacks_memory, Plays, Hands, Fails, Breaks, BreaksPast, DeliversPast, Stops, BothRun, EndsSo}
-use Rattle.world.specs.Gaps.Breaks.{Here, Later}
+use Rattle.world_plays.specs.Plays.{lacks_memory, Plays, Fails, Breaks, BreaksPast, DeliversPast}
+use Rattle.world.specs.Gaps.{open_view, is_open_in, pair_at, Hands, Stops, BothRun, EndsSo}
 use Rattle.world.specs.Gaps.Stops.{AtTick, AtStatus, AtRequest, AtAnswer}
 use Rattle.world.proofs.WindowFills.{MissesWithin}
 use Rattle.deployment.proofs.FactOfPosts.{EachSound}
 use Rattle.world_step.proofs.KeepOfWorlds
 use Rattle.world.proofs.FactOfReplies
+use Rattle.world_plays.proofs.Standing
 use Rattle.world.proofs.CatchUpLevels
-use Rattle.world.proofs.CatchUpLevels.{AreNext, next-first, next-rest}
 use Rattle.world.proofs.CatchUpEnds
 use Rattle.step_output.specs.Steps.{who}
+use Rattle.world_plays.proofs.PoolPackets.{AreNext, next-rest, next-first}
+use Rattle.world_plays.proofs.Deliveries.{breaks-none, breaks-next}
 
 module _ {S : Type 0} (meaning : Meaning S) where
-  pub breaks-none : (past n : ℕ) (old new : WorldModel S) → n ≡ 0 → Breaks meaning past n old new → ⊥
-  breaks-none _ _ _ _ e (Here past count old new fails) = absurd (omega (arith, e))
-  breaks-none _ _ _ _ e (Later past count old mid new plays rest) = absurd (omega (arith, e))
-
-  pub record BreaksLater (past n : ℕ) (old new : WorldModel S) : Type 0 where
-    pub mid : WorldModel S
-    pub plays : Plays meaning old (Deliver (past + 1)) mid
-    pub rest : Breaks meaning (past + 1) n mid new
-
-  pub breaks-next : (past m n : ℕ) (old new : WorldModel S) → m ≡ suc n → Breaks meaning past m old new
-      → Fails meaning old (Deliver (past + 1)) new ⊎ BreaksLater past n old new
-  breaks-next _ _ n _ _ e (Here past count old new fails) = inl fails
-  breaks-next _ _ n _ _ e (Later past count old mid new plays rest) =
-      let same : count ≡ n = omega (arith, e) in
-      inr (record { mid = mid; plays = plays; rest = subst (λ (k : ℕ). Breaks meaning (past + 1) k mid new) same rest })
-
   -- who runs in a view is open there
   open-run : (w : WorldModel S) (p : Address) (l : MemberState S) (t : ViewState) (v : ViewId) (r : FactOfReplies.RunsAs meaning w p l t) → (view_of t).id ≡ v → is_open_in p v (w.node_states p.node) ≡ true
   open-run w p l t v r id =
-      let view : open_view (Running r.member) ≡ Some (view_of t) = rw (FactOfReplies.core-is meaning w p l t r, r.view_state, r.installed) refl in
-      let same : same_address r.member.address p ≡ true = ap (λ z. same_address z p) r.address ∙ same_address-refl p in
-      let seen : option_map_or (λ (x : View). same_view_id x.id v) (open_view (Running r.member)) false ≡ true =
+      let view : open_view (Running r.stands.member) ≡ Some (view_of t) = rw (Standing.core-is meaning w p l r.stands, r.view_state, r.installed) refl in
+      let same : same_address r.stands.member.address p ≡ true = ap (λ z. same_address z p) r.stands.address ∙ same_address-refl p in
+      let seen : option_map_or (λ (x : View). same_view_id x.id v) (open_view (Running r.stands.member)) false ≡ true =
       ap (λ (o : Option View). option_map_or (λ (x : View). same_view_id x.id v) o false) view ∙ ap (λ (x : ViewId). same_view_id x v) id ∙ same_view_id-refl v in
-      subst (λ (s : NodeState S). is_open_in p v s ≡ true) (sym r.node_state) (and_from (same_address r.member.address p) _ same seen)
+      subst (λ (s : NodeState S). is_open_in p v s ≡ true) (sym r.stands.node_state) (and_from (same_address r.stands.member.address p) _ same seen)
 
 module _ {S : Type 0} (meaning : Meaning S) (laws : KeepBySteps.Laws meaning) where
   abbrev Couple : WorldModel S → Address → Address → MemberState S → MemberState S → Coordinator → Follower → Type 0
@@ -85,20 +71,20 @@ module _ {S : Type 0} (meaning : Meaning S) (laws : KeepBySteps.Laws meaning) wh
 
   -- a packet to the coordinator
   ends-first : (w new : WorldModel S) (pair : Pair) (lc lq : MemberState S) (kc : Coordinator) (kq : Follower) (k : ℕ) (m : Posted) → Couple w pair.view.creator pair.member lc lq kc kq
-      → kc.view.id ≡ pair.view → FactOfReplies.IsFor meaning w k pair.view.creator m → Fails meaning w (Deliver k) new → EndsSo pair new
+      → kc.view.id ≡ pair.view → Standing.IsFor meaning w k pair.view.creator m → Fails meaning w (Deliver k) new → EndsSo pair new
   ends-first w new pair lc lq kc kq k m x id f (inl same) = inr (subst (BothRun pair) (sym same) (both-run w pair lc lq kc kq x id))
   ends-first w new pair lc lq kc kq k m x id f (inr y) =
       let z = CatchUpLevels.lost meaning laws (lacks_memory y.0.answer) y.1
-      (FactOfReplies.heard meaning w new k pair.view.creator lc (kinds.Coordinator kc) x.first m f y.0) in
+      (Standing.heard meaning laws w new x.keeps k pair.view.creator lc x.first.stands m f y.0) in
       inl (record { before = w.history.trace; crash = inl z.trace })
 
   -- and one to the member
   ends-other : (w new : WorldModel S) (pair : Pair) (lc lq : MemberState S) (kc : Coordinator) (kq : Follower) (k : ℕ) (m : Posted) → Couple w pair.view.creator pair.member lc lq kc kq
-      → kc.view.id ≡ pair.view → FactOfReplies.IsFor meaning w k pair.member m → Fails meaning w (Deliver k) new → EndsSo pair new
+      → kc.view.id ≡ pair.view → Standing.IsFor meaning w k pair.member m → Fails meaning w (Deliver k) new → EndsSo pair new
   ends-other w new pair lc lq kc kq k m x id f (inl same) = inr (subst (BothRun pair) (sym same) (both-run w pair lc lq kc kq x id))
   ends-other w new pair lc lq kc kq k m x id f (inr y) =
       let z = CatchUpLevels.lost meaning laws (lacks_memory y.0.answer) y.1
-      (FactOfReplies.heard meaning w new k pair.member lq (kinds.Follower kq) x.other m f y.0) in
+      (Standing.heard meaning laws w new x.keeps k pair.member lq x.other.stands m f y.0) in
       inl (record { before = w.history.trace; crash = inr z.trace })
 
   -- ---- the answers
@@ -117,12 +103,12 @@ module _ {S : Type 0} (meaning : Meaning S) (laws : KeepBySteps.Laws meaning) wh
       let rest = CatchUpLevels.orders meaning laws c q kc (g + 1) n in
       let sounds : EachSound world_group (m ∷ rest) = subst (EachSound world_group) o.is sound in
       let nexts : AreNext past (m ∷ rest) w.history.pool = subst (λ (l : List Posted). AreNext past l w.history.pool) o.is next in
-      let f : FactOfReplies.IsFor meaning w (past + 1) q m =
-      record { there = next-first past m rest w.history.pool nexts; sound = sounds.0; goes = refl; other = same_address-sym c q ∙ x.apart; plain = refl } in
+      let f : Standing.IsFor meaning w (past + 1) q m =
+      record { there = next-first past m rest w.history.pool nexts; sound = sounds.0; goes = refl; other = same_address-sym c q ∙ x.apart } in
       ⊎_elim (λ fails. ends-other w new pair lc lq kc kq (past + 1) m x id f fails)
       (λ d.
       let h = CatchUpLevels.sure meaning laws (lacks_memory d.plays.step.answer) d.plays.whole
-      (FactOfReplies.heard meaning w d.mid (past + 1) q lq (kinds.Follower kq) x.other m f d.plays.step) in
+      (Standing.heard meaning laws w d.mid x.keeps (past + 1) q lq x.other.stands m f d.plays.step) in
       let keeps = KeepOfWorlds.step-keeps meaning laws w d.mid (Deliver (past + 1)) d.plays.step x.keeps in
       let known : g ≤ kc.window.delivered = omega (arith, count, high) in
       let r = CatchUpLevels.round meaning laws w d.mid c q lc lq kc kq g last o.entry x within known sounds.0 keeps h in

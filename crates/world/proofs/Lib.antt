@@ -1,11 +1,10 @@
 pub mod WindowFills
 pub mod FactOfPairs
-pub mod FactOfPlayed
 pub mod FactOfStable
 pub mod FactOfReplies
 pub mod CatchUpLevels
 pub mod CatchUpEnds
 pub mod CatchUpStops
-pub mod FactOfNumbers
 pub mod FactOfOpenPairs
 pub mod CatchUpIsRun
+pub mod SettlingIsTold

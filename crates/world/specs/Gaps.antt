@@ -1,5 +1,5 @@
 -- Gaps close: whom a catch-up is about, which events it plays, and what an error leaves.
-use Rattle.std.specs.Prelude.{◌≡◌, ℕ, ◌+◌, ◌-◌, zero, suc, Bool, true, false, not, ◌&&◌, List, [], ◌∷◌, ◌++◌, length, Option, None, Some, MatchOption, ◌⊎◌, if◌then◌else◌}
+use Rattle.std.specs.Prelude.{◌≡◌, ℕ, Bool, true, false, not, ◌&&◌, List, [], ◌∷◌, ◌++◌, length, Option, None, Some, MatchOption, ◌⊎◌, if◌then◌else◌}
 use Rattle.std.specs.Option.{IsSomeAnd, option_eq, option_map_or, option_and_then}
 use Rattle.address.specs.Ids.{Address, ViewId, same_address, same_view_id}
 use Rattle.view.specs.Members.{View}
@@ -9,17 +9,14 @@ use Rattle.trace_props.specs.declared.event.Event.TheVariants.{Crashed}
 use Rattle.trace_props.specs.Observed.{current_view, is_blocked, delivered_in}
 use Rattle.acts.specs.Cores.{is_frozen}
 use Rattle.member.specs.Members.{core_of}
-use Rattle.world_model.specs.declared.WorldEvent.{WorldEvent}
 use Rattle.world_model.specs.declared.WorldEvent.TheVariants.{Deliver, Tick}
-use Rattle.world_model.specs.declared.Answer.{Answer}
-use Rattle.world_model.specs.declared.Answer.TheVariants.{Done, Sent, Refused}
 use Rattle.world_model.specs.Histories.{running}
-use Rattle.limits.specs.Refusals.{is_memory}
 use Rattle.world.specs.declared.gaps.Pair.{Pair}
 use Rattle.world_step.specs.declared.node_state.NodeState.{NodeState}
 use Rattle.world_step.specs.declared.node_state.NodeState.TheVariants.{Vacant, Ended, Running}
-use Rattle.world_step.specs.Worlds.{WorldModel, WorldStep}
+use Rattle.world_step.specs.Worlds.{WorldModel}
 use Rattle.world_step.specs.Pools.{first_for}
+use Rattle.world_plays.specs.Plays.{Plays, Fails, DeliversPast, BreaksPast}
 
 -- ---- whom it is about
 
@@ -64,64 +61,32 @@ has_open_pair n t =
 
 -- ---- what it plays
 
--- memory was refused in a step: 7
-abbrev pub lacks_memory : Answer → Bool
-lacks_memory Done = false
-lacks_memory (Sent n) = false
-lacks_memory (Refused r) = is_memory r
-
 module _ {S : Type 0} (meaning : Meaning S) where
-  -- one event, carried out with no growth refused to a member
-  pub record Plays (old : WorldModel S) (e : WorldEvent) (new : WorldModel S) : Type 0 where
-    pub step : WorldStep meaning old e new
-    pub whole : lacks_memory step.answer ≡ false
-
-  -- a delivery of so many packets past a number, one after another
-  pub data Delivers : ℕ → ℕ → WorldModel S → WorldModel S → Type 0 where
-    Still : (past : ℕ) (w : WorldModel S) → Delivers past zero w w
-    Next : (past count : ℕ) (old mid new : WorldModel S) → Plays old (Deliver (past + 1)) mid → Delivers (past + 1) count mid new → Delivers past (suc count) old new
-
-  -- a delivery of all packets past so many
-  abbrev pub DeliversPast : ℕ → WorldModel S → WorldModel S → Type 0
-  DeliversPast past old new = Delivers past (length old.history.pool - past) old new
-
   -- a delivery of the packet that is there
   abbrev pub Hands : Option ℕ → WorldModel S → WorldModel S → Type 0
-  Hands number old new = MatchOption number (new ≡ old) (λ k. Plays old (Deliver k) new)
+  Hands number old new = MatchOption number (new ≡ old) (λ k. Plays meaning old (Deliver k) new)
 
   -- A CATCH-UP: a tick of the coordinator, a delivery of its STATUS to the member, of what the member puts out by that, and of each answer
   pub record CatchesUp (pair : Pair) (old new : WorldModel S) : Type 0 where
     pub announced : WorldModel S
     pub asked : WorldModel S
     pub answered : WorldModel S
-    pub ticks : Plays old (Tick pair.view.creator.node) announced
+    pub ticks : Plays meaning old (Tick pair.view.creator.node) announced
     pub hears : Hands (first_for pair.member (length old.history.pool) announced.history.pool) announced asked
-    pub asks : DeliversPast (length announced.history.pool) asked answered
-    pub answers : DeliversPast (length asked.history.pool) answered new
+    pub asks : DeliversPast meaning (length announced.history.pool) asked answered
+    pub answers : DeliversPast meaning (length asked.history.pool) answered new
 
   -- ---- what an error leaves
 
-  -- it was not begun, and all is as it was; or a growth was refused to a member in it
-  abbrev pub Fails : WorldModel S → WorldEvent → WorldModel S → Type 0
-  Fails old e new = (new ≡ old) ⊎ ((step : WorldStep meaning old e new) × (lacks_memory step.answer ≡ true))
-
-  -- so many deliveries that end in an error
-  pub data Breaks : ℕ → ℕ → WorldModel S → WorldModel S → Type 0 where
-    Here : (past count : ℕ) (old new : WorldModel S) → Fails old (Deliver (past + 1)) new → Breaks past (suc count) old new
-    Later : (past count : ℕ) (old mid new : WorldModel S) → Plays old (Deliver (past + 1)) mid → Breaks (past + 1) count mid new → Breaks past (suc count) old new
-
-  abbrev pub BreaksPast : ℕ → WorldModel S → WorldModel S → Type 0
-  BreaksPast past old new = Breaks past (length old.history.pool - past) old new
-
   -- a catch-up that ends in an error: the steps before it are carried out
   pub data Stops (pair : Pair) (old : WorldModel S) : WorldModel S → Type 0 where
-    AtTick : (new : WorldModel S) → Fails old (Tick pair.view.creator.node) new → Stops pair old new
-    AtStatus : (announced new : WorldModel S) → Plays old (Tick pair.view.creator.node) announced
-        → IsSomeAnd (first_for pair.member (length old.history.pool) announced.history.pool) (λ k. Fails announced (Deliver k) new) → Stops pair old new
-    AtRequest : (announced asked new : WorldModel S) → Plays old (Tick pair.view.creator.node) announced → Hands (first_for pair.member (length old.history.pool) announced.history.pool) announced asked
-        → BreaksPast (length announced.history.pool) asked new → Stops pair old new
-    AtAnswer : (announced asked answered new : WorldModel S) → Plays old (Tick pair.view.creator.node) announced → Hands (first_for pair.member (length old.history.pool) announced.history.pool) announced asked
-        → DeliversPast (length announced.history.pool) asked answered → BreaksPast (length asked.history.pool) answered new → Stops pair old new
+    AtTick : (new : WorldModel S) → Fails meaning old (Tick pair.view.creator.node) new → Stops pair old new
+    AtStatus : (announced new : WorldModel S) → Plays meaning old (Tick pair.view.creator.node) announced
+        → IsSomeAnd (first_for pair.member (length old.history.pool) announced.history.pool) (λ k. Fails meaning announced (Deliver k) new) → Stops pair old new
+    AtRequest : (announced asked new : WorldModel S) → Plays meaning old (Tick pair.view.creator.node) announced → Hands (first_for pair.member (length old.history.pool) announced.history.pool) announced asked
+        → BreaksPast meaning (length announced.history.pool) asked new → Stops pair old new
+    AtAnswer : (announced asked answered new : WorldModel S) → Plays meaning old (Tick pair.view.creator.node) announced → Hands (first_for pair.member (length old.history.pool) announced.history.pool) announced asked
+        → DeliversPast meaning (length announced.history.pool) asked answered → BreaksPast meaning (length asked.history.pool) answered new → Stops pair old new
 
 -- the coordinator or the member has crashed at last
 pub record LosesOne {S : Type 0} (pair : Pair) (w : WorldModel S) : Type 0 where

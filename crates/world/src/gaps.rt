@@ -14,16 +14,16 @@ ghost use Rattle.world_model.specs.Packets.{world_group};
 ghost use Rattle.world_step.specs.NodeStates.{deployment_of, node_states_in};
 ghost use Rattle.world_step.specs.Worlds.{shown, IsLonger};
 ghost use Rattle.world.specs.Known.{MembersKnow};
-ghost use Rattle.world.specs.Gaps.{open_view, is_open_in, pair_of, pair_at, has_open_pair, lacks_memory, Plays, Hands, Fails, DeliversPast, BreaksPast, CatchesUp, Stops, EndsSo, IsLevel};
+ghost use Rattle.world_plays.specs.Plays.{Fails};
+ghost use Rattle.world.specs.Gaps.{open_view, is_open_in, pair_of, pair_at, has_open_pair, Hands, CatchesUp, Stops, EndsSo, IsLevel};
 
 use crate::World;
 use address::{Address, Node, ViewId};
-use limits::Refusal;
 use state_transfer::Receiver;
 use std::alloc::AllocError;
 use std::collections::BTreeMap;
 use view::View;
-use world_model::{Answer, WorldEvent};
+use world_model::WorldEvent;
 use world_step::NodeState;
 
 /// A member and the coordinator of its view: two members that run in that view and are not blocked.
@@ -102,44 +102,7 @@ fn pair_at<R: Receiver>(node_states: &BTreeMap<Node, NodeState<R>>, node: Node) 
     }
 }
 
-/// Whether memory was refused in a step.
-fn lacks_memory(answer: Answer) -> bool
-    ensures { result ≡ lacks_memory answer }
-{
-    match answer {
-        Answer::Refused(Refusal::Memory) => true,
-        Answer::Done | Answer::Sent(_) | Answer::Refused(_) => false,
-    }
-}
-
 impl<R: Receiver> World<R> {
-    /// Carries out one event; an error where the step is not begun, and where memory is refused to the member in it, which has then crashed.
-    fn play(&mut self, event: &WorldEvent) -> Result<(), AllocError>
-        ensures ok { OnOk result (Plays R.meaning (shown self.old) event.now (shown self.new)) }
-        ensures err { OnErr result (Fails R.meaning (shown self.old) event.now (shown self.new)) }
-    {
-        let answer = self.step(event)?;
-        if lacks_memory(answer) {
-            Err(AllocError)
-        } else {
-            Ok(())
-        }
-    }
-
-    /// Delivers every packet past so many that was put out by now.
-    fn deliver_past(&mut self, past: u64) -> Result<(), AllocError>
-        ensures ok { OnOk result (DeliversPast R.meaning past (shown self.old) (shown self.new)) }
-        ensures err { OnErr result (BreaksPast R.meaning past (shown self.old) (shown self.new)) }
-    {
-        let last = self.pool.count();
-        let mut number = past;
-        while number < last {
-            number += 1;
-            self.play(&WorldEvent::Deliver(number))?;
-        }
-        Ok(())
-    }
-
     /// Delivers the packet of a number, if there is one.
     fn hand(&mut self, number: Option<u64>) -> Result<(), AllocError>
         ensures ok { OnOk result (Hands R.meaning number (shown self.old) (shown self.new)) }

@@ -18,6 +18,8 @@ ghost use Rattle.world_step.specs.Turns.{Carries};
 ghost use Rattle.world.specs.Known.{IsStableAt, MembersKnow, stable_at};
 
 mod gaps;
+mod plays;
+mod settle;
 
 use address::{Address, Node};
 use deployment::deployments_are_synchronous;

@@ -2,8 +2,8 @@ use Rattle.std.proofs.Common.{◌≡◌, ◌∙◌, ap, sym, subst, List, ℕ, c
 use Rattle.std.specs.Fmt.{decimal}
 use Rattle.trace_props.specs.declared.verdict.Verdict.{Verdict}
 use Rattle.trace_props.specs.declared.verdict.Verdict.TheVariants.{Breaks}
-use Rattle.commands.specs.declared.status.Status.TheVariants.{Done, Broken, Memory}
-use Rattle.commands.specs.Outcomes.{memory_line}
+use Rattle.endings.specs.declared.status.Status.TheVariants.{Done, Broken, Memory}
+use Rattle.endings.specs.Outcomes.{memory_line}
 use Rattle.commands.specs.Checks.{broken_line, IsVerdictText}
 use Rattle.commands.specs.Checks.IsVerdictText.{Held, Broke, Unprinted}
 use Rattle.commands.proofs.checks.print_verdict.Goals as goal

@@ -1,6 +1,6 @@
 use Rattle.std.proofs.Common.{◌∙◌, ap, sym}
 use Rattle.trace_reader.specs.Traces.{trace_of}
-use Rattle.commands.specs.Outcomes.IsAnswer.{ReaderFails}
+use Rattle.endings.specs.Outcomes.IsAnswer.{ReaderFails}
 use Rattle.commands.proofs.FactOfVerdicts.{checked-text, faulty-text, unread-trace}
 use Rattle.commands.proofs.checks.run_check.Goals as goal
 use Rattle.vsync_text.proofs.FactOfWriting.{appends_nothing}

@@ -1,6 +1,6 @@
 use Rattle.std.proofs.Common.{◌≡◌, ◌∙◌, ap, sym, Err}
 use Rattle.script_reader.specs.Script.{script_of}
-use Rattle.commands.specs.Outcomes.IsAnswer.{ReaderFails, Answers}
+use Rattle.endings.specs.Outcomes.IsAnswer.{ReaderFails, Answers}
 use Rattle.commands.specs.Draws.{IsDrawnScript, TellsScript}
 use Rattle.commands.proofs.FactOfDrawings.{drawn-run, faulty-as, unread-as, unread-answer}
 use Rattle.commands.proofs.draws.run_draw.Goals as goal

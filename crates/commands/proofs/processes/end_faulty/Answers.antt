@@ -1,7 +1,7 @@
 use Rattle.std.proofs.Common.{◌≡◌, ◌∙◌, ap, sym, subst, List, ℕ}
 use Rattle.script_reader.specs.Script.{fault_number}
-use Rattle.commands.specs.declared.status.Status.TheVariants.{Refused, Memory}
-use Rattle.commands.specs.Outcomes.{memory_line}
+use Rattle.endings.specs.declared.status.Status.TheVariants.{Refused, Memory}
+use Rattle.endings.specs.Outcomes.{memory_line}
 use Rattle.commands.specs.Processes.{IsFaultyText, faulty_line}
 use Rattle.commands.specs.Processes.IsFaultyText.{Told, Untold}
 use Rattle.commands.proofs.processes.end_faulty.Goals as goal

@@ -1,5 +1,6 @@
 use Rattle.std.proofs.Common.{◌∙◌}
-use Rattle.commands.proofs.FactOfTexts.{printed-as, prints-failed, prints-some, prints-part, prints-all}
+use Rattle.endings.proofs.FactOfTexts.{prints-failed, prints-some, prints-part, prints-all}
+use Rattle.commands.proofs.FactOfRuns.{printed-as}
 use Rattle.commands.proofs.scripts.print_run.Goals as goal
 
 pub returns-in-Failed : goal.returns-in-Failed

@@ -1,7 +1,7 @@
 use Rattle.std.proofs.Common.{◌∙◌, ap, sym}
 use Rattle.script_reader.specs.Script.{script_by}
-use Rattle.commands.specs.Outcomes.IsAnswer.{ReaderFails}
-use Rattle.commands.proofs.FactOfTexts.{unread-text, fault-text}
+use Rattle.endings.specs.Outcomes.IsAnswer.{ReaderFails}
+use Rattle.endings.proofs.FactOfTexts.{unread-text, fault-text}
 use Rattle.commands.proofs.scripts.script_from.Goals as goal
 use Rattle.vsync_text.proofs.FactOfWriting.{appends_nothing}
 

@@ -4,6 +4,7 @@ use Rattle.deployment.proofs.KeepBySteps.{are-synchronous}
 use Rattle.deployment.proofs.FactOfProcesses.{merged-are}
 use Rattle.deployment.proofs.FactOfTold.{tell-all}
 use Rattle.deployment.proofs.FactOfKnown.{copies-agree, members-know, processes-agree, are-never-closed}
+use Rattle.deployment.proofs.FactOfCarried.{coordinators-keep, deliver-short}
 use Rattle.deployment.proofs.law.deployments_are_synchronous.Goals as goal
 
 pub returns-clause-histories : goal.returns-clause-histories
@@ -42,3 +43,11 @@ pub returns-clause-open : goal.returns-clause-open
 returns-clause-open g c =
     are-never-closed g.R.Receiver.meaning
     (record { opens = g.met.R.Receiver.opens; applies = g.met.R.Receiver.applies; decodes = g.met.R.Receiver.decodes; reads_back = g.met.R.Receiver.reads_back })
+
+pub returns-clause-short : goal.returns-clause-short
+returns-clause-short g c =
+    deliver-short g.R.Receiver.meaning
+    (record { opens = g.met.R.Receiver.opens; applies = g.met.R.Receiver.applies; decodes = g.met.R.Receiver.decodes; reads_back = g.met.R.Receiver.reads_back })
+
+pub returns-clause-own : goal.returns-clause-own
+returns-clause-own g c = coordinators-keep g.R.Receiver.meaning

@@ -9,6 +9,6 @@ use Rattle.replicated_map.proofs.entries.size_of_all.Given as goal
 abbrev pub invariant-loop-entry : goal.invariant-loop-entry
 invariant-loop-entry l = record {
   size : l.size ≡ map_size (take l.entry-index l.entries);
-  small : l.size ≤ 4 + (3 + KEY + VALUE) * l.entry-index;
+  small : l.size ≤ 26 + (25 + KEY + VALUE) * l.entry-index;
   left : AllByRecursion IsEntry (drop l.entry-index l.entries);
 }

@@ -1,5 +1,5 @@
 use Rattle.std.proofs.Common.{[]}
-use Rattle.commands.specs.declared.status.Status.TheVariants.{Done}
+use Rattle.endings.specs.declared.status.Status.TheVariants.{Done}
 use Rattle.udp_runs.specs.Ends.IsEndOf.{Over}
 use Rattle.udp_runs.proofs.FactOfEnds.{end-lacking, end-failing}
 use Rattle.udp_runs.proofs.ends.end.Goals as goal

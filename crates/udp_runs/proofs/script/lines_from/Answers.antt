@@ -1,6 +1,6 @@
 use Rattle.std.proofs.Common.{◌∙◌, ap, sym}
 use Rattle.script_reader.specs.UdpScript.{udp_script_of}
-use Rattle.commands.specs.Outcomes.IsAnswer.{ReaderFails}
+use Rattle.endings.specs.Outcomes.IsAnswer.{ReaderFails}
 use Rattle.udp_runs.proofs.FactOfScripts.{fault-text, unread-text}
 use Rattle.udp_runs.proofs.script.lines_from.Goals as goal
 use Rattle.vsync_text.proofs.FactOfWriting.{appends_nothing}

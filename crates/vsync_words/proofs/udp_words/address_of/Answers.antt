@@ -1,7 +1,7 @@
 use Rattle.std.proofs.Common.{ℕ, arith, codes, subst, sym}
 use Rattle.std.specs.Str.Parse.{ExplainsUnsignedError, HasUnsignedDigitsIfOk, ParsesUnsigned}
 use Rattle.clap.specs.Words.{found_of, one_of, rows_of}
-use Rattle.vsync_words.specs.Grammar.{IsNumberIn}
+use Rattle.vsync_words.specs.Words.{IsNumberIn}
 use Rattle.vsync_words.proofs.Numbers.{if_made, number_is}
 use Rattle.vsync_words.proofs.udp_words.address_of.Goals as goal
 use Rattle.limits.specs.declared.TheConstants.{GREATEST_INCARNATION, GREATEST_NODE}

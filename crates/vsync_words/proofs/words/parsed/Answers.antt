@@ -3,8 +3,11 @@ use Rattle.std.specs.Option.{option_map_or}
 use Rattle.clap.specs.Kinds.{HasKind}
 use Rattle.clap.specs.Words.{App, Row, Text, fault_of, is_simple, subcommand_of}
 use Rattle.clap.specs.Faults.{is_simple_and_free}
-use Rattle.vsync_words.proofs.Computing.{by_clap, by_stray, fails_as, none_stray, simple, simple_app}
-use Rattle.vsync_words.specs.Grammar.{IsSaid, faults_of, is_stray, program_app}
+use Rattle.clap.proofs.WalkLemmas.{both}
+use Rattle.vsync_words.proofs.Answering.{by_clap, by_stray, fails_as, none_stray}
+use Rattle.vsync_words.proofs.Entering.{simple}
+use Rattle.vsync_words.specs.Grammar.{program_app}
+use Rattle.vsync_words.specs.Words.{IsSaid, faults_of, is_stray}
 use Rattle.vsync_words.proofs.words.parsed.Goals as goal
 
 pub returns-in_err-matches-clause-refused : goal.returns-in_err-matches-clause-refused
@@ -19,7 +22,7 @@ pub returns-in-Some-clause-refused : goal.returns-in-Some-clause-refused
 returns-in-Some-clause-refused c =
     let words = map string_bytes c.args.words.now in
     let is = c.in_ok-grammar.ensures in
-    let met = c.in_ok-matches.ensures.matches (ap is_simple is ∙ simple_app) in
+    let met = c.in_ok-matches.ensures.matches (ap is_simple is ∙ (both _ _ simple).0) in
     let said = met.1 ∙ ap (λ (a : App). subcommand_of a words) is in
     let none : fault_of program_app words ≡ [] = ap (λ (a : App). fault_of a words) (sym is) ∙ c.in_ok-matches.ensures.kinds (ap is_simple_and_free is ∙ simple) in
     let stray = c.stray_in.ensures ∙ ap (λ (o : Option (Text × List Row)). option_map_or is_stray o false) said in
@@ -28,7 +31,7 @@ returns-in-Some-clause-refused c =
 pub returns-in-Some-asked-clause-said : goal.returns-in-Some-asked-clause-said
 returns-in-Some-asked-clause-said c =
     let is = c.in_ok-grammar.ensures in
-    let met = c.in_ok-matches.ensures.matches (ap is_simple is ∙ simple_app) in
+    let met = c.in_ok-matches.ensures.matches (ap is_simple is ∙ (both _ _ simple).0) in
     let said = met.1 ∙ ap (λ (a : App). subcommand_of a (map string_bytes c.args.words.now)) is in
     subst (λ (o : Option (Text × List Row)). IsSomeAnd o (λ s. IsSaid s c.in-Some-asked.command)) said c.in-Some-asked.ensures
 
@@ -36,7 +39,7 @@ pub returns-in-Some-asked-clause-refused : goal.returns-in-Some-asked-clause-ref
 returns-in-Some-asked-clause-refused c =
     let words = map string_bytes c.args.words.now in
     let is = c.in_ok-grammar.ensures in
-    let met = c.in_ok-matches.ensures.matches (ap is_simple is ∙ simple_app) in
+    let met = c.in_ok-matches.ensures.matches (ap is_simple is ∙ (both _ _ simple).0) in
     let said = met.1 ∙ ap (λ (a : App). subcommand_of a words) is in
     let none : fault_of program_app words ≡ [] = ap (λ (a : App). fault_of a words) (sym is) ∙ c.in_ok-matches.ensures.kinds (ap is_simple_and_free is ∙ simple) in
     let stray = c.stray_in.ensures ∙ ap (λ (o : Option (Text × List Row)). option_map_or is_stray o false) said in

@@ -5,7 +5,8 @@ use Rattle.std.proofs.lemmas.Option.{slice_get_read}
 use Rattle.limits.specs.declared.TheConstants.{GREATEST_NUMBER}
 use Rattle.view.specs.Members.{stands_in}
 use Rattle.keyed_entries.specs.Entries.{IsHeldAt, IsFreeAt, entry_of}
-use Rattle.lock_table.specs.Locks.{IsTable, table_of, table_size, next_token, queue, granted}
+use Rattle.tokens.specs.Tokens.{next_token}
+use Rattle.lock_table.specs.Locks.{IsTable, table_of, table_size, queue, granted}
 use Rattle.lock_table.specs.StepLaws.{acquired-is-table}
 use Rattle.lock_table.proofs.FactOfSteps.{set-same, stands-already, joins, joins-not, grants}
 use Rattle.lock_table.proofs.held.Held.acquire.Goals as goal

@@ -6,7 +6,8 @@ use Rattle.address.specs.Ids.{same_address}
 use Rattle.address.proofs.SameIds.{same_address-sym}
 use Rattle.limits.specs.declared.TheConstants.{GREATEST_NUMBER}
 use Rattle.keyed_entries.specs.Entries.{IsHeldAt}
-use Rattle.lock_table.specs.Locks.{IsTable, table_of, next_token}
+use Rattle.tokens.specs.Tokens.{next_token}
+use Rattle.lock_table.specs.Locks.{IsTable, table_of}
 use Rattle.lock_table.specs.StepLaws.{released-is-table}
 use Rattle.lock_table.proofs.FactOfSteps.{gone-freed, gone-kept}
 use Rattle.lock_table.proofs.held.Held.release.Goals as goal

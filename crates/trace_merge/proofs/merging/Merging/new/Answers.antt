@@ -1,4 +1,3 @@
-use Rattle.std.proofs.Common.{◌∙◌}
 use Rattle.std.specs.HashSet.{contains}
 use Rattle.trace_merge.specs.Facts.{same_fact}
 use Rattle.trace_merge.specs.Merges.{lists_of}

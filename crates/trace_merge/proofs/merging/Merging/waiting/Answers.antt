@@ -1,4 +1,4 @@
-use Rattle.std.proofs.Common.{◌≡◌, List, refl, sym, ap, ◌∙◌, subst, position}
+use Rattle.std.proofs.Common.{List, refl, sym, ap, ◌∙◌, subst, position}
 use Rattle.std.specs.Borrow.{Bor}
 use Rattle.trace_props.specs.declared.event.Event.{Event}
 use Rattle.trace_merge.specs.Merges.{has_next}

@@ -14,4 +14,4 @@ returns-in_err-suspect_silent g c =
 
 pub returns : goal.returns
 returns g c =
-    ticked g.N.Net.log g.N.Net.failed g.R.Receiver.meaning _ _ _ _ _ _ c.in_ok-_count.ensures c.in_ok-suspect_silent.ensures c.tick.ensures.hands c.tick.ensures.faults
+    ticked g.N.Net.log g.N.Net.failed g.R.Receiver.meaning _ _ _ _ _ _ c.in_ok-_count.ensures c.in_ok-suspect_silent.ensures c.tick.ensures.hands c.tick.ensures.net c.tick.ensures.faults

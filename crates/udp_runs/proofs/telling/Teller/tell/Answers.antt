@@ -1,9 +1,11 @@
-use Rattle.udp_runs.proofs.FactOfTelling.{writes-events, on-shown}
+use Rattle.udp_runs.proofs.FactOfTelling.{writes-turn, on-shown}
 use Rattle.udp_runs.proofs.telling.Teller.tell.Goals as goal
 
-pub returns-clause-writes : goal.returns-clause-writes
-returns-clause-writes g c =
-    writes-events _ _ _ _ _ _ _ _ c.clear.ensures.items c.append_all-appended.ensures.text c.append_all-appended.ensures.err c.show.ensures
+pub returns-clause-tells : goal.returns-clause-tells
+returns-clause-tells g c = writes-turn _ _ _ _ c.args.channel.now _ _ _ _ c.clear.ensures.items c.append_turn-appended.ensures.text c.show.ensures
 
 pub returns-clause-told : goal.returns-clause-told
-returns-clause-told g c = on-shown _ _ _ _ _ _ c.show.ensures c.append_all-appended.ensures.told
+returns-clause-told g c = on-shown _ _ _ _ _ _ c.show.ensures c.append_turn-appended.ensures.told
+
+pub returns-clause-unsaid : goal.returns-clause-unsaid
+returns-clause-unsaid g c = on-shown _ _ _ _ _ _ c.show.ensures c.append_turn-appended.ensures.unsaid

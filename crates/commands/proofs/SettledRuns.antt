@@ -1,0 +1,85 @@
+-- A run of events after which the changes of view complete that can, node by node; and what is printed of it.
+use Rattle.std.proofs.Common.{◌≡◌, ℕ, ◌+◌, ◌≤◌, suc, Bool, true, false, List, ◌++◌, length, take, drop, Option, Some, None, Result, Ok, Err, OnOk, is_ok, refl, sym, ap, ◌∙◌, subst, arith, take_all}
+use Rattle.std.specs.Prelude.{IfOk, MatchOption, is_some}
+use Rattle.std.specs.Option.{ForSome}
+use Rattle.std.proofs.lemmas.List.{take-append-drop}
+use Rattle.state_transfer.specs.Meanings.{Meaning}
+use Rattle.trace_props.specs.Places.{IsBeginningOf}
+use Rattle.trace_props.proofs.FactOfPlaces.{IsBeginningOf-same, IsBeginningOf-grow}
+use Rattle.world_model.specs.declared.WorldEvent.{WorldEvent}
+use Rattle.world_model.specs.Histories.{History}
+use Rattle.world_step.specs.Worlds.{WorldModel, no_world, IsLonger, Runs as WorldRuns}
+use Rattle.settling.specs.Settles.{IsSettled}
+use Rattle.settling.specs.LostInstalls.{completing_at, Completes}
+use Rattle.script_reader.specs.declared.script.Script.{Script}
+use Rattle.vsync_text.specs.Runs.{lines_of_run}
+use Rattle.limits.specs.declared.TheConstants.{GREATEST_NODE}
+use Rattle.endings.specs.declared.status.Status.{Status}
+use Rattle.endings.specs.declared.status.Status.TheVariants.{Memory}
+use Rattle.endings.specs.Outcomes.{Ends, IsLinesText, Written, memory_line}
+use Rattle.endings.specs.Outcomes.IsLinesText.{Printed, Unprinted}
+use Rattle.commands.specs.Settled.{KeepsRules, SettlesAt, SettlesTo, RunsAndSettles, RunsInPart, padded, IsSettledText}
+use Rattle.commands.specs.Settled.SettlesTo.{Nowhere, More}
+use Rattle.commands.specs.Settled.IsSettledText.{All, Part}
+use Rattle.endings.proofs.FactOfTexts.{written-as}
+
+-- ---- longer histories
+
+begins-then : {X : Type 0} (xs ys zs : List X) → IsBeginningOf xs ys → IsBeginningOf ys zs → IsBeginningOf xs zs
+begins-then xs ys zs a b =
+    subst (IsBeginningOf xs) (ap (λ (l : List _). l ++ drop (length ys) zs) b ∙ take-append-drop (length ys) zs) (IsBeginningOf-grow xs ys (drop (length ys) zs) a)
+
+pub longer-then : (a b c : History) → IsLonger a b → IsLonger b c → IsLonger a c
+longer-then a b c x y = record {
+  events = begins-then a.events b.events c.events x.events y.events;
+  replies = begins-then a.replies b.replies c.replies x.replies y.replies;
+  pool = begins-then a.pool b.pool c.pool x.pool y.pool;
+  trace = begins-then a.trace b.trace c.trace x.trace y.trace;
+}
+
+pub longer-same : (a : History) → IsLonger a a
+longer-same a = record { events = IsBeginningOf-same a.events; replies = IsBeginningOf-same a.replies; pool = IsBeginningOf-same a.pool; trace = IsBeginningOf-same a.trace }
+
+module _ {S : Type 0} (meaning : Meaning S) where
+  -- ---- at one node
+
+  pub settled-by : (b : Bool) (old new : WorldModel S) (node n : ℕ) → node ≡ n → b ≡ is_some (completing_at old.node_states node) → (b ≡ false → new ≡ old)
+      → ForSome (completing_at old.node_states node) (λ v. Completes meaning node v old new) → ForSome (completing_at old.node_states node) (λ v. IsSettled v new.history.trace) → SettlesAt meaning n old new
+  settled-by b old new node n is answer nothing plays settled = subst (λ (k : ℕ). SettlesAt meaning k old new) is (by (completing_at old.node_states node) refl)
+    where
+      by : (o : Option _) → completing_at old.node_states node ≡ o → MatchOption o (new ≡ old) (λ v. Completes meaning node v old new × IsSettled v new.history.trace)
+      by None e = nothing (answer ∙ ap is_some e)
+      by (Some v) e = (plays v e, settled v e)
+
+  -- ---- a script's run
+
+  -- what is printed of it, all of it or a beginning, is a text of it
+  settled-text : (script : Script) (w : WorldModel S) (ran : Bool) → KeepsRules meaning w → RunsInPart meaning no_world script.events w
+      → (ran ≡ true → RunsAndSettles meaning no_world script.events w) → (s : Status) (t : List ℕ)
+      → IsLinesText (lines_of_run (padded script.lines (length w.history.events)) w.history.replies w.history.trace) ran s t → IsSettledText meaning script s t
+  settled-text script w ran rules some all s t (Printed whole) = All w (all whole) rules
+  settled-text script w ran rules some all s t (Unprinted count) = Part w count some rules
+
+  on-ok : {A E : Type 0} (r : Result A E) (P : Type 0) (b : Bool) → OnOk r P → b ≡ is_ok r → b ≡ true → P
+  on-ok (Ok x) P b p is whole = p
+  on-ok (Err x) P b p is whole = absurd (let bad : true ≡ false = sym whole ∙ is in cc)
+
+  pub settled-played : {A E : Type 0} (script : Script) (lines : List ℕ) (given : List WorldEvent) (old w : WorldModel S) (ran : Bool) (r : Result A E) (a b : Option (List ℕ)) (status : Status)
+      → lines ≡ padded script.lines (length w.history.events) → given ≡ script.events → old ≡ no_world → KeepsRules meaning w → RunsInPart meaning old given w
+      → OnOk r (RunsAndSettles meaning old given w) → ran ≡ is_ok r → Written (IsLinesText (lines_of_run lines w.history.replies w.history.trace) ran) a b status
+      → Written (IsSettledText meaning script) a b status
+  settled-played script lines given old w ran r a b status same all empty rules some whole is written =
+      let at = λ (P : WorldModel S → List WorldEvent → Type 0) (x : P old given). subst (λ (o : WorldModel S). P o script.events) empty (subst (λ (g : List WorldEvent). P old g) all x) in
+      written-as (IsLinesText (lines_of_run (padded script.lines (length w.history.events)) w.history.replies w.history.trace) ran) (IsSettledText meaning script) a b status
+      (settled-text script w ran rules (at (λ o g. RunsInPart meaning o g w) some) (λ to-end. at (λ o g. RunsAndSettles meaning o g w) (on-ok r (RunsAndSettles meaning old given w) ran whole is to-end)))
+      (subst (λ (l : List ℕ). Written (IsLinesText (lines_of_run l w.history.replies w.history.trace) ran) a b status) same written)
+
+  -- it stopped before it was printed
+  pub settled-stopped : (script : Script) (given : List WorldEvent) (old w : WorldModel S) (a b : Option (List ℕ)) (status : Status) → given ≡ script.events → old ≡ no_world → KeepsRules meaning w
+      → RunsInPart meaning old given w → Ends a b memory_line Memory status → Written (IsSettledText meaning script) a b status
+  settled-stopped script given old w a b status all empty rules some e = record {
+    meant = Memory;
+    text = memory_line;
+    says = Part w 0 (subst (λ (o : WorldModel S). RunsInPart meaning o script.events w) empty (subst (λ (g : List WorldEvent). RunsInPart meaning old g w) all some)) rules;
+    ends = e;
+  }

@@ -1,0 +1,64 @@
+-- What a script's run comes to in which the changes of view complete that can, and what is printed of it.
+use Rattle.std.specs.Prelude.{◌≡◌, ℕ, ◌+◌, ◌-◌, zero, suc, List, ◌++◌, length, take, replicate, Option, MatchOption}
+use Rattle.std.specs.List.{concat}
+use Rattle.state_transfer.specs.Meanings.{Meaning}
+use Rattle.trace_props.specs.Places.{EachPlace}
+use Rattle.trace_props.specs.Synchrony.{IsWellOrdered, IsVirtuallySynchronous}
+use Rattle.replicas.specs.Replicas.{ReplicasAgree}
+use Rattle.world_model.specs.Faithful.{IsFaithful}
+use Rattle.world_model.specs.declared.WorldEvent.{WorldEvent}
+use Rattle.world_step.specs.Worlds.{WorldModel, no_world, IsLonger, Runs as WorldRuns}
+use Rattle.settling.specs.Settles.{IsSettled}
+use Rattle.settling.specs.LostInstalls.{completing_at, Completes}
+use Rattle.script_reader.specs.declared.script.Script.{Script}
+use Rattle.script_reader.specs.Script.{as_written}
+use Rattle.vsync_text.specs.Runs.{lines_of_run, text_of_run}
+use Rattle.limits.specs.declared.TheConstants.{GREATEST_NODE}
+use Rattle.endings.specs.declared.status.Status.{Status}
+use Rattle.endings.specs.declared.status.Status.TheVariants.{Done, Memory}
+use Rattle.endings.specs.Outcomes.{IsScriptText, IsAnswer, memory_line}
+
+-- what holds of every world
+pub record KeepsRules {S : Type 0} (meaning : Meaning S) (w : WorldModel S) : Type 0 where
+  pub faithful : IsFaithful w.history
+  pub ordered : EachPlace IsWellOrdered w.history.trace
+  pub synchronous : IsVirtuallySynchronous meaning w.history.trace
+  pub agreeing : EachPlace (ReplicasAgree meaning) w.history.trace
+
+module _ {S : Type 0} (meaning : Meaning S) where
+  -- the change of view of the member at a node completes, if it can: all of the view's members are in it then; else nothing is done
+  abbrev pub SettlesAt : ℕ → WorldModel S → WorldModel S → Type 0
+  SettlesAt n old new = MatchOption (completing_at old.node_states n) (new ≡ old) (λ v. Completes meaning n v old new × IsSettled v new.history.trace)
+
+  -- so at each node from 1 on, one after another
+  pub data SettlesTo (from : WorldModel S) : ℕ → WorldModel S → Type 0 where
+    Nowhere : SettlesTo from zero from
+    More : (n : ℕ) (mid new : WorldModel S) → SettlesTo from n mid → SettlesAt (n + 1) mid new → SettlesTo from (suc n) new
+
+  -- some events, and then at each node
+  pub record RunsAndSettles (old : WorldModel S) (events : List WorldEvent) (new : WorldModel S) : Type 0 where
+    pub mid : WorldModel S
+    pub ran : WorldRuns meaning old events mid
+    pub settles : SettlesTo mid GREATEST_NODE new
+
+  -- the first few of that
+  pub record RunsInPart (old : WorldModel S) (events : List WorldEvent) (new : WorldModel S) : Type 0 where
+    pub mid : WorldModel S
+    pub count : ℕ
+    pub ran : WorldRuns meaning old (take count events) mid
+    pub longer : IsLonger mid.history new.history
+
+-- the line of each event: a settling's have none, and are never refused
+abbrev pub padded : List ℕ → ℕ → List ℕ
+padded lines n = lines ++ replicate (n - length lines) 0
+
+-- the texts of that: all of it; or, where memory was refused outside a member's step, whole lines of a beginning and `# memory`
+pub data IsSettledText {S : Type 0} (meaning : Meaning S) (script : Script) : Status → List ℕ → Type 0 where
+  All : (w : WorldModel S) → RunsAndSettles meaning no_world script.events w → KeepsRules meaning w
+      → IsSettledText meaning script Done (text_of_run (padded script.lines (length w.history.events)) w.history.replies w.history.trace)
+  Part : (w : WorldModel S) (lines : ℕ) → RunsInPart meaning no_world script.events w → KeepsRules meaning w
+      → IsSettledText meaning script Memory (concat (take lines (lines_of_run (padded script.lines (length w.history.events)) w.history.replies w.history.trace)) ++ memory_line)
+
+-- a script is run from a reader, the changes of view complete that can, and what happened is written to a writer
+abbrev pub SettlesScript : {S : Type 0} → Meaning S → Option (List ℕ) → Option (List ℕ) → Option (List ℕ) → Status → Type 0
+SettlesScript meaning left old new status = IsAnswer (IsScriptText as_written (IsSettledText meaning)) left old new status

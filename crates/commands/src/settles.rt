@@ -1,0 +1,87 @@
+//! A script's run after which the changes of view complete that can.
+
+ghost use Rattle.std.specs.Prelude.{◌≡◌, ◌≤◌, length, IfOk, OnOk, OnErr};
+ghost use Rattle.world_step.specs.Worlds.{shown, IsLonger};
+ghost use Rattle.endings.specs.Outcomes.{Written};
+ghost use Rattle.commands.specs.Settled.{KeepsRules, SettlesAt, RunsAndSettles, RunsInPart, padded, IsSettledText, SettlesScript};
+
+use crate::scripts::{print_run, script_from};
+use address::Node;
+use endings::{Status, end_in_memory};
+use script_reader::{AsWritten, Script};
+use state_transfer::Receiver;
+use std::alloc::{AllocError, Global};
+use std::io::{Read, Write};
+use world::World;
+use world_model::WorldEvent;
+
+/// Completes the change of view of the member at the node of a number, if it can.
+fn settle_at<R: Receiver>(world: &mut World<R>, number: u16) -> Result<(), AllocError>
+    requires { 1 ≤ number }
+    ensures ok { OnOk result (SettlesAt R.meaning number (shown world.old) (shown world.new)) }
+    ensures longer { IsLonger world.old.history world.new.history }
+    ensures rules { KeepsRules R.meaning (shown world.old) → KeepsRules R.meaning (shown world.new) }
+{
+    match Node::new(number) {
+        None => Ok(()),
+        Some(node) => {
+            world.settle(node)?;
+            Ok(())
+        }
+    }
+}
+
+/// Carries out events, and then completes the changes of view that can complete, by the node whose member has begun them.
+fn run_and_settle<R: Receiver>(
+    world: &mut World<R>,
+    events: &[WorldEvent],
+) -> Result<(), AllocError>
+    ensures ok { OnOk result (RunsAndSettles R.meaning (shown world.old) events.now (shown world.new)) }
+    ensures some { RunsInPart R.meaning (shown world.old) events.now (shown world.new) }
+    ensures rules { KeepsRules R.meaning (shown world.new) }
+{
+    world.run(events)?;
+    for before in 0..u16::MAX {
+        settle_at(world, before + 1)?;
+    }
+    Ok(())
+}
+
+/// The lines of so many events, the last of which have none.
+fn padded(alloc: Global, lines: &[u64], count: usize) -> Result<Vec<u64>, AllocError>
+    ensures { IfOk result (λ all. all.items ≡ padded lines.now count) }
+{
+    let mut all = Vec::from_slice(alloc, lines)?;
+    for _ in lines.len()..count {
+        all.push(0)?;
+    }
+    Ok(all)
+}
+
+/// Runs a script's events in a world, completes the changes of view that can complete, and writes what happened.
+fn play_settled<R: Receiver, W: Write>(alloc: Global, script: &Script, writer: &mut W) -> Status
+    ensures { Written (IsSettledText R.meaning script.now) (W.contents writer.old) (W.contents writer.new) result }
+{
+    let mut world = World::<R>::new(alloc);
+    let ran = run_and_settle(&mut world, script.events()).is_ok();
+    match padded(alloc, script.lines(), world.events().len()) {
+        Ok(lines) => print_run(alloc, &world, ran, lines.as_slice(), writer),
+        Err(_) => end_in_memory(writer),
+    }
+}
+
+/// Runs a script from a reader in a world whose receivers are `R`; then the change of view completes of each member that has begun one, or whose view others are
+/// not in yet, by node, if it can (docs/GUARANTEES.md, "Views settle"). It writes what happened to a writer, as `run_script` does (docs/FORMATS.md, "Settling a
+/// script"). Answers the exit status. Where memory is refused outside a member's step, and anywhere in a settling, it writes the lines so far and `# memory`.
+pub fn settle_script<R: Receiver, I: Read, W: Write>(
+    alloc: Global,
+    reader: &mut I,
+    writer: &mut W,
+) -> Status
+    ensures { SettlesScript R.meaning (I.remaining reader.old) (W.contents writer.old) (W.contents writer.new) result }
+{
+    match script_from::<AsWritten, I, W>(alloc, reader, writer) {
+        Ok(script) => play_settled::<R, W>(alloc, &script, writer),
+        Err(status) => status,
+    }
+}

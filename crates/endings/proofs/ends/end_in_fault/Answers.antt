@@ -1,0 +1,14 @@
+use Rattle.std.proofs.Common.{◌≡◌, ◌∙◌, ap, sym, subst, List, ℕ}
+use Rattle.script_reader.specs.Script.{fault_number}
+use Rattle.endings.specs.declared.status.Status.TheVariants.{Refused, Memory}
+use Rattle.endings.specs.Outcomes.{IsFaultText, memory_line, fault_line}
+use Rattle.endings.specs.Outcomes.IsFaultText.{Printed, Unprinted}
+use Rattle.endings.proofs.ends.end_in_fault.Goals as goal
+
+pub returns-in-Ok : goal.returns-in-Ok
+returns-in-Ok g c =
+    let line : c.as_bytes.result.now ≡ fault_line c.args.line (fault_number c.args.fault) = c.as_bytes.ensures.value ∙ c.in-Ok.ensures.ok ∙ ap (fault_line c.args.line) c.number-number.ensures in
+    record { meant = Refused; text = _; says = subst (λ (x : List ℕ). IsFaultText c.args.line (fault_number c.args.fault) Refused x) (sym line) Printed; ends = c.end_with.ensures }
+
+pub returns-in-Err : goal.returns-in-Err
+returns-in-Err g c = record { meant = Memory; text = memory_line; says = Unprinted; ends = c.end_in_memory.ensures }

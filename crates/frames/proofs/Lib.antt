@@ -1,0 +1,11 @@
+pub mod AllPieces
+pub mod KeepsCame
+pub mod Lives
+pub mod Logs
+pub mod Opened
+pub mod PiecesCome
+pub mod ReadAsCarried
+pub mod ReadAsPut
+pub mod SendsCarried
+pub mod Shared
+pub mod StayTaken

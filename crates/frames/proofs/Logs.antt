@@ -1,0 +1,64 @@
+-- How the list of a net grows.
+use Rattle.std.proofs.Common.{◌≡◌, ℕ, List, [], ◌∷◌, ◌++◌, take, length, refl, ap, ◌∙◌, Option, Some, None, arith}
+use Rattle.std.specs.Prelude.{slice_get}
+use Rattle.std.proofs.Math.Seq.{take-append_seam}
+use Rattle.std.proofs.lemmas.List.{take_all}
+use Rattle.udp_net.specs.Logs.{Log, NetEvent, Answered, Lists, listing, receiving}
+use Rattle.udp_net.specs.declared.net.Received.TheVariants as received
+use Rattle.frames.specs.Nets.{Grows}
+use Rattle.frames.specs.Arrivals.{GivenIn}
+use Rattle.trace_props.proofs.FactOfPlaces.{slice_get-take, slice_get-last}
+
+pub grows-none : (log : Option Log) → Grows log log
+grows-none None = tt
+grows-none (Some l) = take_all (length l) l (omega arith)
+
+take-more : (o more : Log) → take (length o) (o ++ more) ≡ o
+take-more o more = take-append_seam o more
+
+pub grows-listing : (old new : Option Log) (e : NetEvent) → Lists old (listing e) new → Grows old new
+grows-listing old None e x = tt
+grows-listing None (Some l) e x = x
+grows-listing (Some o) (Some l) e x = rw x (take-more o (e ∷ []))
+
+pub grows-same : (old new : Option Log) → Lists old (λ l. l) new → Grows old new
+grows-same old None x = tt
+grows-same None (Some l) x = x
+grows-same (Some o) (Some l) x = rw x (take_all (length o) o (omega arith))
+
+-- a beginning of a beginning
+take-take : (A : Type 0) (a b c : List A) → take (length a) b ≡ a → take (length b) c ≡ b → take (length a) c ≡ a
+take-take A [] b c x y = refl
+take-take A (h ∷ a) [] c x y = cc
+take-take A (h ∷ a) (k ∷ b) [] x y = cc
+take-take A (h ∷ a) (k ∷ b) (m ∷ c) x y =
+    let front : k ≡ h = cc in
+    let same : m ≡ k = cc in
+    let inner : take (length a) b ≡ a = cc in
+    let outer : take (length b) c ≡ b = cc in
+    let rest : take (length a) c ≡ a = take-take A a b c inner outer in
+    cc
+
+pub grows-on : (one two three : Option Log) → Grows one two → Grows two three → Grows one three
+grows-on one two None x y = tt
+grows-on one None (Some l) x y = absurd y
+grows-on None (Some k) (Some l) x y = absurd x
+grows-on (Some j) (Some k) (Some l) x y = take-take NetEvent j k l x y
+
+-- what came stays among what came
+pub given-on : (o l : Log) (frame : List ℕ) → take (length o) l ≡ o → GivenIn o frame → GivenIn l frame
+given-on o l frame e g = (g.0, slice_get-take (length o) l g.0 (Answered (received.Datagram frame)) (ap (λ (x : Log). slice_get x g.0) e ∙ g.1))
+
+pub given-last : (o l : Log) (frame : List ℕ) → l ≡ receiving (received.Datagram frame) o → GivenIn l frame
+given-last o l frame e = (length o, ap (λ (x : Log). slice_get x (length o)) e ∙ slice_get-last o (Answered (received.Datagram frame)))
+
+-- what a net lists goes on twice
+pub lists-none : (log : Option Log) → Lists log (λ l. l) log
+lists-none None = tt
+lists-none (Some l) = refl
+
+pub lists-on : (one two three : Option Log) (f g : Log → Log) → Lists one f two → Lists two g three → Lists one (λ l. g (f l)) three
+lists-on one two None f g x y = tt
+lists-on one None (Some l) f g x y = absurd y
+lists-on None (Some k) (Some l) f g x y = absurd x
+lists-on (Some j) (Some k) (Some l) f g x y = y ∙ ap g x

@@ -1,0 +1,20 @@
+use Rattle.std.proofs.Common.{◌≡◌, ◌++◌, ◌∙◌, ap, subst, sym}
+use Rattle.frames.specs.Frames.{head_bytes, packed}
+use Rattle.frames.specs.declared.head.Kind.TheVariants.{Packets}
+use Rattle.frames.specs.Outlets.{OutletModel, head_for}
+use Rattle.frames.specs.Sendings.{AreOf}
+use Rattle.frames.proofs.SendsCarried.{flush-adds}
+use Rattle.frames.proofs.outlet.Outlet.flush.Goals as goal
+
+pub returns-clause-sends : goal.returns-clause-sends
+returns-clause-sends g c = λ long sent of.
+    let o : OutletModel = record { node = c.self.inside.node; frames = c.self.inside.frames; longs = c.self.inside.longs; waiting = c.self.inside.waiting.items } in
+    let is : o ≡ c.args.self.now = c.self.view_is in (
+      flush-adds c.args.seal.now long sent o (g.N.Net.log c.args.net.now) (g.N.Net.log c.offer.new.net) c.in_ok-body.body.items
+          (subst (λ (x : OutletModel). c.in_ok-body.body.items ≡ head_bytes (head_for Packets x c.args.seal.now) ++ packed x.waiting) (sym is) c.in_ok-body.ensures.items)
+          c.self.invariant.0 (subst (λ (x : OutletModel). AreOf sent x.waiting) (sym is) of) c.offer.ensures.lists,
+      subst (AreOf sent) (sym (c.offer.ensures.waiting ∙ c.clear.ensures.items)) tt,
+    )
+
+pub returns-clause-longs : goal.returns-clause-longs
+returns-clause-longs g c = c.offer.ensures.longs ∙ ap (λ (x : OutletModel). x.longs) c.self.view_is

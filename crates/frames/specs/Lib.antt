@@ -1,0 +1,12 @@
+pub mod Frames
+pub mod Windows
+pub mod Taken
+pub mod Sendings
+pub mod Partials
+pub mod Outlets
+pub mod Longs
+pub mod Arrivals
+pub mod Carried
+pub mod Openers
+pub mod Nets
+pub mod Lives

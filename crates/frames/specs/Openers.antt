@@ -1,0 +1,54 @@
+-- What is known of long packets of which some pieces came, and of what was opened.
+use Rattle.std.specs.Prelude.{◌≡◌, ℕ, List, [], ◌∷◌, length, take, nat_le, Option, None, Some, if◌then◌else◌}
+use Rattle.std.specs.List.{AllByRecursion}
+use Rattle.udp_net.specs.Logs.{Log}
+use Rattle.frames.specs.declared.opener.Opener.{Opener}
+use Rattle.frames.specs.declared.partial.Partial.{Partial}
+use Rattle.frames.specs.declared.head.Head.{Head}
+use Rattle.frames.specs.Frames.{Opens}
+use Rattle.frames.specs.Taken.{WasTaken}
+use Rattle.frames.specs.Arrivals.{Arrived, ArrivedPiece, GivenIn, PiecesCame}
+use Rattle.frames.specs.Partials.{PieceModel}
+
+-- each piece of a packet that is there came, by a net's list
+abbrev pub IsPartOf : Log → List ℕ → ℕ → Partial → Type 0
+IsPartOf l key node p = PiecesCame (GivenIn l) key node p.boot p.number (length p.pieces.items) 0 p.pieces.items
+
+abbrev pub AreParts : Log → List ℕ → ℕ → List Partial → Type 0
+AreParts l key node partials = AllByRecursion (IsPartOf l key node) partials
+
+-- a piece came from a start
+abbrev pub ComesIn : Log → List ℕ → ℕ → List ℕ → PieceModel → Type 0
+ComesIn l key node boot piece = ArrivedPiece (GivenIn l) key node boot piece.number piece.count piece.index piece.bytes
+
+-- a piece of a start is one of this packet
+pub record IsPartialOf (boot : List ℕ) (piece : PieceModel) (p : Partial) : Type 0 where
+  pub boot_is : p.boot ≡ boot
+  pub number : p.number ≡ piece.number
+  pub count : length p.pieces.items ≡ piece.count
+
+-- each packet that was opened came
+abbrev pub AllArrived : Log → List ℕ → ℕ → List (List ℕ) → Type 0
+AllArrived l key node opened = AllByRecursion (Arrived (GivenIn l) key node) opened
+
+-- all that is kept came, by a net's list
+abbrev pub Stands : Log → List ℕ → Opener → Type 0
+Stands l key o = AreParts l key o.node o.partials × AllArrived l key o.node o.opened.items
+
+-- a frame was opened: by a list in which it came all that is kept came, if it did before
+abbrev pub OpensTo : List ℕ → List ℕ → Opener → Opener → Type 0
+OpensTo key frame old new = (l : Log) → GivenIn l frame → Stands l key old → Stands l key new
+
+-- the first packet that was opened is given; one that is longer than the buffer is given as an empty one
+abbrev pub Gives : List (List ℕ) → Option ℕ → List ℕ → List (List ℕ) → Type 0
+Gives old None buffer new = (old ≡ []) × (new ≡ [])
+Gives [] (Some n) buffer new = ⊥
+Gives (p ∷ rest) (Some n) buffer new = (new ≡ rest) × (take n buffer ≡ (if nat_le (length p) (length buffer) then p else []))
+
+-- a frame is opened whose counter was not taken before of its boot id, and is taken then
+pub record OpensOnce (key frame : List ℕ) (old new : Opener) : Type 0 where
+  pub head : Head
+  pub content : List ℕ
+  pub opens : Opens key old.node frame head content
+  pub fresh : WasTaken head.boot head.counter old.peers.peers.items → ⊥
+  pub taken : WasTaken head.boot head.counter new.peers.peers.items

@@ -1,0 +1,119 @@
+//! What is opened of the frames that come.
+
+ghost use Rattle.std.specs.Prelude.{◌≡◌, ◌≤◌, ℕ, List, length, true, IfOk, IfSome};
+ghost use Rattle.udp_net.specs.Logs.{Log};
+ghost use Rattle.frames.specs.Arrivals.{GivenIn};
+ghost use Rattle.frames.specs.Frames.{Opens};
+ghost use Rattle.frames.specs.Openers.{Gives, OpensOnce, OpensTo, Stands};
+ghost use Rattle.frames.specs.Taken.{StayTaken};
+ghost use Rattle.frames.specs.declared.head.Head.{Head as HeadValue};
+ghost use Rattle.frames.specs.declared.head.Kind.TheVariants.{Packets, Piece};
+
+use crate::BOOT;
+use crate::content::read_packets;
+use crate::head::Kind;
+use crate::partial::{Partials, piece_of};
+use crate::peers::Peers;
+use crate::seal::open;
+use address::Node;
+use hmac::Key;
+use std::alloc::{AllocError, Global};
+use std::collections::VecDeque;
+use trace_props::Bytes;
+
+/// The frames that came for a node: who sent them, the long packets of which some pieces came, and the packets that were opened and not given yet.
+#[derive(Drop)]
+pub(crate) struct Opener {
+    alloc: Global,
+    node: Node,
+    peers: Peers,
+    partials: Partials,
+    opened: VecDeque<Bytes>,
+}
+
+impl Opener {
+    /// Nothing came for a node. Takes no memory.
+    pub(crate) fn new(alloc: Global, node: Node) -> Opener
+        ensures stands { (l : Log) (key : List ℕ) → Stands l key result }
+        ensures node { result.node ≡ node }
+    {
+        Opener {
+            alloc,
+            node,
+            peers: Peers::new(alloc),
+            partials: Partials::new(alloc),
+            opened: VecDeque::new(alloc),
+        }
+    }
+
+    // Opens a content of packets; answers whether it is one.
+    fn open_packets(&mut self, content: &[u8]) -> Result<bool, AllocError>
+        ensures stands { (l : Log) (key frame : List ℕ) (h : HeadValue) → GivenIn l frame → Opens key self.old.node frame h content.now → h.kind ≡ Packets
+            → Stands l key self.old → Stands l key self.new }
+        ensures node { self.new.node ≡ self.old.node }
+        ensures peers { self.new.peers ≡ self.old.peers }
+    {
+        let mut packets = VecDeque::new(self.alloc);
+        let mut last = Vec::new(self.alloc);
+        if !read_packets(self.alloc, &mut last, content, &mut packets)? {
+            return Ok(false);
+        }
+        self.opened = packets;
+        Ok(true)
+    }
+
+    // Opens a content that is a piece; answers whether it is one.
+    fn open_piece(&mut self, boot: &[u8; BOOT], content: &[u8]) -> Result<bool, AllocError>
+        ensures stands { (l : Log) (key frame : List ℕ) (h : HeadValue) → GivenIn l frame → Opens key self.old.node frame h content.now → h.kind ≡ Piece → h.boot ≡ boot.now
+            → Stands l key self.old → Stands l key self.new }
+        ensures node { self.new.node ≡ self.old.node }
+        ensures peers { self.new.peers ≡ self.old.peers }
+    {
+        let Some(piece) = piece_of(content) else {
+            return Ok(false);
+        };
+        if let Some(packet) = self.partials.take(boot, &piece)? {
+            self.opened.push_back(packet)?;
+        }
+        Ok(true)
+    }
+
+    /// Opens a frame, and answers whether it is one of the group for this node that did not come before.
+    pub(crate) fn open(&mut self, key: &Key, frame: &[u8]) -> Result<bool, AllocError>
+        ensures stands { OpensTo key.now frame.now self.old self.new }
+        ensures once { IfOk result (λ good. good ≡ true → OpensOnce key.now frame.now self.old self.new) }
+        ensures node { self.new.node ≡ self.old.node }
+        ensures stay { StayTaken self.old.peers.peers.items self.new.peers.peers.items }
+    {
+        let Some((head, content)) = open(key, self.node, frame) else {
+            return Ok(false);
+        };
+        if !self.peers.take(&head.boot, head.counter)? {
+            return Ok(false);
+        }
+        match head.kind {
+            Kind::Packets => self.open_packets(content),
+            Kind::Piece => self.open_piece(&head.boot, content),
+        }
+    }
+
+    /// Whether nothing was opened that was not given.
+    pub(crate) fn is_empty(&self) -> bool {
+        self.opened.is_empty()
+    }
+
+    /// Gives the first packet that was opened, where the buffer has room for it; one that is longer is lost.
+    pub(crate) fn give(&mut self, buffer: &mut [u8]) -> Option<usize>
+        ensures within { IfSome result (λ n. n ≤ length buffer.new) }
+        ensures gives { Gives self.old.opened.items result buffer.new self.new.opened.items }
+        ensures others { self.new ≡ record self.old { opened = self.new.opened } }
+    {
+        let packet = self.opened.pop_front()?;
+        let bytes = packet.as_slice();
+        if buffer.len() < bytes.len() {
+            return Some(0);
+        }
+        buffer[..bytes.len()].copy_from_slice(bytes);
+        Some(bytes.len())
+    }
+}

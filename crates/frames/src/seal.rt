@@ -1,0 +1,45 @@
+//! Frames sealed and opened.
+
+ghost use Rattle.std.specs.Prelude.{◌≡◌, ◌≤◌, ◌++◌, ◌+◌, length, vec_len, vec_capacity, IfSome};
+ghost use Rattle.frames.specs.Frames.{sealed, IsHeadOf, Opens};
+
+use crate::TAG;
+use crate::head::{Head, head_of};
+use address::Node;
+use big_endian::put;
+use hmac::Key;
+
+// Puts the tag of a body behind it.
+pub(crate) fn seal(key: &Key, body: &mut Vec<u8>)
+    requires { vec_len body.old + 16 ≤ vec_capacity body.old }
+    ensures { body.new.items ≡ sealed key.now body.old.items }
+{
+    let tag = key.tag(body.as_slice());
+    put(&tag[..TAG], body);
+}
+
+// The body of a frame, where its tag is right.
+fn body_of<'a>(key: &Key, frame: &'a [u8]) -> Option<&'a [u8]>
+    ensures { IfSome result (λ body. frame.now ≡ sealed key.now body.now) }
+{
+    if frame.len() < TAG {
+        return None;
+    }
+    let (body, tag) = frame.split_at(frame.len() - TAG);
+    if !key.verifies(body, tag) {
+        return None;
+    }
+    Some(body)
+}
+
+// The head and the content of a frame for a node, where its tag is right.
+pub(crate) fn open<'a>(key: &Key, node: Node, frame: &'a [u8]) -> Option<(Head, &'a [u8])>
+    ensures { IfSome result (λ x. Opens key.now node frame.now x.0 x.1.now) }
+{
+    let body = body_of(key, frame)?;
+    let head = head_of(body)?;
+    if head.to != node {
+        return None;
+    }
+    Some((head, &body[28..]))
+}

@@ -1,0 +1,90 @@
+//! The sockets of a desk: where it listens, and what is ready.
+
+use mio::net::{TcpListener, TcpStream};
+use mio::{Events, Interest, Poll, Token};
+use std::alloc::Global;
+use std::io;
+use std::io::Write;
+use std::net::{Net, SocketAddr};
+use std::os::fd::{AsRawFd, RawFd};
+use std::time::Duration;
+
+/// The token of the socket that listens.
+const LISTENER: usize = 0;
+
+/// The first token of a connection.
+const FIRST: usize = 1;
+
+/// How many events are taken at once.
+const EVENTS: usize = 128;
+
+/// What one too many is told.
+const TOO_MANY: &[u8] =
+    b"HTTP/1.1 503 Service Unavailable\r\nconnection: close\r\nretry-after: 1\r\ncontent-length: 0\r\n\r\n";
+
+/// The socket that listens, and the wait for it and for all connections.
+#[derive(Drop)]
+pub(crate) struct Door {
+    poll: Poll,
+    events: Events,
+    listener: TcpListener,
+    next: usize,
+    /// Whether somebody may stand before it.
+    pub(crate) has_callers: bool,
+}
+
+impl Door {
+    pub(crate) fn bind<R: Net>(alloc: Global, rt: &R, at: SocketAddr) -> io::Result<Door> {
+        let poll = Poll::new(rt)?;
+        let mut listener = TcpListener::bind(rt, at)?;
+        poll.registry()
+            .register(&mut listener, Token(LISTENER), Interest::READABLE)?;
+        Ok(Door {
+            poll,
+            events: Events::with_capacity(alloc, EVENTS)?,
+            listener,
+            next: FIRST,
+            has_callers: true,
+        })
+    }
+
+    /// What is readable when somebody is ready.
+    pub(crate) fn descriptor(&self) -> RawFd {
+        self.poll.as_raw_fd()
+    }
+
+    /// Which connections are ready. It does not wait.
+    pub(crate) fn look(&mut self, alloc: Global) -> io::Result<Vec<usize>> {
+        self.poll.poll(&mut self.events, Some(Duration::ZERO))?;
+        let mut ready = Vec::new(alloc);
+        for event in self.events.iter() {
+            match event.token().0 {
+                LISTENER => self.has_callers = true,
+                id => ready.push(id)?,
+            }
+        }
+        Ok(ready)
+    }
+
+    /// The next connection, and its id.
+    pub(crate) fn accept(&mut self) -> Option<(usize, TcpStream)> {
+        let Ok((mut stream, _from)) = self.listener.accept() else {
+            self.has_callers = false;
+            return None;
+        };
+        let id = self.next;
+        self.next = if id == usize::MAX { FIRST } else { id + 1 };
+        let _ = stream.set_nodelay(true);
+        let both = Interest::READABLE | Interest::WRITABLE;
+        let registered = self.poll.registry().register(&mut stream, Token(id), both);
+        match registered {
+            Ok(()) => Some((id, stream)),
+            Err(_) => None,
+        }
+    }
+
+    /// Tells a connection that it is one too many.
+    pub(crate) fn turn_away(&mut self, mut stream: TcpStream) {
+        let _ = stream.write(TOO_MANY);
+    }
+}

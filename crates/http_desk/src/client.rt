@@ -1,0 +1,262 @@
+//! A connection. Its requests are read ahead by one `Connection`, and answered by another one that is given the same bytes: what the second one sends are answers to
+//! the requests that came, whatever the first one makes of them.
+
+use crate::history::Tag;
+use crate::kept::Keeps;
+use crate::reply::Reply;
+use crate::request::Asked;
+use crate::services::{Giving, Noting};
+use http_server::{Config, Connection};
+use mio::net::TcpStream;
+use std::alloc::{AllocError, Global};
+use std::hash::RandomState;
+use std::io;
+use std::io::{ErrorKind, Read};
+use std::time::Duration;
+
+/// The most bytes of a request's body.
+const BODY: usize = 65_536;
+
+/// The most bytes that are read at once.
+const READ: usize = 8_192;
+
+/// How many steps a connection has before others have theirs.
+const STEPS: u32 = 16;
+
+/// How far a connection went.
+#[derive(Clone, Copy, Debug, PartialEq, Eq)]
+pub(crate) enum Step {
+    /// It asks something, and waits for its answer.
+    Asks,
+    /// It waits for its peer.
+    Rests,
+    /// It has more to do at once.
+    More,
+    /// It is over.
+    Over,
+}
+
+/// What a connection waits for.
+#[derive(Drop)]
+pub(crate) enum Hold {
+    /// Nothing.
+    Nothing,
+    /// The answer for a ticket: for a lock until the first of these times, and at most until the second.
+    Ticket {
+        ticket: u64,
+        until: Duration,
+        end: Duration,
+    },
+    /// That all members of a view have delivered what stands up to a place; then it is given an answer.
+    Stable {
+        at: Tag,
+        reply: Reply,
+    },
+    /// That something changes behind the place that a text names, at most until this time.
+    Change {
+        after: Vec<u8>,
+        until: Duration,
+    },
+}
+
+/// A connection, and what its peer waits for.
+#[derive(Drop)]
+pub(crate) struct Client {
+    alloc: Global,
+    keeps: Keeps,
+    pub(crate) id: usize,
+    stream: TcpStream,
+    ahead: Connection,
+    server: Connection,
+    /// What its peer asked, until that is answered.
+    pub(crate) asked: Option<Asked>,
+    /// What its peer waits for.
+    pub(crate) hold: Hold,
+    /// Whether there may be something to do for it.
+    pub(crate) is_due: bool,
+    // Whether a read may find something.
+    is_readable: bool,
+    /// When something was last read.
+    pub(crate) heard: Duration,
+    buffer: Vec<u8>,
+}
+
+fn config() -> Config {
+    let mut config = Config::default();
+    config.max_body_len = BODY;
+    config.max_pending = 0;
+    config
+}
+
+// What the reader ahead puts out is never sent.
+fn drop_output(ahead: &mut Connection) {
+    for _ in 0..STEPS {
+        let count = ahead.output().len();
+        if count == 0 {
+            return;
+        }
+        ahead.sent(count);
+    }
+}
+
+impl Client {
+    pub(crate) fn new(
+        alloc: Global,
+        keys: RandomState,
+        keeps: Keeps,
+        id: usize,
+        stream: TcpStream,
+        now: Duration,
+    ) -> Result<Client, AllocError> {
+        Ok(Client {
+            alloc,
+            keeps,
+            id,
+            stream,
+            ahead: Connection::new(alloc, keys, config()),
+            server: Connection::new(alloc, keys, config()),
+            asked: None,
+            hold: Hold::Nothing,
+            is_due: true,
+            is_readable: true,
+            heard: now,
+            buffer: vec![in alloc; 0; READ]?,
+        })
+    }
+
+    /// Its socket is ready for something.
+    pub(crate) fn wake(&mut self) {
+        self.is_due = true;
+        self.is_readable = true;
+    }
+
+    // Writes what waits; answers whether all of it went.
+    fn flush(&mut self) -> io::Result<bool> {
+        for _ in 0..STEPS {
+            if !self.server.wants_write() {
+                return Ok(true);
+            }
+            match self.server.write_to(&mut self.stream) {
+                Ok(0) => return Err(ErrorKind::WriteZero.into()),
+                Ok(_) => (),
+                Err(error) if error.kind() == ErrorKind::WouldBlock => return Ok(false),
+                Err(error) => return Err(error),
+            }
+        }
+        Ok(false)
+    }
+
+    // Gives both the bytes that came.
+    fn take(&mut self, count: usize) -> io::Result<()> {
+        let Some(came) = self.buffer.as_slice().get(..count) else {
+            return Err(ErrorKind::InvalidData.into());
+        };
+        let mut first = came;
+        let mut second = came;
+        let ahead = self.ahead.read_from(&mut first)?;
+        let served = self.server.read_from(&mut second)?;
+        if ahead != count || served != count {
+            return Err(ErrorKind::InvalidData.into());
+        }
+        Ok(())
+    }
+
+    // Reads once; answers whether anything came.
+    fn read(&mut self, now: Duration) -> io::Result<bool> {
+        if !self.is_readable || !self.ahead.wants_read() || !self.server.wants_read() {
+            return Ok(false);
+        }
+        match self.stream.read(self.buffer.as_mut_slice()) {
+            Ok(count) => {
+                self.heard = now;
+                self.take(count)?;
+                Ok(true)
+            }
+            Err(error) if error.kind() == ErrorKind::WouldBlock => {
+                self.is_readable = false;
+                Ok(false)
+            }
+            Err(error) => Err(error),
+        }
+    }
+
+    // Reads the next request ahead, and answers whether it is whole.
+    fn reads_ahead(&mut self) -> bool {
+        drop_output(&mut self.ahead);
+        let mut noting = Noting {
+            alloc: self.alloc,
+            keeps: self.keeps,
+            asked: None,
+        };
+        self.ahead.advance(&mut noting);
+        self.asked = noting.asked;
+        self.asked.is_some()
+    }
+
+    // One step; `None` if it goes on.
+    fn step(&mut self, now: Duration) -> io::Result<Option<Step>> {
+        if !self.flush()? {
+            return Ok(Some(Step::Rests));
+        }
+        if self.server.is_done() {
+            return Ok(Some(Step::Over));
+        }
+        if self.reads_ahead() {
+            return Ok(Some(Step::Asks));
+        }
+        self.advance(None);
+        if self.server.wants_write() || self.server.is_done() {
+            return Ok(None);
+        }
+        if self.read(now)? {
+            return Ok(None);
+        }
+        Ok(Some(Step::Rests))
+    }
+
+    // The connection itself refuses what is no request.
+    fn advance(&mut self, found: Option<(Asked, Reply)>) {
+        let mut giving = Giving {
+            alloc: self.alloc,
+            keeps: self.keeps,
+            found,
+        };
+        self.server.advance(&mut giving);
+    }
+
+    /// Goes on until it asks something, or rests, or is over.
+    pub(crate) fn go_on(&mut self, now: Duration) -> Step {
+        for _ in 0..STEPS {
+            match self.step(now) {
+                Ok(Some(step)) => return step,
+                Ok(None) => (),
+                Err(_) => return Step::Over,
+            }
+        }
+        Step::More
+    }
+
+    /// Whether it waits for something.
+    pub(crate) fn is_held(&self) -> bool {
+        match self.hold {
+            Hold::Nothing => false,
+            _ => true,
+        }
+    }
+
+    /// The ticket for whose answer it waits.
+    pub(crate) fn ticket(&self) -> Option<u64> {
+        match &self.hold {
+            Hold::Ticket { ticket, .. } => Some(*ticket),
+            _ => None,
+        }
+    }
+
+    /// Is given the answer to what it asked, which `go_on` sends.
+    pub(crate) fn give(&mut self, reply: Reply) {
+        self.hold = Hold::Nothing;
+        if let Some(asked) = self.asked.take() {
+            self.advance(Some((asked, reply)));
+        }
+    }
+}

@@ -1,0 +1,141 @@
+//! What a desk knows of its node beside what the node keeps.
+
+use crate::history::Tag;
+use address::{Address, ViewId};
+use std::alloc::{AllocError, Global};
+use std::time::Duration;
+use trace_props::{Event, Install};
+use view::Addresses;
+
+/// What happened at the node so far, and how it stands.
+#[derive(Debug, Drop)]
+pub(crate) struct Counts {
+    alloc: Global,
+    own: Address,
+    /// The view that its member installed last, and how many messages it delivered there.
+    pub(crate) view: Option<ViewId>,
+    pub(crate) place: u64,
+    pub(crate) members: Addresses,
+    /// Since when its member is blocked.
+    pub(crate) blocked: Option<Duration>,
+    pub(crate) sent: u64,
+    pub(crate) delivered: u64,
+    pub(crate) views: u64,
+    /// The views to which members came that were not in the one before.
+    pub(crate) merges: u64,
+    /// The members that a view lacked which the one before had: they left, or were suspected.
+    pub(crate) lost: u64,
+    /// The last incarnation of each node that was in a view.
+    pub(crate) seen: Vec<Address>,
+    pub(crate) requests: u64,
+    /// How many requests were carried out as messages.
+    pub(crate) writes: u64,
+}
+
+impl Counts {
+    pub(crate) fn new(alloc: Global, own: Address) -> Counts {
+        Counts {
+            alloc,
+            own,
+            view: None,
+            place: 0,
+            members: Addresses::from_vec(Vec::new(alloc)),
+            blocked: None,
+            sent: 0,
+            delivered: 0,
+            views: 0,
+            merges: 0,
+            lost: 0,
+            seen: Vec::new(alloc),
+            requests: 0,
+            writes: 0,
+        }
+    }
+
+    /// The place where its member is, if it is in a view.
+    pub(crate) fn at(&self) -> Option<Tag> {
+        let view = self.view?;
+        let place = self.place;
+        Some(Tag { view, place })
+    }
+
+    // Notes the incarnation of a node.
+    fn see(&mut self, address: Address) -> Result<(), AllocError> {
+        for known in self.seen.iter_mut() {
+            if known.node() == address.node() {
+                if known.incarnation() < address.incarnation() {
+                    *known = address;
+                }
+                return Ok(());
+            }
+        }
+        self.seen.push(address)?;
+        Ok(())
+    }
+
+    // Its member installed a view.
+    fn install(&mut self, install: &Install) -> Result<(), AllocError> {
+        let members = install.view.members().copied(self.alloc)?;
+        for member in members.as_slice() {
+            self.see(*member)?;
+        }
+        let before = self.members.as_slice();
+        let after = members.as_slice();
+        if !before.is_empty() {
+            let came = after.iter().any(|member| !before.contains(member));
+            self.merges = self.merges.saturating_add(u64::from(came));
+            let gone = before
+                .iter()
+                .filter(|member| !after.contains(*member))
+                .count();
+            self.lost = self.lost.saturating_add(gone as u64);
+        }
+        self.members = members;
+        self.view = Some(install.view.id());
+        self.place = 0;
+        self.views = self.views.saturating_add(1);
+        self.blocked = None;
+        Ok(())
+    }
+
+    /// What happened next; events of other members leave it as it is.
+    pub(crate) fn hear(&mut self, event: &Event, now: Duration) -> Result<(), AllocError> {
+        match event {
+            Event::Sent(sending) if sending.member == self.own => {
+                self.sent = self.sent.saturating_add(1);
+            }
+            Event::Delivered(delivery) if delivery.member == self.own => {
+                self.delivered = self.delivered.saturating_add(1);
+                self.place = self.place.saturating_add(1);
+            }
+            Event::Blocked(member) if *member == self.own => self.blocked = Some(now),
+            Event::Installed(install) => {
+                let install = install.get();
+                if install.member == self.own {
+                    self.install(install)?;
+                }
+            }
+            _ => (),
+        }
+        Ok(())
+    }
+
+    /// Another member of its node is there now: in no view yet.
+    pub(crate) fn begin_again(&mut self, own: Address) {
+        self.own = own;
+        self.view = None;
+        self.place = 0;
+        self.members = Addresses::from_vec(Vec::new(self.alloc));
+        self.blocked = None;
+    }
+
+    /// A request came.
+    pub(crate) fn ask(&mut self) {
+        self.requests = self.requests.saturating_add(1);
+    }
+
+    /// A request was carried out as a message.
+    pub(crate) fn write(&mut self) {
+        self.writes = self.writes.saturating_add(1);
+    }
+}

@@ -1,0 +1,401 @@
+use crate::accepting::Door;
+use crate::changes::Changes;
+use crate::client::Client;
+use crate::counts::Counts;
+use crate::history::{History, Tag, member_of};
+use crate::kept::{Keeps, Kept};
+use crate::known::Known;
+use crate::reply::Reply;
+use crate::request::Order;
+use crate::standing::Standing;
+use crate::writes::{Write, Writes};
+use crate::{CLIENTS, PATIENCE};
+use address::{Address, ViewId};
+use http::StatusCode;
+use replicated_map::{Command, ReplicatedMap};
+use std::alloc::{AllocError, Global};
+use std::collections::VecDeque;
+use std::hash::RandomState;
+use std::io;
+use std::net::{Net, SocketAddr};
+use std::os::fd::RawFd;
+use std::random::RandomSource;
+use std::time::Duration;
+use tokens::Token;
+use trace_props::{Delivery, Event};
+
+/// How many connections are accepted before others have their turn.
+const ACCEPTS: u32 = 16;
+
+/// Answers requests of HTTP for a node (docs/HTTP.md).
+#[derive(Drop)]
+pub struct HttpDesk {
+    pub(crate) alloc: Global,
+    pub(crate) own: Address,
+    // Whether its node says again by itself what a view hands back.
+    says_again: bool,
+    door: Door,
+    keys: RandomState,
+    pub(crate) clients: VecDeque<Client>,
+    pub(crate) kept: Kept,
+    pub(crate) changes: Changes,
+    pub(crate) history: History,
+    pub(crate) counts: Counts,
+    pub(crate) writes: Writes,
+    // The view of which it was told last how many messages are stable, and how many.
+    stable: Option<(ViewId, u64)>,
+    // Answers that their connections have not taken: by their tickets, each perhaps only once all members have delivered what stands up to a place.
+    pub(crate) replies: Vec<(u64, Reply, Option<Tag>)>,
+    tickets: u64,
+    pub(crate) has_ended: bool,
+    has_more: bool,
+    pub(crate) now: Duration,
+}
+
+// The keys that a message may change.
+#[derive(Drop)]
+enum Touched {
+    Nothing,
+    Key(Vec<u8>, Option<Token>),
+    All,
+}
+
+// The version of what a key has.
+fn version_of(map: &ReplicatedMap, key: &[u8]) -> Option<Token> {
+    match map.get(key) {
+        Some(held) => Some(held.version),
+        None => None,
+    }
+}
+
+impl HttpDesk {
+    /// The desk of a node that keeps this and whose member has this address, by whether the node says again by itself what a view hands back. It listens at a socket address.
+    pub fn bind<R: Net + RandomSource>(
+        alloc: Global,
+        rt: &R,
+        keeps: Keeps,
+        own: Address,
+        says_again: bool,
+        at: SocketAddr,
+    ) -> io::Result<HttpDesk> {
+        Ok(HttpDesk {
+            alloc,
+            own,
+            says_again,
+            door: Door::bind(alloc, rt, at)?,
+            keys: RandomState::new(rt)?,
+            clients: VecDeque::new(alloc),
+            kept: Kept::new(alloc, keeps, own)?,
+            changes: Changes::new(alloc),
+            history: History::new(alloc),
+            counts: Counts::new(alloc, own),
+            writes: Writes::new(alloc),
+            stable: None,
+            replies: Vec::new(alloc),
+            tickets: 0,
+            has_ended: false,
+            has_more: true,
+            now: Duration::ZERO,
+        })
+    }
+
+    /// What is readable when a connection is ready, for who waits for it beside others.
+    pub fn descriptor(&self) -> RawFd {
+        self.door.descriptor()
+    }
+
+    // Which connections are ready.
+    fn look(&mut self) {
+        let Ok(ready) = self.door.look(self.alloc) else {
+            return;
+        };
+        for client in self.clients.iter_mut() {
+            if ready.as_slice().contains(&client.id) {
+                client.wake();
+            }
+        }
+    }
+
+    // What a message may change in the map.
+    fn touched(&self, delivery: &Delivery) -> Result<Touched, AllocError> {
+        let Kept::Map(service) = &self.kept else {
+            return Ok(Touched::Nothing);
+        };
+        let Some(command) = Command::decode(delivery.message.payload.as_slice()) else {
+            return Ok(Touched::Nothing);
+        };
+        let key = match &command {
+            Command::Put { key, .. } => key.as_slice(),
+            Command::Replace { key, .. } => key.as_slice(),
+            Command::Remove(key) => key.as_slice(),
+            Command::ReplaceAt { key, .. } => key.as_slice(),
+            Command::RemoveAt { key, .. } => key.as_slice(),
+            Command::Clear => return Ok(Touched::All),
+        };
+        let before = version_of(service.copy(), key);
+        Ok(Touched::Key(Vec::from_slice(self.alloc, key)?, before))
+    }
+
+    // Notes what a message changed in the map.
+    fn note_change(&mut self, touched: Touched) -> Result<(), AllocError> {
+        let Some(at) = self.counts.at() else {
+            return Ok(());
+        };
+        let Kept::Map(service) = &self.kept else {
+            return Ok(());
+        };
+        match touched {
+            Touched::Nothing => (),
+            Touched::Key(key, before) => {
+                if version_of(service.copy(), key.as_slice()) != before {
+                    self.changes.note(at, key)?;
+                }
+            }
+            Touched::All => self.changes.begin(at),
+        }
+        Ok(())
+    }
+
+    // What its member does next.
+    fn hear_own(&mut self, event: &Event) -> Result<(), AllocError> {
+        let touched = match event {
+            Event::Delivered(delivery) => self.touched(delivery)?,
+            _ => Touched::Nothing,
+        };
+        self.history.hear(event)?;
+        self.counts.hear(event, self.now)?;
+        self.kept.hear(event)?;
+        if let Event::Installed(install) = event {
+            let is_given = install.get().given.is_some();
+            if is_given || self.changes.last().is_none() {
+                if let Some(at) = self.counts.at() {
+                    self.changes.begin(at);
+                }
+            }
+        }
+        self.note_change(touched)
+    }
+
+    /// What happened next at the node. It may begin again with another member.
+    pub fn hear(&mut self, event: &Event) -> Result<(), AllocError> {
+        let member = member_of(event);
+        if member != self.own {
+            self.begin_again(member)?;
+        }
+        if let Event::Sent(sending) = event {
+            let said = self
+                .kept
+                .said(self.alloc, sending.message.payload.as_slice())?;
+            if let Some(ticket) = self.writes.sent(said.as_slice())? {
+                self.kept.note(sending.message.number, ticket)?;
+            }
+        }
+        self.hear_own(event)
+    }
+
+    /// How many messages of a view are stable, as far as the node knows.
+    pub fn learn(&mut self, view: ViewId, stable: u64) {
+        self.stable = Some((view, stable));
+    }
+
+    // Another member of its node is there now.
+    fn begin_again(&mut self, member: Address) -> Result<(), AllocError> {
+        self.own = member;
+        self.kept = Kept::new(self.alloc, self.kept.keeps(), member)?;
+        self.changes = Changes::new(self.alloc);
+        self.counts.begin_again(member);
+        self.writes.begin_again()
+    }
+
+    /// The member has ended: all who wait are answered 503, and so is each write from now on.
+    pub fn end(&mut self) -> Result<(), AllocError> {
+        self.has_ended = true;
+        let tickets = self.writes.give_up(self.alloc)?;
+        self.refuse_all(tickets.as_slice())
+    }
+
+    /// Appends the lines that the node is to send next, each with a line feed.
+    pub fn tell(&mut self, text: &mut Vec<u8>) -> Result<(), AllocError> {
+        self.writes.tell(text)
+    }
+
+    /// Whether there is something to do at once: a line to send, or an answer to give.
+    pub fn is_due(&self) -> bool {
+        self.has_more || self.writes.has_line() || self.kept.has_answers()
+    }
+
+    // The answer of a ticket is there.
+    fn answer(&mut self, ticket: u64, reply: Reply, at: Option<Tag>) -> Result<(), AllocError> {
+        self.replies.push((ticket, reply, at))?;
+        Ok(())
+    }
+
+    fn refuse(&mut self, ticket: u64) -> Result<(), AllocError> {
+        self.answer(
+            ticket,
+            Reply::plain(self.alloc, StatusCode::SERVICE_UNAVAILABLE)?,
+            None,
+        )
+    }
+
+    fn refuse_all(&mut self, tickets: &[u64]) -> Result<(), AllocError> {
+        for ticket in tickets {
+            self.refuse(*ticket)?;
+        }
+        Ok(())
+    }
+
+    // A write came back with its view: it is sent again, once, at this index among those that are to be sent. Answers whether it is.
+    fn take_back(
+        &mut self,
+        write: Option<Write>,
+        ticket: u64,
+        index: usize,
+    ) -> Result<bool, AllocError> {
+        match write {
+            Some(write) if !write.is_again => {
+                self.writes.send_again(write, index, self.says_again)?;
+                Ok(true)
+            }
+            _ => {
+                self.refuse(ticket)?;
+                Ok(false)
+            }
+        }
+    }
+
+    // What a write came to is known, at a place: it is answered at once, or once all members have delivered it.
+    fn settle_at(
+        &mut self,
+        ticket: u64,
+        at: Tag,
+        reply: Reply,
+        write: &Option<Write>,
+    ) -> Result<(), AllocError> {
+        let reply = reply.at(self.alloc, &at)?;
+        let is_done = reply.status == StatusCode::OK;
+        match write {
+            Some(write) if is_done && write.is_stable => self.answer(ticket, reply, Some(at)),
+            _ => self.answer(ticket, reply, None),
+        }
+    }
+
+    // What became of a write is known. Answers whether it is sent again, at this index.
+    fn settle(&mut self, known: Known, index: usize) -> Result<bool, AllocError> {
+        let Known { ticket, at, reply } = known;
+        let write = self.writes.settle(ticket);
+        let Some(reply) = reply else {
+            return self.take_back(write, ticket, index);
+        };
+        self.counts.write();
+        match at {
+            Some((view, place)) => {
+                self.settle_at(ticket, Tag { view, place }, reply, &write)?;
+            }
+            None => self.answer(ticket, reply, None)?,
+        }
+        Ok(false)
+    }
+
+    // What became of all writes so far.
+    fn settle_all(&mut self) -> Result<(), AllocError> {
+        let mut again = 0usize;
+        for known in self.kept.take(self.alloc)? {
+            if self.settle(known, again)? {
+                again = again.saturating_add(1);
+            }
+        }
+        let before = self.now.saturating_sub(Duration::from_secs(PATIENCE));
+        let tickets = self.writes.expire(self.alloc, before)?;
+        self.refuse_all(tickets.as_slice())
+    }
+
+    /// How its node stands.
+    pub(crate) fn standing(&self) -> Standing<'_> {
+        Standing {
+            own: self.own,
+            counts: &self.counts,
+            kept: &self.kept,
+            writes: &self.writes,
+            clients: self.clients.len() + 1,
+            stable: self.stable,
+            uptime: self.now,
+        }
+    }
+
+    /// Whether all members of a place's view have delivered what stands up to the place: it is stable, or they have gone on to another view, and then each that goes on with
+    /// this one has.
+    pub(crate) fn is_stable(&self, at: &Tag) -> bool {
+        match (self.counts.view, self.stable) {
+            (Some(now), _) if now != at.view => true,
+            (Some(_), Some((view, count))) => view == at.view && at.place <= count,
+            _ => false,
+        }
+    }
+
+    /// A write is to be sent; answers its ticket.
+    pub(crate) fn write(&mut self, order: &Order) -> Result<u64, AllocError> {
+        self.tickets = self.tickets.wrapping_add(1);
+        let ticket = self.tickets;
+        if self.has_ended || self.writes.len() >= CLIENTS {
+            self.refuse(ticket)?;
+            return Ok(ticket);
+        }
+        self.writes
+            .ask(Write::new(self.alloc, ticket, order, self.now)?)?;
+        Ok(ticket)
+    }
+
+    // Accepts those who stand before the door.
+    fn accept(&mut self) -> Result<(), AllocError> {
+        for _ in 0..ACCEPTS {
+            if !self.door.has_callers {
+                return Ok(());
+            }
+            if let Some((id, stream)) = self.door.accept() {
+                if self.clients.len() < CLIENTS {
+                    let keeps = self.kept.keeps();
+                    let client = Client::new(self.alloc, self.keys, keeps, id, stream, self.now)?;
+                    self.clients.push_back(client)?;
+                } else {
+                    self.door.turn_away(stream);
+                }
+            }
+        }
+        Ok(())
+    }
+
+    // Nobody waits for a lock any more whose connection is over.
+    fn forget_gone(&mut self) -> Result<(), AllocError> {
+        if self.kept.queued() == 0 {
+            return Ok(());
+        }
+        let mut tickets = Vec::new(self.alloc);
+        for client in self.clients.iter() {
+            if let Some(ticket) = client.ticket() {
+                tickets.push(ticket)?;
+            }
+        }
+        self.kept.keep(tickets.as_slice());
+        Ok(())
+    }
+
+    /// Serves all connections, each for a bounded number of steps. It does not wait.
+    pub fn serve(&mut self, now: Duration) -> Result<(), AllocError> {
+        self.now = now;
+        self.look();
+        self.settle_all()?;
+        self.accept()?;
+        let mut has_more = self.door.has_callers;
+        for _ in 0..self.clients.len() {
+            if let Some(client) = self.clients.pop_front() {
+                let more = self.serve_one(client)?;
+                has_more = has_more || more;
+            }
+        }
+        self.replies.clear();
+        self.forget_gone()?;
+        self.has_more = has_more;
+        Ok(())
+    }
+}

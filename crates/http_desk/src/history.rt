@@ -1,0 +1,141 @@
+//! What happened at the node last.
+
+use crate::EVENTS;
+use address::{Address, ViewId};
+use std::alloc::{AllocError, Global};
+use trace_props::{
+    BoxedInstall, Bytes, Delivery, Event, HandedBack, Install, Message, Numbered, Sending,
+};
+use view::View;
+use vsync_text::{append_event, put, put_number, put_view_id};
+
+/// A place in the order: so many messages of a view are delivered there.
+#[derive(Debug, Drop)]
+pub(crate) struct Tag {
+    pub(crate) view: ViewId,
+    pub(crate) place: u64,
+}
+
+impl Tag {
+    /// The same place.
+    pub(crate) fn copied(&self) -> Tag {
+        let (view, place) = (self.view, self.place);
+        Tag { view, place }
+    }
+}
+
+/// Appends a place in quotes, such as `"3@1.1/7"`.
+pub(crate) fn put_tag(out: &mut Vec<u8>, tag: &Tag) -> Result<(), AllocError> {
+    put_view_id(out, b'"', &tag.view)?;
+    put_number(out, b'/', tag.place)?;
+    put(out, b"\"")
+}
+
+/// To whom an event happens.
+pub(crate) fn member_of(event: &Event) -> Address {
+    match event {
+        Event::Started(member) | Event::Blocked(member) => *member,
+        Event::Left(member) | Event::Crashed(member) => *member,
+        Event::Sent(sending) => sending.member,
+        Event::Delivered(delivery) => delivery.member,
+        Event::Installed(install) => install.get().member,
+    }
+}
+
+fn numbered(alloc: Global, message: &Numbered) -> Result<Numbered, AllocError> {
+    Ok(Numbered {
+        number: message.number,
+        payload: message.payload.copied(alloc)?,
+    })
+}
+
+// A copy of an install, without the state that it gives.
+fn install_of(alloc: Global, install: &Install) -> Result<Option<Event>, AllocError> {
+    let mut back = Vec::new(alloc);
+    for message in install.handed_back.as_slice() {
+        back.push(numbered(alloc, message)?)?;
+    }
+    let members = install.view.members().copied(alloc)?;
+    let Ok(view) = View::new(install.view.id(), members) else {
+        return Ok(None);
+    };
+    let copy = Install {
+        member: install.member,
+        previous: install.previous,
+        view,
+        together: install.together.copied(alloc)?,
+        handed_back: HandedBack::from_vec(back),
+        given: None,
+    };
+    Ok(Some(Event::Installed(BoxedInstall::new(alloc, copy)?)))
+}
+
+// A copy of an event, without the state that it gives.
+fn copy_of(alloc: Global, event: &Event) -> Result<Option<Event>, AllocError> {
+    match event {
+        Event::Started(member) => Ok(Some(Event::Started(*member))),
+        Event::Blocked(member) => Ok(Some(Event::Blocked(*member))),
+        Event::Left(member) => Ok(Some(Event::Left(*member))),
+        Event::Crashed(member) => Ok(Some(Event::Crashed(*member))),
+        Event::Sent(sending) => Ok(Some(Event::Sent(Sending {
+            member: sending.member,
+            view: sending.view,
+            message: numbered(alloc, &sending.message)?,
+        }))),
+        Event::Delivered(delivery) => {
+            let message = &delivery.message;
+            let message = Message {
+                sender: message.sender,
+                number: message.number,
+                payload: message.payload.copied(alloc)?,
+            };
+            Ok(Some(Event::Delivered(Delivery {
+                member: delivery.member,
+                view: delivery.view,
+                message,
+            })))
+        }
+        Event::Installed(install) => install_of(alloc, install.get()),
+    }
+}
+
+/// The last events.
+#[derive(Debug, Drop)]
+pub(crate) struct History {
+    alloc: Global,
+    events: Vec<Event>,
+}
+
+impl History {
+    pub(crate) fn new(alloc: Global) -> History {
+        History {
+            alloc,
+            events: Vec::new(alloc),
+        }
+    }
+
+    /// One more.
+    pub(crate) fn hear(&mut self, event: &Event) -> Result<(), AllocError> {
+        if let Some(copy) = copy_of(self.alloc, event)? {
+            if self.events.len() >= EVENTS {
+                let _oldest = self.events.remove(0);
+            }
+            self.events.push(copy)?;
+        }
+        Ok(())
+    }
+
+    /// They, the oldest first.
+    pub(crate) fn events(&self) -> &[Event] {
+        self.events.as_slice()
+    }
+
+    /// A line for each, as in a trace.
+    pub(crate) fn text(&self) -> Result<Vec<u8>, AllocError> {
+        let mut out = Vec::new(self.alloc);
+        for event in self.events.iter() {
+            append_event(&mut out, event)?;
+        }
+        Ok(out)
+    }
+}

@@ -1,0 +1,156 @@
+//! Values as text.
+
+ghost use Rattle.std.specs.Prelude.{◌≡◌, ◌++◌, OnOk};
+ghost use Rattle.http_desk.specs.Replies.{quoted_token};
+
+use address::{Address, ViewId};
+use lock_table::{Lock, LockTable};
+use replicated_map::ReplicatedMap;
+use std::alloc::AllocError;
+use tokens::{Token, put_token_text};
+use vsync_text::{put, put_address, put_hex, put_number, put_view_id};
+
+/// Appends bytes as a string of JSON: a byte that is no printable ASCII is written by its number.
+pub(crate) fn put_string(out: &mut Vec<u8>, bytes: &[u8]) -> Result<(), AllocError> {
+    out.push(b'"')?;
+    for byte in bytes {
+        match *byte {
+            b'"' => put(out, b"\\\"")?,
+            b'\\' => put(out, b"\\\\")?,
+            32..=126 => out.push(*byte)?,
+            other => {
+                put(out, b"\\u00")?;
+                put_hex(out, &[other])?;
+            }
+        }
+    }
+    out.push(b'"')?;
+    Ok(())
+}
+
+/// Appends a field behind a comma: a name and a number.
+pub(crate) fn put_field(out: &mut Vec<u8>, name: &[u8], number: u64) -> Result<(), AllocError> {
+    put(out, b",")?;
+    put_string(out, name)?;
+    put_number(out, b':', number)
+}
+
+/// Appends an address in quotes, behind a text.
+pub(crate) fn put_quoted(
+    out: &mut Vec<u8>,
+    before: &[u8],
+    address: &Address,
+) -> Result<(), AllocError> {
+    put(out, before)?;
+    put_address(out, b'"', address)?;
+    put(out, b"\"")
+}
+
+/// Appends addresses in quotes, in brackets.
+pub(crate) fn put_all(out: &mut Vec<u8>, addresses: &[Address]) -> Result<(), AllocError> {
+    put(out, b"[")?;
+    for (i, address) in addresses.iter().enumerate() {
+        let before: &[u8] = if i > 0 { b"," } else { b"" };
+        put_quoted(out, before, address)?;
+    }
+    put(out, b"]")
+}
+
+/// Appends the id of a view in quotes, behind a text; `null` if there is none.
+pub(crate) fn put_view(
+    out: &mut Vec<u8>,
+    before: &[u8],
+    view: Option<ViewId>,
+) -> Result<(), AllocError> {
+    put(out, before)?;
+    match view {
+        Some(view) => {
+            put_view_id(out, b'"', &view)?;
+            put(out, b"\"")
+        }
+        None => put(out, b"null"),
+    }
+}
+
+/// Appends all entries of a map as an object, the keys rising.
+pub(crate) fn put_entries(out: &mut Vec<u8>, map: &ReplicatedMap) -> Result<(), AllocError> {
+    out.push(b'{')?;
+    for i in 0..map.len() {
+        if let Some((key, held)) = map.entry(i) {
+            if i > 0 {
+                out.push(b',')?;
+            }
+            put_string(out, key)?;
+            out.push(b':')?;
+            put_string(out, held.value.as_slice())?;
+        }
+    }
+    put(out, b"}\n")
+}
+
+// Whether a key stands among those behind an index.
+fn stands_behind(keys: &[Vec<u8>], index: usize, key: &[u8]) -> bool {
+    keys.iter()
+        .skip(index.saturating_add(1))
+        .any(|other| other.as_slice() == key)
+}
+
+/// Appends these keys of a map as an object, each once: with its value, or `null` if it has none.
+pub(crate) fn put_keys(
+    out: &mut Vec<u8>,
+    map: &ReplicatedMap,
+    keys: &[Vec<u8>],
+) -> Result<(), AllocError> {
+    out.push(b'{')?;
+    let mut is_first = true;
+    for (i, key) in keys.iter().enumerate() {
+        if stands_behind(keys, i, key.as_slice()) {
+            continue;
+        }
+        if !is_first {
+            out.push(b',')?;
+        }
+        is_first = false;
+        put_string(out, key.as_slice())?;
+        out.push(b':')?;
+        match map.get(key.as_slice()) {
+            Some(held) => put_string(out, held.value.as_slice())?,
+            None => put(out, b"null")?,
+        }
+    }
+    put(out, b"}\n")
+}
+
+/// Appends a token in quotes, such as `"3@1.1/2"`.
+pub(crate) fn put_token(out: &mut Vec<u8>, token: &Token) -> Result<(), AllocError>
+    ensures { OnOk result (out.new.items ≡ out.old.items ++ quoted_token token.now) }
+{
+    put_token_text(out, b'"', token)?;
+    put(out, b"\"")
+}
+
+/// Appends a lock as an object: who holds it, with which token, and who waits.
+pub(crate) fn put_lock(out: &mut Vec<u8>, lock: &Lock) -> Result<(), AllocError> {
+    put_quoted(out, b"{\"holder\":", &lock.holder())?;
+    put(out, b",\"token\":")?;
+    put_token(out, &lock.token())?;
+    put(out, b",\"waiting\":")?;
+    put_all(out, lock.waiters())?;
+    put(out, b"}")
+}
+
+/// Appends all locks that are held as an object, the names rising.
+pub(crate) fn put_locks(out: &mut Vec<u8>, table: &LockTable) -> Result<(), AllocError> {
+    out.push(b'{')?;
+    for i in 0..table.len() {
+        if let Some((name, lock)) = table.entry(i) {
+            if i > 0 {
+                out.push(b',')?;
+            }
+            put_string(out, name)?;
+            out.push(b':')?;
+            put_lock(out, lock)?;
+        }
+    }
+    put(out, b"}\n")
+}

@@ -1,0 +1,146 @@
+//! What is known of those who asked for a change, and what each is answered.
+
+ghost use Rattle.std.specs.Prelude.{◌≡◌, ◌++◌, ◌∷◌, [], IfOk};
+ghost use Rattle.tokens.specs.TokenText.{text_of_token};
+ghost use Rattle.http_desk.specs.Replies.{Says, AnswersOutcome, AnswersLockFate, IsKnownOfMap, IsKnownOfLock, AreKnownOfMap, AreKnownOfLocks};
+
+use crate::reply::{Media, Reply};
+use address::ViewId;
+use http::StatusCode;
+use replicated_map::Outcome;
+use std::alloc::{AllocError, Global};
+use tokens::Token;
+
+/// What is known of a ticket.
+#[derive(Drop)]
+pub(crate) struct Known {
+    pub(crate) ticket: u64,
+    /// Where it is known.
+    pub(crate) at: Option<(ViewId, u64)>,
+    /// The answer; `None` if the message was handed back.
+    pub(crate) reply: Option<Reply>,
+}
+
+// The answer to a command to the map that was delivered.
+fn map_reply(alloc: Global, outcome: &Outcome) -> Result<Reply, AllocError>
+    ensures { IfOk result (AnswersOutcome outcome.now) }
+{
+    match outcome {
+        Outcome::Stored(version) | Outcome::Removed(version) => {
+            Reply::words(alloc, StatusCode::OK, b"done\n")?.of_version(alloc, version)
+        }
+        Outcome::Cleared => Reply::words(alloc, StatusCode::OK, b"done\n"),
+        Outcome::Full => Reply::words(
+            alloc,
+            StatusCode::INSUFFICIENT_STORAGE,
+            b"the map is full\n",
+        ),
+        Outcome::Differs(Some(held)) => Reply::held(alloc, StatusCode::PRECONDITION_FAILED, held),
+        Outcome::Differs(None) => Reply::words(
+            alloc,
+            StatusCode::PRECONDITION_FAILED,
+            b"the key has no value\n",
+        ),
+        Outcome::Missing => {
+            Reply::words(alloc, StatusCode::NOT_FOUND, b"the key has no value\n")
+        }
+        Outcome::NoCommand => Reply::plain(alloc, StatusCode::BAD_REQUEST),
+    }
+}
+
+fn known_of_map(alloc: Global, answer: &map_service::Answer) -> Result<Known, AllocError>
+    ensures { IfOk result (IsKnownOfMap answer.now) }
+{
+    let ticket = answer.ticket;
+    match &answer.fate {
+        map_service::Fate::Delivered(view, place, outcome) => Ok(Known {
+            ticket,
+            at: Some((*view, *place)),
+            reply: Some(map_reply(alloc, outcome)?),
+        }),
+        map_service::Fate::HandedBack => Ok(Known {
+            ticket,
+            at: None,
+            reply: None,
+        }),
+    }
+}
+
+/// What is known by answers of the map's service, each by one.
+pub(crate) fn all_of_map(
+    alloc: Global,
+    answers: &[map_service::Answer],
+) -> Result<Vec<Known>, AllocError>
+    ensures { IfOk result (λ all. AreKnownOfMap answers.now all.items) }
+{
+    let mut all = Vec::new(alloc);
+    for answer in answers {
+        all.push(known_of_map(alloc, answer)?)?;
+    }
+    Ok(all)
+}
+
+// A token with a line feed.
+fn token_reply(alloc: Global, token: &Token) -> Result<Reply, AllocError>
+    ensures { IfOk result (Says 200 (text_of_token token.now ++ 10 ∷ [])) }
+{
+    let view = token.view;
+    let count = token.count;
+    let text = format!(in alloc; "{view}/{count}\n")?;
+    let body = Vec::from_slice(alloc, text.as_bytes())?;
+    Ok(Reply::of(StatusCode::OK, Media::Text, body))
+}
+
+// The answer to a request for a lock, or to a release of one.
+fn lock_reply(alloc: Global, fate: &lock_service::Fate) -> Result<Option<Reply>, AllocError>
+    ensures { IfOk result (AnswersLockFate fate.now) }
+{
+    match fate {
+        lock_service::Fate::Granted(token) => Ok(Some(token_reply(alloc, token)?)),
+        lock_service::Fate::Full => Ok(Some(Reply::words(
+            alloc,
+            StatusCode::INSUFFICIENT_STORAGE,
+            b"the table is full\n",
+        )?)),
+        lock_service::Fate::Gone => Ok(Some(Reply::words(
+            alloc,
+            StatusCode::SERVICE_UNAVAILABLE,
+            b"the node does not wait for the lock any more\n",
+        )?)),
+        lock_service::Fate::Released => {
+            Ok(Some(Reply::words(alloc, StatusCode::OK, b"done\n")?))
+        }
+        lock_service::Fate::NotHeld => Ok(Some(Reply::words(
+            alloc,
+            StatusCode::NOT_FOUND,
+            b"the node neither holds the lock nor waits for it\n",
+        )?)),
+        lock_service::Fate::NoRequest => { Ok(Some(Reply::plain(alloc, StatusCode::BAD_REQUEST)?)) }
+        lock_service::Fate::HandedBack => Ok(None),
+    }
+}
+
+fn known_of_lock(alloc: Global, answer: &lock_service::Answer) -> Result<Known, AllocError>
+    ensures { IfOk result (IsKnownOfLock answer.now) }
+{
+    let reply = lock_reply(alloc, &answer.fate)?;
+    Ok(Known {
+        ticket: answer.ticket,
+        at: Some((answer.view, answer.place)),
+        reply,
+    })
+}
+
+/// What is known by answers of the locks' service, each by one.
+pub(crate) fn all_of_locks(
+    alloc: Global,
+    answers: &[lock_service::Answer],
+) -> Result<Vec<Known>, AllocError>
+    ensures { IfOk result (λ all. AreKnownOfLocks answers.now all.items) }
+{
+    let mut all = Vec::new(alloc);
+    for answer in answers {
+        all.push(known_of_lock(alloc, answer)?)?;
+    }
+    Ok(all)
+}

@@ -1,0 +1,70 @@
+//! What a request asks of the table of locks.
+
+use crate::PATIENCE;
+use crate::map_request::is_field;
+use crate::query::{decoded, field_of};
+use crate::refusal::Refusal;
+use crate::request::{Asked, Order, read_only};
+use bytes::Bytes;
+use http::Request;
+use keyed_entries::KeyBytes;
+use std::alloc::{AllocError, Global};
+
+// For how many seconds a request waits for a lock; `None` if it says no such number.
+fn wait_of(request: &Request<Bytes>) -> Option<u64> {
+    let Some(text) = field_of(request.uri().query(), "wait") else {
+        return Some(PATIENCE);
+    };
+    match text.parse::<u64>() {
+        Ok(seconds) if seconds <= PATIENCE => Some(seconds),
+        _ => None,
+    }
+}
+
+/// The line of a word and a lock's name.
+pub(crate) fn line_of(alloc: Global, word: &[u8], name: &[u8]) -> Result<Vec<u8>, AllocError> {
+    let mut line = Vec::new(alloc);
+    line.extend_from_slice(word)?;
+    line.push(b' ')?;
+    line.extend_from_slice(name)?;
+    Ok(line)
+}
+
+// A command of a word and a lock's name, for which a request waits so long.
+fn order(alloc: Global, word: &[u8], name: &[u8], patience: u64) -> Result<Asked, AllocError> {
+    Ok(Asked::Write(Order {
+        line: line_of(alloc, word, name)?,
+        is_stable: false,
+        patience,
+    }))
+}
+
+/// What is asked of the lock of a name, which is percent-encoded.
+pub(crate) fn asked_of_lock(
+    alloc: Global,
+    request: &Request<Bytes>,
+    name: &[u8],
+) -> Result<Asked, AllocError> {
+    let name = decoded(alloc, name)?;
+    let Some(key) = KeyBytes::new(name.as_slice()) else {
+        return Ok(Asked::Refused(Refusal::BadKey));
+    };
+    let name = key.as_slice();
+    if !is_field(name) {
+        return Ok(Asked::Refused(Refusal::BadKey));
+    }
+    match request.method().as_str() {
+        "POST" => match wait_of(request) {
+            Some(seconds) => order(alloc, b"acquire", name, seconds),
+            None => Ok(Asked::Refused(Refusal::BadWait)),
+        },
+        "DELETE" => order(alloc, b"release", name, PATIENCE),
+        "GET" | "HEAD" => Ok(Asked::Lock(Vec::from_slice(alloc, name)?)),
+        _ => Ok(Asked::Refused(Refusal::OtherMethod)),
+    }
+}
+
+/// What is asked of all locks.
+pub(crate) fn asked_of_table(request: &Request<Bytes>) -> Asked {
+    read_only(request, Asked::Locks)
+}

@@ -1,0 +1,170 @@
+//! The writes that were asked for and are not answered yet.
+
+use crate::request::Order;
+use std::alloc::{AllocError, Global};
+use std::collections::VecDeque;
+use std::time::Duration;
+
+/// A write that was asked for: who waits for it, and the line that says it.
+#[derive(Debug, Drop)]
+pub(crate) struct Write {
+    pub(crate) ticket: u64,
+    line: Vec<u8>,
+    /// Whether it is answered only when all members of the view have delivered it.
+    pub(crate) is_stable: bool,
+    /// Whether it is sent again, since a view handed it back.
+    pub(crate) is_again: bool,
+    // When it was asked for.
+    since: Duration,
+}
+
+impl Write {
+    /// What is ordered now, for a ticket.
+    pub(crate) fn new(
+        alloc: Global,
+        ticket: u64,
+        order: &Order,
+        since: Duration,
+    ) -> Result<Write, AllocError> {
+        Ok(Write {
+            ticket,
+            line: Vec::from_slice(alloc, order.line.as_slice())?,
+            is_stable: order.is_stable,
+            is_again: false,
+            since,
+        })
+    }
+}
+
+/// Those whose lines the node has not taken, those that it is to send, and those that it sent, each in their order.
+#[derive(Debug, Drop)]
+pub(crate) struct Writes {
+    asked: VecDeque<Write>,
+    told: VecDeque<Write>,
+    sent: VecDeque<Write>,
+}
+
+// Puts those of a queue that go on behind another one.
+fn move_all(from: &mut VecDeque<Write>, to: &mut VecDeque<Write>) -> Result<(), AllocError> {
+    for _ in 0..from.len() {
+        if let Some(write) = from.pop_front() {
+            to.push_back(write)?;
+        }
+    }
+    Ok(())
+}
+
+fn tickets_of(tickets: &mut Vec<u64>, writes: &VecDeque<Write>) -> Result<(), AllocError> {
+    for write in writes.iter() {
+        tickets.push(write.ticket)?;
+    }
+    Ok(())
+}
+
+impl Writes {
+    pub(crate) fn new(alloc: Global) -> Writes {
+        Writes {
+            asked: VecDeque::new(alloc),
+            told: VecDeque::new(alloc),
+            sent: VecDeque::new(alloc),
+        }
+    }
+
+    /// How many wait to be sent.
+    pub(crate) fn len(&self) -> usize {
+        self.asked.len().saturating_add(self.told.len())
+    }
+
+    /// A write is asked for.
+    pub(crate) fn ask(&mut self, write: Write) -> Result<(), AllocError> {
+        self.asked.push_back(write)?;
+        Ok(())
+    }
+
+    /// Whether a line waits to be taken.
+    pub(crate) fn has_line(&self) -> bool {
+        !self.asked.is_empty()
+    }
+
+    /// Appends the lines that wait, each with a line feed: they are told then.
+    pub(crate) fn tell(&mut self, text: &mut Vec<u8>) -> Result<(), AllocError> {
+        for write in self.asked.iter() {
+            text.extend_from_slice(write.line.as_slice())?;
+            text.push(b'\n')?;
+        }
+        move_all(&mut self.asked, &mut self.told)
+    }
+
+    /// The node sent a message that this line says: answers who waits for it, the first if several do.
+    pub(crate) fn sent(&mut self, line: &[u8]) -> Result<Option<u64>, AllocError> {
+        let mut told = self.told.iter();
+        let Some(index) = told.position(|write| write.line.as_slice() == line) else {
+            return Ok(None);
+        };
+        let Some(write) = self.told.remove(index) else {
+            return Ok(None);
+        };
+        let ticket = write.ticket;
+        self.sent.push_back(write)?;
+        Ok(Some(ticket))
+    }
+
+    /// What became of the write of a ticket is known: takes it off those that were sent.
+    pub(crate) fn settle(&mut self, ticket: u64) -> Option<Write> {
+        let index = self.sent.iter().position(|write| write.ticket == ticket)?;
+        self.sent.remove(index)
+    }
+
+    /// A write that was handed back is sent again, at this index among those that are to be sent: its node says it again by itself, or is told it anew.
+    pub(crate) fn send_again(
+        &mut self,
+        mut write: Write,
+        index: usize,
+        is_told: bool,
+    ) -> Result<(), AllocError> {
+        write.is_again = true;
+        let queue = if is_told {
+            &mut self.told
+        } else {
+            &mut self.asked
+        };
+        let index = index.min(queue.len());
+        queue.insert(index, write)?;
+        Ok(())
+    }
+
+    /// The node begins again, with another member: it will tell anew what it was told and has not seen delivered.
+    pub(crate) fn begin_again(&mut self) -> Result<(), AllocError> {
+        move_all(&mut self.told, &mut self.sent)?;
+        move_all(&mut self.sent, &mut self.told)
+    }
+
+    /// Takes the writes that were asked for before a time and were never told; answers who waits for them.
+    pub(crate) fn expire(
+        &mut self,
+        alloc: Global,
+        before: Duration,
+    ) -> Result<Vec<u64>, AllocError> {
+        let mut tickets = Vec::new(alloc);
+        for _ in 0..self.asked.len() {
+            match self.asked.front() {
+                Some(write) if write.since < before => tickets.push(write.ticket)?,
+                _ => return Ok(tickets),
+            }
+            let _expired = self.asked.pop_front();
+        }
+        Ok(tickets)
+    }
+
+    /// Takes all writes: nobody will know what becomes of them. Answers who waits for them.
+    pub(crate) fn give_up(&mut self, alloc: Global) -> Result<Vec<u64>, AllocError> {
+        let mut tickets = Vec::new(alloc);
+        tickets_of(&mut tickets, &self.asked)?;
+        tickets_of(&mut tickets, &self.told)?;
+        tickets_of(&mut tickets, &self.sent)?;
+        self.asked.clear();
+        self.told.clear();
+        self.sent.clear();
+        Ok(tickets)
+    }
+}

@@ -1,0 +1,5 @@
+mod FactOfCandidates
+mod FactOfCounts
+mod KeepFlushes
+mod ComesAlone
+mod LawOfDeadEnds

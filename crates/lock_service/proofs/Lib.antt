@@ -1,0 +1,3 @@
+pub mod FactOfEvents
+pub mod FactOfGrants
+pub mod FactOfQueue

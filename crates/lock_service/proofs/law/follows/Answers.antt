@@ -1,0 +1,5 @@
+use Rattle.lock_service.proofs.FactOfEvents.{follows}
+use Rattle.lock_service.proofs.law.follows.Goals as goal
+
+pub returns : goal.returns
+returns c = follows

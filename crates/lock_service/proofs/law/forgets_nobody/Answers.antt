@@ -1,0 +1,5 @@
+use Rattle.lock_service.proofs.FactOfQueue.{forgets-nobody}
+use Rattle.lock_service.proofs.law.forgets_nobody.Goals as goal
+
+pub returns : goal.returns
+returns c = forgets-nobody

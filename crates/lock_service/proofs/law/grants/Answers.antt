@@ -1,0 +1,9 @@
+use Rattle.lock_service.proofs.FactOfEvents.{answers-stay}
+use Rattle.lock_service.proofs.FactOfGrants.{true-grants}
+use Rattle.lock_service.proofs.law.grants.Goals as goal
+
+pub returns-clause-stay : goal.returns-clause-stay
+returns-clause-stay c = answers-stay
+
+pub returns-clause-are_true : goal.returns-clause-are_true
+returns-clause-are_true c = true-grants

@@ -1,0 +1,5 @@
+use Rattle.lock_service.proofs.FactOfQueue.{all-wait}
+use Rattle.lock_service.proofs.law.misses_no_grant.Goals as goal
+
+pub returns : goal.returns
+returns c = all-wait

@@ -1,0 +1,3 @@
+pub mod FactOfEvents
+pub mod FactOfAnswers
+pub mod FactOfTickets

@@ -1,0 +1,12 @@
+use Rattle.map_service.proofs.FactOfEvents.{answers-stay}
+use Rattle.map_service.proofs.FactOfAnswers.{true-answers, each-delivery}
+use Rattle.map_service.proofs.law.answers.Goals as goal
+
+pub returns-clause-stay : goal.returns-clause-stay
+returns-clause-stay c = answers-stay
+
+pub returns-clause-are_true : goal.returns-clause-are_true
+returns-clause-are_true c = true-answers
+
+pub returns-clause-each : goal.returns-clause-each
+returns-clause-each c = each-delivery

@@ -1,0 +1,162 @@
+ghost use Rattle.std.specs.Prelude.{◌≡◌, ◌==◌, ◌++◌, ◌∷◌, [], not, length, IfOk, OnOk, OnErr};
+ghost use Rattle.map_service.specs.Serving.{delivered, heard, installed, noted, nothing_heard};
+
+use crate::waiting::{hand_back, settle};
+use crate::{Answer, Fate};
+use address::{Address, ViewId};
+use replicated_map::ReplicatedMap;
+use state_transfer::Receiver;
+use std::alloc::{AllocError, Global};
+use std::marker::Model;
+use std::mem::replace;
+use tickets::Waiting;
+use trace_props::{Delivery, Event, Install};
+
+/// What a node knows by the events of its member: the member's view, how many messages it delivered there, the map at that place, who waits
+/// for which of its own messages, and the answers that nobody has taken.
+#[derive(Debug, Drop)]
+pub struct MapService {
+    alloc: Global,
+    own: Address,
+    view: Option<ViewId>,
+    place: u64,
+    copy: ReplicatedMap,
+    waiting: Vec<Waiting>,
+    answers: Vec<Answer>,
+}
+
+impl Model for MapService {
+    ghost use Rattle.map_service.specs.Serving.{Serving};
+
+    ghost Value = { Serving };
+
+    ghost view = { λ m. record { own = m.own; view = m.view; place = m.place; copy = m.copy; waiting = m.waiting.items; answers = m.answers.items } };
+}
+
+impl MapService {
+    /// The service of a member to which nothing happened yet. `AllocError` (7) without memory.
+    pub fn new(alloc: Global, own: Address) -> Result<MapService, AllocError>
+        ensures { IfOk result (λ s. s ≡ nothing_heard own) }
+    {
+        Ok(MapService {
+            alloc,
+            own,
+            view: None,
+            place: 0,
+            copy: ReplicatedMap::opening(alloc)?,
+            waiting: Vec::new(alloc),
+            answers: Vec::new(alloc),
+        })
+    }
+
+    /// The map after all that was heard. Other members may have delivered more, or less.
+    pub fn copy(&self) -> &ReplicatedMap
+        ensures { result.now ≡ self.now.copy }
+    {
+        &self.copy
+    }
+
+    /// The view that its member installed last; `None` before the first.
+    pub fn view(&self) -> Option<ViewId>
+        ensures { result ≡ self.now.view }
+    {
+        self.view
+    }
+
+    /// How many messages its member delivered in this view.
+    pub fn place(&self) -> u64
+        ensures { result ≡ self.now.place }
+    {
+        self.place
+    }
+
+    /// How many wait for a message of its member.
+    pub fn waits(&self) -> usize
+        ensures { result ≡ length self.now.waiting }
+    {
+        self.waiting.len()
+    }
+
+    /// A message of this number was sent in the view for this ticket: its fate will be the ticket's answer.
+    /// Call it as soon as the channel's `send` has answered with the number, before the events of that call are heard.
+    /// After `AllocError` (7) nothing is noted.
+    pub fn note(&mut self, number: u64, ticket: u64) -> Result<(), AllocError>
+        ensures ok { OnOk result (self.new ≡ noted number ticket self.old) }
+        ensures err { OnErr result (self.new ≡ self.old) }
+    {
+        self.waiting.push(Waiting { number, ticket })?;
+        Ok(())
+    }
+
+    /// Whether there are answers to take.
+    pub fn has_answers(&self) -> bool
+        ensures { result ≡ not (length self.now.answers == 0) }
+    {
+        !self.answers.is_empty()
+    }
+
+    /// Takes all answers, the oldest first.
+    pub fn take_answers(&mut self) -> Vec<Answer>
+        ensures answers { result.items ≡ self.old.answers }
+        ensures rest { self.new ≡ record self.old { answers = [] } }
+    {
+        replace(&mut self.answers, Vec::new(self.alloc))
+    }
+
+    /// What happened next. Events of other members leave it as it is.
+    /// After `AllocError` (7) it is as before, and may be told the same event again.
+    pub fn hear(&mut self, event: &Event) -> Result<(), AllocError>
+        ensures ok { OnOk result (self.new ≡ heard self.old event.now) }
+        ensures err { OnErr result (self.new ≡ self.old) }
+    {
+        match event {
+            Event::Delivered(delivery) => {
+                if delivery.member == self.own {
+                    return self.deliver(delivery);
+                }
+                Ok(())
+            }
+            Event::Installed(install) => {
+                let install = install.get();
+                if install.member == self.own {
+                    return self.install(install);
+                }
+                Ok(())
+            }
+            _ => Ok(()),
+        }
+    }
+
+    // Its member delivered a message.
+    fn deliver(&mut self, delivery: &Delivery) -> Result<(), AllocError>
+        ensures ok { OnOk result (self.new ≡ delivered delivery.now self.old) }
+        ensures err { OnErr result (self.new ≡ self.old) }
+    {
+        let message = &delivery.message;
+        let payload = message.payload.as_slice();
+        let outcome = self.copy.outcome(self.alloc, payload)?;
+        self.answers.reserve(1)?;
+        self.copy.receive(message.sender, payload)?;
+        self.place = self.place.saturating_add(1);
+        if message.sender == self.own {
+            let fate = Fate::Delivered(delivery.view, self.place, outcome);
+            settle(&mut self.waiting, &mut self.answers, message.number, fate);
+        }
+        Ok(())
+    }
+
+    // Its member installed a view.
+    fn install(&mut self, install: &Install) -> Result<(), AllocError>
+        ensures ok { OnOk result (self.new ≡ installed install.now self.old) }
+        ensures err { OnErr result (self.new ≡ self.old) }
+    {
+        self.answers.reserve(self.waiting.len())?;
+        if let Some(state) = &install.given {
+            let _taken = self.copy.set_state(state.as_slice())?;
+        }
+        self.view = Some(install.view.id());
+        self.place = 0;
+        hand_back(&mut self.waiting, &mut self.answers);
+        Ok(())
+    }
+}

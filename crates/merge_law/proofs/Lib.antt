@@ -1,0 +1,9 @@
+mod FactOfElements
+mod FactOfOwnEvents
+mod FactOfEntries
+mod FactOfMerges
+mod FactOfShown
+mod KeepPlaces
+mod KeepMessages
+mod KeepEntries
+mod LawOfOrders

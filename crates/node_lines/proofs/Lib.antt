@@ -1,0 +1,2 @@
+pub mod FactOfFeeds
+pub mod FactOfCame

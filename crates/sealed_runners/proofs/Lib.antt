@@ -1,0 +1,3 @@
+pub mod NetsOfFrames
+pub mod OnePacket
+pub mod OrderAbove

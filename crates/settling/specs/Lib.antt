@@ -1,0 +1,4 @@
+pub mod Settles
+pub mod Meets
+pub mod LostInstalls
+pub mod LowProposals

@@ -1,0 +1,26 @@
+//! A story of four nodes over UDP, and how texts of stories are judged.
+
+use state_transfer::Receiver;
+use std::alloc::Global;
+use trace_checker::check;
+use trace_props::Verdict;
+use trace_reader::read_trace;
+
+/// Four that part into two pairs, send on each side, and merge.
+pub const MERGE: &[u8] =
+    b"start 1\nstart 2\nstart 3\nstart 4\ncreate 1\njoin 2 1.1\njoin 3 1.1\njoin 4 1.1\nrounds 20\nsuspect 1 3.1\nsuspect 1 4.1\nsuspect 3 1.1\nsuspect 3 2.1\nrounds 20\nsend 1 a\nsend 3 b\nrounds 20\nhint 3 1.1\nrounds 20\n";
+
+/// The beginning of a text before its chat lines.
+pub fn trace_of(text: &[u8]) -> &[u8] {
+    let end = text.windows(5).position(|word| word == b"chat ".as_slice());
+    let (trace, _) = text.split_at(end.unwrap_or(text.len()).min(text.len()));
+    trace
+}
+
+/// Whether the trace of a text, of receivers that are `R`, is virtually synchronous.
+pub fn holds<R: Receiver>(alloc: Global, text: &[u8]) -> bool {
+    match read_trace(alloc, trace_of(text)) {
+        Ok(trace) => check::<R>(alloc, &trace) == Ok(Verdict::Holds),
+        Err(_) => false,
+    }
+}

@@ -1,0 +1,81 @@
+//! Lines that are asked for by HTTP.
+
+ghost use Rattle.std.specs.Prelude.{None};
+
+use address::ViewId;
+use http_desk::HttpDesk;
+use std::alloc::AllocError;
+use std::cell::Cell;
+use std::time::Duration;
+use trace_props::Event;
+use udp_runs::{Lines, LinesError};
+
+/// How many messages of which view are stable, as the machine of a node was shown last.
+pub(crate) type Stable = Cell<Option<(ViewId, u64)>>;
+
+/// The lines that a desk tells, whose member runs by itself.
+#[derive(Drop)]
+pub(crate) struct HttpLines<'a> {
+    desk: HttpDesk,
+    stable: &'a Stable,
+    // When its node's first look was: the desk's time begins there.
+    began: Option<Duration>,
+    // Whether memory was refused to what it heard.
+    is_short: bool,
+}
+
+impl<'a> HttpLines<'a> {
+    /// The lines of a desk, which is told how many messages are stable.
+    pub(crate) fn new(desk: HttpDesk, stable: &'a Stable) -> HttpLines<'a> {
+        HttpLines {
+            desk,
+            stable,
+            began: None,
+            is_short: false,
+        }
+    }
+
+    /// The node has ended: all who wait are told so.
+    pub(crate) fn end(&mut self) -> Result<(), AllocError> {
+        self.desk.end()?;
+        self.desk.serve(Duration::ZERO)
+    }
+}
+
+impl<'a> Lines for HttpLines<'a> {
+    ghost came = { λ _. None };
+
+    // Where memory was refused, the node ends.
+    fn more(&mut self, text: &mut Vec<u8>) -> Result<(), LinesError> {
+        if self.is_short {
+            return Err(LinesError::Memory);
+        }
+        self.desk.tell(text)?;
+        Ok(())
+    }
+
+    fn hear(&mut self, event: &Event) {
+        if self.desk.hear(event).is_err() {
+            self.is_short = true;
+        }
+    }
+
+    fn look(&mut self, now: Duration) {
+        let began = self.began.unwrap_or(now);
+        self.began = Some(began);
+        if let Some((view, count)) = self.stable.get() {
+            self.desk.learn(view, count);
+        }
+        if self.desk.serve(now.saturating_sub(began)).is_err() {
+            self.is_short = true;
+        }
+    }
+
+    fn rest(&self, left: Duration) -> Duration {
+        if self.desk.is_due() {
+            Duration::ZERO
+        } else {
+            left
+        }
+    }
+}

@@ -1,0 +1,397 @@
+//! One node over datagrams, whose members run one after another (docs/FORMATS.md, "Nodes over UDP").
+
+use crate::http_address::http_address;
+use crate::http_lines::{HttpLines, Stable};
+use crate::incarnations::{IncarnationError, next_start, start_by_clock};
+use crate::kept_lines::KeptLines;
+use crate::output::Output;
+use crate::programs::{mistaken, without_memory};
+use crate::udp_programs::ended;
+use crate::watched::Watched;
+use address::Address;
+use application::Application;
+use chat_log::{ChatLog, LongChat};
+use endings::Status;
+use http_desk::{HttpDesk, Keeps};
+use lock_table::LockTable;
+use replicated_map::ReplicatedMap;
+use std::cell::Cell;
+use std::net::{Net, SocketAddr};
+use std::os::fd::RawFd;
+use std::random::RandomSource;
+use std::rt::Files;
+use std::time::{Clock, Duration};
+use std::{io, thread};
+use udp_net::{Hosts, Settings};
+use udp_runs::{Lines, Loopback, Manner, MemberPlan, Tally, Trouble, run_member};
+use vsync_words::{Kept, MemberOptions};
+
+// How long a tick takes where it is not given, in milliseconds.
+const TICK: u16 = 20;
+
+// After how many rounds a member seeks others where it is not given.
+const MERGE: u16 = 50;
+
+// The members that a view must have in which a member sends, where it is not given.
+const QUORUM: u16 = 1;
+
+// The longest that a node waits before it begins again: two to the power of this, in seconds.
+const LONGEST_PAUSE: u32 = 6;
+
+// How the options say that a member runs.
+fn manner_of(options: &MemberOptions<'_>) -> Manner {
+    Manner {
+        tick: Duration::from_millis(u64::from(options.tick.unwrap_or(TICK))),
+        merge: u32::from(options.merge.unwrap_or(MERGE)),
+        leaves: options.leave,
+        speaks: options.text,
+        finds: options.find,
+        quorum: u32::from(options.quorum.unwrap_or(QUORUM)),
+        stable: options.stable,
+    }
+}
+
+// The address with which a member starts: by its file where there is one, else by the clock where it finds its group; or the status with which the program ends.
+fn start_of<R: Files + Clock + Print + Eprint + AllocGlobal>(
+    rt: &R,
+    least: Address,
+    options: &MemberOptions<'_>,
+) -> Result<Address, Status> {
+    let Some(path) = options.incarnation_file else {
+        if options.find {
+            return Ok(start_by_clock(rt, least));
+        }
+        return Ok(least);
+    };
+    match next_start(rt, rt.alloc(), path, least, options.find) {
+        Ok(start) => {
+            let address = start.address;
+            if start.is_by_clock {
+                let _ = eprintln!(rt;
+                    "vsync: no incarnation in {path}: it begins by the clock, as {address}"
+                );
+            }
+            Ok(address)
+        }
+        Err(IncarnationError::Memory) => Err(without_memory(rt)),
+        Err(error) => {
+            let _ = eprintln!(rt; "vsync: {error} {path}");
+            Err(Status::Outside)
+        }
+    }
+}
+
+// Says, on the standard error, what a member did that has ended, where it is asked for, and why it ended where that was not to be.
+fn report<R: Eprint>(rt: &R, tally: &Tally, stats: bool) {
+    match tally.trouble {
+        Some(Trouble::NoLines) => {
+            let _ = eprintln!(rt; "vsync: the lines to send cannot be read any more");
+        }
+        Some(Trouble::NoPayload(fault)) => {
+            let number = fault.number();
+            let _ = eprintln!(rt; "vsync: what is to be sent says no command: {number}");
+        }
+        None => (),
+    }
+    if tally.has_ended {
+        let _ = eprintln!(rt;
+            "vsync: the member has ended: it cannot read the state that it was given"
+        );
+    }
+    if stats {
+        let (sent, delivered, installed) = (tally.sent, tally.delivered, tally.installed);
+        let (garbled, foreign) = (tally.garbled, tally.foreign);
+        let (unsent, unreceived) = (tally.unsent, tally.unreceived);
+        let (strange, sieved) = (tally.strange, tally.sieved);
+        let _ = eprintln!(rt; "sent {sent}, delivered {delivered}, views {installed}");
+        let _ = eprintln!(rt;
+            "datagrams: no packets {garbled}, for others {foreign}, not sent {unsent}, receives that failed {unreceived}, from elsewhere {strange}, dropped else {sieved}"
+        );
+    }
+}
+
+// Whether a node that finds its group begins again after a member: that gave up its address, could not read a state, or was refused memory.
+fn begins_again(status: Status, tally: &Tally, options: &MemberOptions<'_>) -> bool {
+    if !options.find {
+        return false;
+    }
+    match status {
+        Status::Done => tally.gives_up || tally.has_ended,
+        Status::Memory => true,
+        _ => false,
+    }
+}
+
+// The address of the member with which a node begins again: its next incarnation; or the status with which the program ends.
+fn next_of<R: Files + Clock + Print + Eprint + AllocGlobal>(
+    rt: &R,
+    address: Address,
+    options: &MemberOptions<'_>,
+) -> Result<Address, Status> {
+    match address.next_incarnation() {
+        Some(next) => start_of(rt, next, options),
+        None => {
+            let _ = eprintln!(rt; "vsync: the incarnations are used up");
+            Err(Status::Outside)
+        }
+    }
+}
+
+// Says why a node begins again. Where it gave up its address it does so at once; else it waits, twice as long each time in a row. It answers how often that was.
+fn pause<R: Clock + Eprint>(
+    rt: &R,
+    address: Address,
+    status: Status,
+    tally: &Tally,
+    pauses: u32,
+) -> u32 {
+    if status == Status::Done && !tally.has_ended {
+        let _ = eprintln!(rt;
+            "vsync: {address} gives way to a greater view: the node begins again"
+        );
+        return 0;
+    }
+    let why = if status == Status::Memory {
+        "is out of memory"
+    } else {
+        "has ended"
+    };
+    let seconds = 1u64 << pauses.min(LONGEST_PAUSE);
+    let _ = eprintln!(rt; "vsync: {address} {why}: the node begins again in {seconds} s");
+    thread::sleep(rt, Duration::from_secs(seconds));
+    pauses.saturating_add(1)
+}
+
+// How the program ends after the last member of a node.
+fn end_of<R: Files + Net + RandomSource + Clock + Eprint>(
+    rt: &R,
+    status: Status,
+    tally: &Tally,
+    machine: &Watched<'_, '_, R>,
+    is_unwritten: bool,
+) -> Status {
+    if tally.trouble.is_some() {
+        return status;
+    }
+    if status == Status::Done && tally.has_ended {
+        return Status::Outside;
+    }
+    ended(
+        rt,
+        status,
+        machine.is_unbound(),
+        is_unwritten,
+        "the lines to send",
+    )
+}
+
+// This machine, for a node of the settings that runs by these options.
+fn machine_of<'x, 'y, R: AllocGlobal>(
+    rt: &'x R,
+    settings: &'x Settings,
+    options: &MemberOptions<'y>,
+    hosts: Hosts,
+    key: Option<&'x [u8]>,
+    other: Option<RawFd>,
+    stable: &'x Stable,
+) -> Watched<'x, 'y, R> {
+    let mut loopback = Loopback::new(rt.alloc(), rt, settings, hosts);
+    if options.any_source {
+        loopback.hear_from_anywhere();
+    }
+    if let Some(key) = key {
+        loopback.seal_with(key);
+    }
+    if let Some(other) = other {
+        loopback.also_wait_for(other);
+    }
+    let quorum = options.quorum.unwrap_or(QUORUM);
+    let nodes = settings.nodes();
+    Watched::new(
+        rt,
+        rt.alloc(),
+        loopback,
+        nodes,
+        options.status,
+        quorum,
+        stable,
+    )
+}
+
+// Runs the members of a node, one after another, each with what it keeps, and says what is to be said of them on the standard error.
+fn run_with<
+    'x,
+    A: Application,
+    L: Lines,
+    R: Files + Net + RandomSource + Clock + Print + Eprint + AllocGlobal,
+>(
+    rt: &'x R,
+    settings: &'x Settings,
+    plan: &MemberPlan<'_>,
+    options: &MemberOptions<'_>,
+    hosts: Hosts,
+    key: Option<&[u8]>,
+    lines: &mut L,
+    other: Option<RawFd>,
+    stable: &Stable,
+) -> Status {
+    let mut machine = machine_of(rt, settings, options, hosts, key, other, stable);
+    let mut lines = KeptLines::new(rt.alloc(), lines);
+    let mut output = Output::new(io::writer(rt));
+    let (mut address, mut rounds, mut contact) = (plan.address, plan.rounds, plan.contact);
+    let (mut is_unsaid, mut pauses) = (true, 0);
+    for _ in 0..u64::MAX {
+        let send = if is_unsaid { plan.send } else { None };
+        let member = MemberPlan {
+            address,
+            rounds,
+            contact,
+            send,
+        };
+        let status = run_member::<A, _, _, _>(
+            rt.alloc(),
+            settings,
+            &member,
+            manner_of(options),
+            &mut lines,
+            &mut machine,
+            &mut output,
+        );
+        let tally = machine.tally().unwrap_or(Tally::new());
+        report(rt, &tally, options.stats);
+        if tally.trouble.is_some() || !begins_again(status, &tally, options) {
+            return end_of(rt, status, &tally, &machine, output.has_failed());
+        }
+        pauses = pause(rt, address, status, &tally, pauses);
+        address = match next_of(rt, address, options) {
+            Ok(next) => next,
+            Err(status) => return status,
+        };
+        rounds = rounds.saturating_sub(tally.rounds.saturating_add(1));
+        contact = None;
+        is_unsaid = tally.is_unsaid;
+    }
+    Status::Done
+}
+
+// Runs the node with what its options say that it keeps.
+fn run_lines<L: Lines, R: Files + Net + RandomSource + Clock + Print + Eprint + AllocGlobal>(
+    rt: &R,
+    settings: &Settings,
+    plan: &MemberPlan<'_>,
+    options: &MemberOptions<'_>,
+    hosts: Hosts,
+    key: Option<&[u8]>,
+    lines: &mut L,
+    other: Option<RawFd>,
+    stable: &Stable,
+) -> Status {
+    match options.flags.kept() {
+        Kept::Chat => run_with::<ChatLog, L, R>(
+            rt, settings, plan, options, hosts, key, lines, other, stable,
+        ),
+        Kept::LongChat => run_with::<LongChat, L, R>(
+            rt, settings, plan, options, hosts, key, lines, other, stable,
+        ),
+        Kept::Map => run_with::<ReplicatedMap, L, R>(
+            rt, settings, plan, options, hosts, key, lines, other, stable,
+        ),
+        Kept::Locks => run_with::<LockTable, L, R>(
+            rt, settings, plan, options, hosts, key, lines, other, stable,
+        ),
+    }
+}
+
+// Where the node answers requests, by its options; else what is wrong with them.
+fn http_of(options: &MemberOptions<'_>) -> Result<Option<SocketAddr>, &'static str> {
+    let Some(text) = options.http else {
+        return Ok(None);
+    };
+    if options.say.is_some() {
+        return Err("--http is without --say");
+    }
+    match http_address(text) {
+        Some(at) => Ok(Some(at)),
+        None => {
+            Err("--http takes a port, or an address and a port, such as 8001 or 127.0.0.1:8001")
+        }
+    }
+}
+
+// For what a desk answers, by the options of its node.
+fn keeps_of(options: &MemberOptions<'_>) -> Keeps {
+    match options.flags.kept() {
+        Kept::Map => Keeps::Map,
+        Kept::Locks => Keeps::Locks,
+        Kept::Chat | Kept::LongChat => Keeps::Nothing,
+    }
+}
+
+// Runs the node with a desk that answers requests at an address.
+fn run_http<R: Files + Net + RandomSource + Clock + Print + Eprint + AllocGlobal>(
+    rt: &R,
+    settings: &Settings,
+    plan: &MemberPlan<'_>,
+    options: &MemberOptions<'_>,
+    hosts: Hosts,
+    key: Option<&[u8]>,
+    at: SocketAddr,
+) -> Status {
+    let keeps = keeps_of(options);
+    let says_again = options.find || keeps == Keeps::Locks;
+    let desk = match HttpDesk::bind(rt.alloc(), rt, keeps, plan.address, says_again, at) {
+        Ok(desk) => desk,
+        Err(error) => {
+            let _ = eprintln!(rt; "vsync: cannot listen at {at}: {error}");
+            return Status::Outside;
+        }
+    };
+    let other = Some(desk.descriptor());
+    let stable: Stable = Cell::new(None);
+    let mut lines = HttpLines::new(desk, &stable);
+    let status = run_lines(
+        rt, settings, plan, options, hosts, key, &mut lines, other, &stable,
+    );
+    let _ = lines.end();
+    status
+}
+
+/// Starts the node of a plan with its incarnation, and runs it with these lines.
+pub(crate) fn run_from<
+    L: Lines,
+    R: Files + Net + RandomSource + Clock + Print + Eprint + AllocGlobal,
+>(
+    rt: &R,
+    settings: &Settings,
+    plan: &MemberPlan<'_>,
+    options: &MemberOptions<'_>,
+    hosts: Hosts,
+    key: Option<&[u8]>,
+    lines: &mut L,
+) -> Status {
+    let rounds = if options.forever {
+        u64::MAX
+    } else {
+        plan.rounds
+    };
+    match start_of(rt, plan.address, options) {
+        Ok(address) => {
+            let plan = MemberPlan {
+                address,
+                rounds,
+                ..*plan
+            };
+            match http_of(options) {
+                Ok(Some(at)) => run_http(rt, settings, &plan, options, hosts, key, at),
+                Ok(None) => {
+                    let stable: Stable = Cell::new(None);
+                    run_lines(
+                        rt, settings, &plan, options, hosts, key, lines, None, &stable,
+                    )
+                }
+                Err(why) => mistaken(rt, why),
+            }
+        }
+        Err(status) => status,
+    }
+}

@@ -1,0 +1,72 @@
+//! Lines that are appended to a file.
+
+ghost use Rattle.std.specs.Prelude.{None};
+
+use std::alloc::{AllocError, Global};
+use std::fs;
+use std::io::{self, Read, Seek, SeekFrom};
+use std::rt::Files;
+use udp_runs::{Lines, LinesError};
+
+/// How much is read at a time, in bytes.
+const PIECE: usize = 65_536;
+
+/// The lines that are appended to a file. It is opened anew each time, so that it is known when it is there no longer; where it has become shorter, it is read from its beginning.
+#[derive(Drop)]
+pub(crate) struct Appended<'a, R> {
+    rt: &'a R,
+    path: &'a str,
+    // How much of the file was read, or was there before.
+    past: u64,
+    buffer: Vec<u8>,
+}
+
+// How long a file is.
+fn length_of<S: Seek>(file: &mut S) -> io::Result<u64> {
+    file.seek(SeekFrom::End(0))
+}
+
+impl<'a, R: Files> Appended<'a, R> {
+    /// The lines that are appended to the file of a path from now on.
+    pub(crate) fn new(alloc: Global, rt: &'a R, path: &'a str) -> io::Result<Appended<'a, R>> {
+        let buffer = vec![in alloc; 0u8; PIECE]?;
+        let mut file = fs::open(rt, path)?;
+        let past = length_of(&mut file)?;
+        Ok(Appended {
+            rt,
+            path,
+            past,
+            buffer,
+        })
+    }
+
+    // Reads what comes next in the file; answers how much.
+    fn read(&mut self) -> io::Result<usize> {
+        let mut file = fs::open(self.rt, self.path)?;
+        let length = length_of(&mut file)?;
+        if length == self.past {
+            return Ok(0);
+        }
+        if length < self.past {
+            self.past = 0;
+        }
+        file.seek(SeekFrom::Start(self.past))?;
+        file.read(self.buffer.as_mut_slice())
+    }
+}
+
+impl<'a, R: Files> Lines for Appended<'a, R> {
+    ghost came = { λ _. None };
+
+    fn more(&mut self, text: &mut Vec<u8>) -> Result<(), LinesError> {
+        let Ok(count) = self.read() else {
+            return Err(LinesError::Gone);
+        };
+        let Some(came) = self.buffer.as_slice().get(..count) else {
+            return Err(LinesError::Gone);
+        };
+        text.extend_from_slice(came)?;
+        self.past = self.past.saturating_add(count as u64);
+        Ok(())
+    }
+}

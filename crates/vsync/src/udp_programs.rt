@@ -1,0 +1,221 @@
+//! The commands for members over datagrams, on files and sockets.
+
+ghost use Rattle.std.specs.Prelude.{◌≡◌, ◌⊎◌, Err, IfErr, true};
+ghost use Rattle.vsync_words.specs.declared.udp_words.MemberMistake.{MemberMistake};
+ghost use Rattle.vsync.specs.Ends.{EndsBy};
+ghost use Rattle.vsync_words.specs.Plans.{contact_of, keeps_two, payload_of, text_of};
+ghost use Rattle.vsync.specs.Settings.{EndsWithout, GivesSettings};
+
+use crate::hosts::{PeersError, peers_in};
+use crate::keys::key_of;
+use crate::node_runs::run_from;
+use crate::output::Output;
+use crate::programs::{bytes_at, failed, mistaken, outside, without_memory};
+use crate::said::Appended;
+use address::{Address, Node};
+use chat_log::ChatLog;
+use endings::Status;
+use std::io::Read;
+use std::net::Net;
+use std::random::RandomSource;
+use std::rt::Files;
+use std::time::Clock;
+use std::{fs, io};
+use udp_net::{BindError, Hosts, Settings, SettingsError, settings};
+use udp_runs::{Loopback, MemberPlan, NoLines, run_udp};
+use vsync_words::{MemberOptions, MemberWords, UdpWords};
+
+/// Says that the input is refused as a whole.
+pub(crate) fn refuse<R: Print>(rt: &R, number: u8) -> Status
+    ensures { EndsBy Status.Refused result }
+{
+    if println!(rt; "fault 0 {number}").is_err() {
+        return Status::Outside;
+    }
+    Status::Refused
+}
+
+// The settings of a file's bytes; or the status with which the program ends.
+fn settings_in<R: Print + AllocGlobal>(rt: &R, bytes: &[u8]) -> Result<Settings, Status>
+    ensures { GivesSettings bytes.now result }
+{
+    let Ok(text) = str::from_utf8(bytes) else {
+        return Err(refuse(rt, SettingsError::Config.number()));
+    };
+    match settings(rt.alloc(), text) {
+        Ok(found) => Ok(found),
+        Err(SettingsError::Config) => Err(refuse(rt, SettingsError::Config.number())),
+        Err(SettingsError::Memory) => Err(without_memory(rt)),
+    }
+}
+
+// The settings of the file of a path; or the status with which the program ends.
+fn settings_at<R: Files + Print + Eprint + AllocGlobal>(
+    rt: &R,
+    path: &str,
+) -> Result<Settings, Status>
+    ensures { IfErr result EndsWithout }
+{
+    match bytes_at(rt, path) {
+        Ok(bytes) => settings_in(rt, bytes.as_slice()),
+        Err(status) => Err(status),
+    }
+}
+
+// What a command's status says where it ended outside, on the standard error; but not where the text says that a socket could not be bound.
+pub(crate) fn ended<R: Eprint>(
+    rt: &R,
+    status: Status,
+    is_unbound: bool,
+    is_unwritten: bool,
+    path: &str,
+) -> Status
+    ensures { result ≡ status }
+{
+    if status == Status::Outside && !is_unbound {
+        return outside(rt, is_unwritten, path);
+    }
+    status
+}
+
+// Runs the script of a reader.
+fn run_script_of<I: Read, R: Net + RandomSource + Clock + Print + Eprint + AllocGlobal>(
+    rt: &R,
+    settings: &Settings,
+    reader: &mut I,
+    path: &str,
+) -> Status {
+    let hosts = Hosts::local(rt.alloc());
+    let mut machine = Loopback::new(rt.alloc(), rt, settings, hosts);
+    let mut output = Output::new(io::writer(rt));
+    let status = run_udp::<ChatLog, _, _, _>(
+        rt.alloc(),
+        settings,
+        &mut machine,
+        reader,
+        &mut output,
+    );
+    ended(rt, status, machine.is_unbound(), output.has_failed(), path)
+}
+
+/// Does `udp`: reads the settings, and runs the script; `-` is the standard input.
+pub(crate) fn udp<R: Files + Input + Net + RandomSource + Clock + Print + Eprint + AllocGlobal>(
+    rt: &R,
+    words: &UdpWords<'_>,
+) -> Status {
+    let settings = match settings_at(rt, words.config) {
+        Ok(settings) => settings,
+        Err(status) => return status,
+    };
+    if words.script == "-" {
+        let mut input = rt.reader();
+        return run_script_of(rt, &settings, &mut input, "the standard input");
+    }
+    match fs::open(rt, words.script) {
+        Ok(file) => {
+            let mut file = file;
+            run_script_of(rt, &settings, &mut file, words.script)
+        }
+        Err(error) => failed(rt, &error, "cannot open", words.script),
+    }
+}
+
+// The hosts of the options; or the status with which the program ends.
+fn hosts_of<R: Net + Print + Eprint + AllocGlobal>(
+    rt: &R,
+    options: &MemberOptions<'_>,
+    peers: &[(Node, &str)],
+) -> Result<Hosts, Status> {
+    match Hosts::resolve(rt.alloc(), rt, options.bind, peers) {
+        Ok(hosts) => Ok(hosts),
+        Err(BindError::Memory) => Err(without_memory(rt)),
+        Err(error) => {
+            let _ = eprintln!(rt; "vsync: a host has no address");
+            let number = error.number();
+            if println!(rt; "fault 0 {number}").is_err() {
+                return Err(Status::Outside);
+            }
+            Err(Status::Outside)
+        }
+    }
+}
+
+// Says where the settings do not list the node of the contact.
+fn warn<R: Eprint>(rt: &R, settings: &Settings, contact: Option<Address>) {
+    let Some(contact) = contact else {
+        return;
+    };
+    if settings.port(contact.node()).is_none() {
+        let node = contact.node();
+        let _ = eprintln!(rt; "vsync: the settings do not list the contact's node, {node}");
+    }
+}
+
+// Runs the node of a plan: with the lines of a file where its options name one.
+fn run_plan<R: Files + Net + RandomSource + Clock + Print + Eprint + AllocGlobal>(
+    rt: &R,
+    settings: &Settings,
+    plan: &MemberPlan<'_>,
+    options: &MemberOptions<'_>,
+    hosts: Hosts,
+) -> Status {
+    warn(rt, settings, plan.contact);
+    let key = match key_of(rt, options.key_file) {
+        Ok(key) => key,
+        Err(status) => return status,
+    };
+    let key = key.as_ref().map(|key| key.as_slice());
+    let Some(path) = options.say else {
+        return run_from(rt, settings, plan, options, hosts, key, &mut NoLines);
+    };
+    match Appended::new(rt.alloc(), rt, path) {
+        Ok(lines) => {
+            let mut lines = lines;
+            run_from(rt, settings, plan, options, hosts, key, &mut lines)
+        }
+        Err(error) => failed(rt, &error, "cannot open", path),
+    }
+}
+
+// Reads the settings, finds the hosts, and runs the node.
+fn run_at<R: Files + Net + RandomSource + Clock + Print + Eprint + AllocGlobal>(
+    rt: &R,
+    words: &MemberWords<'_>,
+    plan: &MemberPlan<'_>,
+    peers: &[(Node, &str)],
+) -> Status {
+    let settings = match settings_at(rt, words.config) {
+        Ok(settings) => settings,
+        Err(status) => return status,
+    };
+    match hosts_of(rt, &words.options, peers) {
+        Ok(hosts) => run_plan(rt, &settings, plan, &words.options, hosts),
+        Err(status) => status,
+    }
+}
+
+/// Does `member`: reads the settings, and runs the node. A mistake in its words is said on the standard error, with status 2.
+pub(crate) fn member<R: Files + Net + RandomSource + Clock + Print + Eprint + AllocGlobal>(
+    rt: &R,
+    words: &MemberWords<'_>,
+) -> Status
+    ensures texts { (e : MemberMistake) → (contact_of (text_of words.now.contact) ≡ Err e) ⊎ (payload_of (text_of words.now.send) ≡ Err e)
+        → result ≡ Status.Usage }
+    ensures keeps { keeps_two words.now ≡ true → result ≡ Status.Usage }
+{
+    let plan = match words.plan() {
+        Ok(plan) => plan,
+        Err(mistake) => {
+            let _ = eprintln!(rt; "error: {mistake}\n\nFor more information, try '--help'.");
+            return Status::Usage;
+        }
+    };
+    match peers_in(rt.alloc(), words.options.peers.as_slice()) {
+        Ok(peers) => run_at(rt, words, &plan, peers.as_slice()),
+        Err(PeersError::Malformed) => mistaken(
+            rt,
+            "invalid value for '--peer <NODE=HOST>': it is no node and its host, such as 2=10.0.0.2",
+        ),
+        Err(PeersError::Memory) => without_memory(rt),
+    }
+}

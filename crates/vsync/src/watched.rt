@@ -1,0 +1,212 @@
+//! This machine, as whoever looks after a node sees it.
+
+ghost use Rattle.std.specs.Prelude.{◌≡◌, [], None, IfOk};
+ghost use Rattle.std.specs.Option.{ForSome};
+
+use crate::http_lines::Stable;
+use address::{Address, Node};
+use std::alloc::{AllocError, Global};
+use std::fs;
+use std::random::RandomSource;
+use std::rt::Files;
+use std::time::{Clock, Duration};
+use udp_net::{BindError, Net, NodePort};
+use udp_runs::{Loopback, Machine, NodeNet, NodeStatus, Notice, Tally};
+
+/// This machine, which says on the standard error what whoever looks after a node should know, and writes the node's status to a file where it is given one (docs/FORMATS.md, "Nodes over UDP").
+#[derive(Drop)]
+pub(crate) struct Watched<'a, 'b, R> {
+    rt: &'a R,
+    alloc: Global,
+    machine: Loopback<'a, R>,
+    // The nodes of the settings.
+    nodes: &'a [NodePort],
+    // Where the status is written, and whether it was said that it cannot be.
+    status: Option<&'b str>,
+    is_unwritten: bool,
+    // The members that a view must have in which its node sends.
+    quorum: u16,
+    // Where it says how many messages are stable.
+    stable: &'a Stable,
+}
+
+// Appends a text.
+fn put(text: &mut Vec<u8>, more: &str) -> Result<(), AllocError> {
+    text.extend_from_slice(more.as_bytes())
+}
+
+// Appends a line of a word and a value.
+fn put_value<V: std::fmt::Display + Drop>(
+    text: &mut Vec<u8>,
+    word: &str,
+    value: V,
+) -> Result<(), AllocError> {
+    let line = format!(in *text.allocator(); "{word} {value}\n")?;
+    put(text, line.as_str())
+}
+
+// Appends a line of a word and addresses.
+fn put_addresses(text: &mut Vec<u8>, word: &str, addresses: &[Address]) -> Result<(), AllocError> {
+    put(text, word)?;
+    for address in addresses {
+        let shown = format!(in *text.allocator(); " {address}")?;
+        put(text, shown.as_str())?;
+    }
+    put(text, "\n")
+}
+
+// Appends the line of the other nodes at which there is no member of the view.
+fn put_sought(
+    text: &mut Vec<u8>,
+    nodes: &[NodePort],
+    own: Node,
+    members: &[Address],
+) -> Result<(), AllocError> {
+    put(text, "sought")?;
+    for place in nodes {
+        let is_there = members.iter().any(|member| member.node() == place.node);
+        if place.node != own && !is_there {
+            let node = place.node;
+            let shown = format!(in *text.allocator(); " {node}")?;
+            put(text, shown.as_str())?;
+        }
+    }
+    put(text, "\n")
+}
+
+// The text of a status.
+fn status_text(
+    alloc: Global,
+    nodes: &[NodePort],
+    status: &NodeStatus,
+    members: &[Address],
+) -> Result<Vec<u8>, AllocError> {
+    let mut text = Vec::new(alloc);
+    put_value(&mut text, "address", status.address)?;
+    match status.view {
+        Some(view) => {
+            put_value(&mut text, "view", view)?;
+            put_addresses(&mut text, "members", members)?;
+            put_value(&mut text, "coordinator", view.creator())?;
+        }
+        None => put(&mut text, "view\nmembers\ncoordinator\n")?,
+    }
+    match status.blocked {
+        Some(time) => put_value(&mut text, "blocked", time.as_secs())?,
+        None => put(&mut text, "blocked\n")?,
+    }
+    put_value(&mut text, "outstanding", status.outstanding)?;
+    put_value(&mut text, "stable", status.stable)?;
+    put_sought(&mut text, nodes, status.address.node(), members)?;
+    put_value(&mut text, "strange", status.strange)?;
+    Ok(text)
+}
+
+// Writes a text to a file: to a new one beside it, which then takes its place. Answers whether it is there.
+fn replace<R: Files>(rt: &R, alloc: Global, path: &str, text: &[u8]) -> bool {
+    let Ok(new) = format!(in alloc; "{path}.new") else {
+        return false;
+    };
+    fs::write(rt, new.as_str(), text).is_ok() && fs::rename(rt, new.as_str(), path).is_ok()
+}
+
+impl<'a, 'b, R> Watched<'a, 'b, R> {
+    /// This machine, with the nodes of the settings.
+    pub(crate) fn new(
+        rt: &'a R,
+        alloc: Global,
+        machine: Loopback<'a, R>,
+        nodes: &'a [NodePort],
+        status: Option<&'b str>,
+        quorum: u16,
+        stable: &'a Stable,
+    ) -> Watched<'a, 'b, R> {
+        Watched {
+            rt,
+            alloc,
+            machine,
+            nodes,
+            status,
+            is_unwritten: false,
+            quorum,
+            stable,
+        }
+    }
+
+    /// What happened at a node that ran by itself and has ended; `None` where none has.
+    pub(crate) fn tally(&self) -> Option<Tally> {
+        self.machine.tally()
+    }
+
+    /// Whether a socket could not be bound.
+    pub(crate) fn is_unbound(&self) -> bool {
+        self.machine.is_unbound()
+    }
+}
+
+impl<'a, 'b, R: Files + std::net::Net + RandomSource + Clock + Eprint> Machine
+    for Watched<'a, 'b, R> {
+    type Net = NodeNet;
+
+    ghost gone = { λ _. None };
+
+    fn net(&mut self, node: Node) -> Result<NodeNet, BindError>
+        ensures fresh { IfOk result (λ net. ForSome (⟦<NodeNet as Net>⟧.log net) (λ l. l ≡ [])) }
+    {
+        self.machine.net(node)
+    }
+
+    fn close(&mut self, member: Address, net: NodeNet) {
+        self.machine.close(member, net);
+    }
+
+    fn now(&mut self) -> Duration {
+        self.machine.now()
+    }
+
+    fn tell(&mut self, tally: &Tally) {
+        self.machine.tell(tally);
+    }
+
+    // Where it cannot be written, that is said once.
+    fn show(&mut self, status: &NodeStatus, members: &[Address]) {
+        if let Some(view) = status.view {
+            self.stable.set(Some((view, status.stable)));
+        }
+        let Some(path) = self.status else {
+            return;
+        };
+        let is_written = match status_text(self.alloc, self.nodes, status, members) {
+            Ok(text) => replace(self.rt, self.alloc, path, text.as_slice()),
+            Err(_) => false,
+        };
+        if !is_written && !self.is_unwritten {
+            self.is_unwritten = true;
+            let rt = self.rt;
+            let _ = eprintln!(rt; "vsync: cannot write {path}");
+        }
+    }
+
+    fn notice(&mut self, notice: Notice) {
+        let rt = self.rt;
+        match notice {
+            Notice::LongLine => {
+                let _ = eprintln!(rt;
+                    "vsync: a line to send has more than 512 bytes: it is not sent"
+                );
+            }
+            Notice::BadLine(fault) => {
+                let number = fault.number();
+                let _ = eprintln!(rt;
+                    "vsync: a line to send says no command, {number}: it is not sent"
+                );
+            }
+            Notice::TooFew(members) => {
+                let quorum = self.quorum;
+                let _ = eprintln!(rt;
+                    "vsync: what is to be sent waits: {members} members are there, and {quorum} must be"
+                );
+            }
+        }
+    }
+}

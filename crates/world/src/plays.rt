@@ -1,0 +1,48 @@
+//! Events that are played one after another, until the first in which memory is refused.
+
+ghost use Rattle.std.specs.Prelude.{◌-◌, OnOk, OnErr};
+ghost use Rattle.world_step.specs.Worlds.{shown};
+ghost use Rattle.world_plays.specs.Plays.{Plays, Fails, Delivers, DeliversPast, Breaks, BreaksPast};
+
+use crate::World;
+use state_transfer::Receiver;
+use std::alloc::AllocError;
+use world_model::WorldEvent;
+use world_plays::lacks_memory;
+
+impl<R: Receiver> World<R> {
+    /// Carries out one event; an error where the step is not begun, and where memory is refused to the member in it, which has then crashed.
+    pub(crate) fn play(&mut self, event: &WorldEvent) -> Result<(), AllocError>
+        ensures ok { OnOk result (Plays R.meaning (shown self.old) event.now (shown self.new)) }
+        ensures err { OnErr result (Fails R.meaning (shown self.old) event.now (shown self.new)) }
+    {
+        let answer = self.step(event)?;
+        if lacks_memory(answer) {
+            Err(AllocError)
+        } else {
+            Ok(())
+        }
+    }
+
+    /// Delivers every packet past so many, up to another number.
+    pub(crate) fn deliver_between(&mut self, past: u64, last: u64) -> Result<(), AllocError>
+        ensures ok { OnOk result (Delivers R.meaning past (last - past) (shown self.old) (shown self.new)) }
+        ensures err { OnErr result (Breaks R.meaning past (last - past) (shown self.old) (shown self.new)) }
+    {
+        let mut number = past;
+        while number < last {
+            number += 1;
+            self.play(&WorldEvent::Deliver(number))?;
+        }
+        Ok(())
+    }
+
+    /// Delivers every packet past so many that was put out by now.
+    pub(crate) fn deliver_past(&mut self, past: u64) -> Result<(), AllocError>
+        ensures ok { OnOk result (DeliversPast R.meaning past (shown self.old) (shown self.new)) }
+        ensures err { OnErr result (BreaksPast R.meaning past (shown self.old) (shown self.new)) }
+    {
+        let last = self.pool.count();
+        self.deliver_between(past, last)
+    }
+}

@@ -1,0 +1,5 @@
+pub mod Deliveries
+pub mod PlaysRun
+pub mod PoolPackets
+pub mod PlayedEvents
+pub mod Standing
