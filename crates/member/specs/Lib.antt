@@ -6,3 +6,4 @@ pub mod Members
 pub mod Doing
 pub mod Handling
 pub mod Watching
+pub mod Proposals

@@ -6,7 +6,8 @@ ghost use Rattle.view.specs.View.{view_refusal};
 ghost use Rattle.view_install.specs.Promises.{offered, is_accept};
 ghost use Rattle.acts.specs.Cores.{idle, id_of, is_frozen};
 ghost use Rattle.acts.specs.Acts.{proposed, others_of};
-ghost use Rattle.membership.specs.MemberStates.{idle_member, is_connected, is_complete, is_sent_to};
+ghost use Rattle.membership.specs.MemberStates.{idle_member, is_connected, is_complete, is_sent_to, anew_past};
+ghost use Rattle.flush.specs.Flushes.{is_awaited};
 ghost use Rattle.member.specs.Running.{IsAlive};
 ghost use Rattle.member.specs.Members.{core_of, refusal_of, is_unreadable};
 ghost use Rattle.member.specs.Doing.{Does};
@@ -14,6 +15,7 @@ ghost use Rattle.member.specs.declared.input.Input.TheVariants as input;
 ghost use Rattle.member.specs.Sources.{heard_of, output_of};
 ghost use Rattle.member.specs.Handling.{Handled, HasActed, RefusesAs, EndsWithout, IsClosed, Replies, IsPrompt, Ignores};
 ghost use Rattle.member.specs.Watching.{watched};
+ghost use Rattle.member.specs.Proposals.{past_in};
 ghost use Rattle.step_output.specs.Steps.{who};
 
 use crate::handling::{
@@ -83,6 +85,13 @@ fn have_reported(flush: &Flush) -> bool
         .as_slice()
         .iter()
         .all(|member| flush.has_reported(member))
+}
+
+// Whether an address stands in its list and has not reported.
+fn is_awaited(flush: &Flush, member: &Address) -> bool
+    ensures { result ≡ is_awaited member.now flush.now }
+{
+    flush.members().contains(member) && !flush.has_reported(member)
 }
 
 // Whether an INSTALL among these was sent to an address.
@@ -228,6 +237,49 @@ impl<R: Receiver> Member<R> {
             Some(member_state) => {
                 member_state.is_connected()
                     && member_state.promise.answer_to(proposal) == OfferAnswer::Accept
+            }
+        }
+    }
+
+    /// Whether a flush of its own goes on and waits for this one's report.
+    pub fn awaits_report(&self, member: &Address) -> bool
+        ensures { result ≡ option_map_or (λ l. option_map_or (is_awaited member.now) l.flush false) self.now.member_state false }
+    {
+        match &self.member_state {
+            None => false,
+            Some(member_state) => match &member_state.flush {
+                None => false,
+                Some(flush) => is_awaited(flush, member),
+            },
+        }
+    }
+
+    /// The counter of the greater proposal that it has promised, where it is joining or in a view: with that it answers BEHIND (docs/PROTOCOL.md, "Flush").
+    /// `None` where it would follow the proposal or ignore it, and after its end.
+    pub fn promised_past(&self, proposal: &Roster) -> Option<u64>
+        ensures { result ≡ option_and_then (past_in proposal.now) self.now.member_state }
+    {
+        let member_state = self.member_state.as_ref()?;
+        if !member_state.is_connected() {
+            return None;
+        }
+        match member_state.promise.answer_to(proposal) {
+            OfferAnswer::Accept | OfferAnswer::Ignore => None,
+            OfferAnswer::Behind(counter) => Some(counter),
+        }
+    }
+
+    /// What it would propose if it began its own flush anew past a counter, as by a BEHIND: its candidates, by a counter past this one, past what it promised and
+    /// what it heard of. `None` without a flush of its own, where the counters are used up, and after its end. On an error for want of memory it is as before,
+    /// and runs on.
+    pub fn anew_past(&self, counter: u64) -> Result<Option<Roster>, AllocError>
+        ensures { IfOk result (λ w. w ≡ option_and_then (λ l. anew_past self.now.address l counter) self.now.member_state) }
+    {
+        match &self.member_state {
+            None => Ok(None),
+            Some(member_state) => {
+                let proposal = member_state.anew_past(&self.identity, counter)?;
+                Ok(proposal)
             }
         }
     }

@@ -1,12 +1,12 @@
 -- A member while it runs: what it decides by, and what always holds of it.
-use Rattle.std.specs.Prelude.{◌≡◌, Bool, true, false, not, ◌&&◌, ◌||◌, is_some, List, [], ◌∷◌, map, length, Option, None, Some, Result, Ok, Err, IfSome, IsSome, if◌then◌else◌}
+use Rattle.std.specs.Prelude.{◌≡◌, ℕ, Bool, true, false, not, ◌&&◌, ◌||◌, is_some, List, [], ◌∷◌, map, length, Option, None, Some, Result, Ok, Err, IfSome, IsSome, if◌then◌else◌}
 use Rattle.std.specs.Option.{ForSome, option_eq, option_map, option_map_or, option_and_then}
 use Rattle.std.specs.List.{list_all, filter_map, AllByRecursion}
 use Rattle.address.specs.Ids.{Address, ViewId, same_address, same_view_id}
 use Rattle.view.specs.Members.{View, stands_in}
 use Rattle.view.specs.View.{view_refusal}
 use Rattle.suspicion.specs.Suspicion.{leads}
-use Rattle.next_view.specs.Notes.{NotesModel, no_notes}
+use Rattle.next_view.specs.Notes.{NotesModel, no_notes, having_heard}
 use Rattle.wire_values.specs.Values as wire
 use Rattle.wire_values.specs.declared.error.WireError.{WireError}
 use Rattle.wire_values.specs.declared.packet.Packet.{Packet}
@@ -131,6 +131,10 @@ recording q w r f = if same_view_id f.proposal w then reported q r f else f
 -- what it proposes anew while its own flush goes on
 abbrev pub anew_proposal : {S : Type 0} → Address → MemberState S → Option View
 anew_proposal me l = option_and_then (λ v. if is_some l.flush then proposal_after (core_of me l) l.notes v else None) (view_in l.view_state)
+
+-- the same past a counter
+abbrev pub anew_past : {S : Type 0} → Address → MemberState S → ℕ → Option View
+anew_past me l counter = anew_proposal me (record l { notes = having_heard counter l.notes })
 
 -- ---- at its start
 

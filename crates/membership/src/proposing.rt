@@ -2,7 +2,8 @@
 
 ghost use Rattle.std.specs.Prelude.{◌≡◌, OnOk, IfOk, None, true};
 ghost use Rattle.decisions.specs.Decisions.{promised_counter, is_due, proposal_after, due_at, due_proposal};
-ghost use Rattle.membership.specs.MemberStates.{core_of, IsMemberState, leads_in, anew_proposal};
+ghost use Rattle.membership.specs.MemberStates.{core_of, IsMemberState, leads_in, anew_proposal, anew_past};
+ghost use Rattle.next_view.specs.Notes.{having_heard};
 ghost use Rattle.membership.specs.Changes.{ProposesIf, Regroups, BeginsAnew};
 ghost use Rattle.step_output.specs.Steps.{who_of};
 ghost use Rattle.membership.specs.InSteps.{in_step};
@@ -44,13 +45,18 @@ impl<R: Receiver> MemberState<R> {
         }
     }
 
-    // Its next proposal, to its candidates; none where the counters are used up.
-    fn proposal_after(&self, who: &Identity, view: &View) -> Result<Option<Roster>, AllocError>
+    // Its next proposal past a counter, to its candidates; none where the counters are used up.
+    fn proposal_past(
+        &self,
+        who: &Identity,
+        view: &View,
+        counter: u64,
+    ) -> Result<Option<Roster>, AllocError>
         requires member_state { IsMemberState (who_of who.now) self.now }
         requires leads { leads_in who.now.address view.now self.now.notes ≡ true }
-        ensures { IfOk result (λ w. w ≡ proposal_after (core_of who.now.address self.now) self.now.notes view.now) }
+        ensures { IfOk result (λ w. w ≡ proposal_after (core_of who.now.address self.now) (having_heard counter self.now.notes) view.now) }
     {
-        let promised = promised_counter(&self.promise);
+        let promised = promised_counter(&self.promise).max(counter);
         let Some(counter) = self.notes.next_counter(promised) else {
             return Ok(None);
         };
@@ -58,6 +64,16 @@ impl<R: Receiver> MemberState<R> {
         let list = self.notes.candidates(who.alloc, &who.address, view)?;
         candidates_are_a_view();
         Ok(Some(Roster::new(id, list.as_slice()).unwrap()))
+    }
+
+    // Its next proposal, to its candidates; none where the counters are used up.
+    fn proposal_after(&self, who: &Identity, view: &View) -> Result<Option<Roster>, AllocError>
+        requires member_state { IsMemberState (who_of who.now) self.now }
+        requires leads { leads_in who.now.address view.now self.now.notes ≡ true }
+        ensures { IfOk result (λ w. w ≡ proposal_after (core_of who.now.address self.now) self.now.notes view.now) }
+    {
+        let proposal = self.proposal_past(who, view, 0)?;
+        Ok(proposal)
     }
 
     // What it has to propose in its view.
@@ -121,10 +137,15 @@ impl<R: Receiver> MemberState<R> {
         }
     }
 
-    // What it proposes anew while its own flush goes on.
-    fn anew(&self, who: &Identity) -> Result<Option<Roster>, AllocError>
+    /// What it would propose if it began its own flush anew past a counter, to its candidates: `None` without a flush of its own, and where the counters are used
+    /// up. An error for want of memory changes nothing.
+    pub fn anew_past(
+        &self,
+        who: &Identity,
+        counter: u64,
+    ) -> Result<Option<Roster>, AllocError>
         requires member_state { IsMemberState (who_of who.now) self.now }
-        ensures { IfOk result (λ w. w ≡ anew_proposal who.now.address self.now) }
+        ensures { IfOk result (λ w. w ≡ anew_past who.now.address self.now counter) }
     {
         match &self.view_state {
             None => Ok(None),
@@ -132,10 +153,19 @@ impl<R: Receiver> MemberState<R> {
                 if self.flush.is_none() {
                     return Ok(None);
                 }
-                let proposal = self.proposal_after(who, view_state.view())?;
+                let proposal = self.proposal_past(who, view_state.view(), counter)?;
                 Ok(proposal)
             }
         }
+    }
+
+    // What it proposes anew while its own flush goes on.
+    fn anew(&self, who: &Identity) -> Result<Option<Roster>, AllocError>
+        requires member_state { IsMemberState (who_of who.now) self.now }
+        ensures { IfOk result (λ w. w ≡ anew_proposal who.now.address self.now) }
+    {
+        let proposal = self.anew_past(who, 0)?;
+        Ok(proposal)
     }
 
     // Begins its own flush anew, with its candidates, where the counters are not used up; alone in the list it goes on at once.
