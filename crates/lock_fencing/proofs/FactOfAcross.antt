@@ -235,7 +235,7 @@ module _ (t : List Event) (is : IsOfTables t) (spells : SpellsViews t) where
       by s (command_of d.message.payload) refl (state-low g.place (entries-low g.place) d.member d.view here) (message-spells g.place d g.happens) (states-are t is.messages g.place d.member).rises
       (record { stands = g.grants.stands; new = g.grants.new })
     where
-      by : (s : Table) (o : Option Command) → command_of g.delivery.message.payload ≡ o → IsLow g.delivery.view s.last → Spells g.delivery.view g.delivery.message.payload → Rises s.locks
+      by : (s : Table) (o : Option Command) → command_of g.delivery.message.payload ≡ o → IsLow g.delivery.view s.last → Spells g.delivery.view g.delivery.message.payload → Rises s.entries
           → IsNew g.name s (after_command g.delivery.message.sender s o) g.lock → g.lock.token.view ≡ g.delivery.view
       by s None e low spelled rises new = absurd (new.new (ap token-in new.stands))
       by s (Some c) e low spelled rises new =

@@ -79,7 +79,7 @@ rolled-stays stays v last (e ∷ es) up = by (left_to stays v last e.value).lock
   by (Some l) rest = rest
 
 within-by : (P : Table → Type 0) (s new : Table) → P s → P new → P (within s new)
-within-by P s new old fresh = by (leb (table_size new.locks) STATE) where
+within-by P s new old fresh = by (leb (table_size new.entries) STATE) where
   by : (b : Bool) → P (cond b new s)
   by true = fresh
   by false = old
@@ -87,17 +87,17 @@ within-by P s new old fresh = by (leb (table_size new.locks) STATE) where
 -- ---- a command leaves the last token's view at most its own
 
 obeyed-stays : (from : Address) (c : Command) (s : Table) → IsUpTo s.last.view (view_of c) → IsUpTo (obeyed from c s).last.view (view_of c)
-obeyed-stays from (Acquire v name) s up = within-by (λ t. IsUpTo t.last.view v) s (acquired from v name s) up (by (value_of name s.locks)) where
+obeyed-stays from (Acquire v name) s up = within-by (λ t. IsUpTo t.last.view v) s (acquired from v name s) up (by (value_of name s.entries)) where
   by : (o : Option Lock) → IsUpTo (asked from v name s o).last.view v
   by None = next-stays v s.last up
   by (Some l) = up
-obeyed-stays from (Release v name) s up = by (value_of name s.locks) where
+obeyed-stays from (Release v name) s up = by (value_of name s.entries) where
   by : (o : Option Lock) → IsUpTo (gone_from from v name s o).last.view v
   by None = up
   by (Some l) = left-stays (others from) v s.last l up
 obeyed-stays from (Roll view) s up = by (same_address from view.id.creator) where
-  by : (b : Bool) → IsUpTo (cond b (rolled (members view) view.id s.last s.locks) s).last.view view.id
-  by true = rolled-stays (members view) view.id s.last s.locks up
+  by : (b : Bool) → IsUpTo (cond b (rolled (members view) view.id s.last s.entries) s).last.view view.id
+  by true = rolled-stays (members view) view.id s.last s.entries up
   by false = up
 
 pub carried-stays : (from : Address) (c : Command) (s : Table) → IsUpTo s.last.view (view_of c) → IsUpTo (carried_out from c s).last.view (view_of c)
@@ -119,7 +119,7 @@ unchanged-alone : (name : List ℕ) (s : Table) (l : Lock) → IsNew name s s l 
 unchanged-alone name s l one = absurd (one.new (ap token-in one.stands))
 
 -- by a token that a lock had nothing is granted
-kept-token : (name : List ℕ) (s t : Table) (x y l : Lock) → value_of name s.locks ≡ Some x → lock_of name t ≡ Some y → y.token ≡ x.token → IsNew name s t l → {P : Type 0} → P
+kept-token : (name : List ℕ) (s t : Table) (x y l : Lock) → value_of name s.entries ≡ Some x → lock_of name t ≡ Some y → y.token ≡ x.token → IsNew name s t l → {P : Type 0} → P
 kept-token name s t x y l here there same one =
     let is : y ≡ l = some-lock y l (sym there ∙ one.stands) in
     absurd (one.new (ap token-in here ∙ ap Some (sym same ∙ ap (λ (z : Lock). z.token) is)))
@@ -132,57 +132,57 @@ joined-token p l = by (stands_in p (queue l)) where
 
 acquire-new : (from : Address) (v : ViewId) (n name : List ℕ) (s : Table) (l : Lock) → IsUpTo s.last.view v → IsNew name s (acquired from v n s) l → l.token.view ≡ v
 acquire-new from v n name s l up one = by (is_eq (key_cmp name n)) refl where
-  found : (o : Option Lock) → value_of name s.locks ≡ o → IsNew name s (asked from v name s o) l → l.token.view ≡ v
+  found : (o : Option Lock) → value_of name s.entries ≡ o → IsNew name s (asked from v name s o) l → l.token.view ≡ v
   found None at new =
-      let lock : granted from (next_token v s.last) ≡ l = some-lock (granted from (next_token v s.last)) l (sym (found-there name (granted from (next_token v s.last)) s.locks) ∙ new.stands) in
+      let lock : granted from (next_token v s.last) ≡ l = some-lock (granted from (next_token v s.last)) l (sym (found-there name (granted from (next_token v s.last)) s.entries) ∙ new.stands) in
       ap (λ (x : Lock). x.token.view) (sym lock) ∙ next-in v s.last up
-  found (Some x) at new = kept-token name s (asked from v name s (Some x)) x (joined_by from x) l at (found-there name (joined_by from x) s.locks) (joined-token from x) new
+  found (Some x) at new = kept-token name s (asked from v name s (Some x)) x (joined_by from x) l at (found-there name (joined_by from x) s.entries) (joined-token from x) new
 
   by : (b : Bool) → is_eq (key_cmp name n) ≡ b → l.token.view ≡ v
-  by true e = found (value_of name s.locks) refl (subst (λ (k : List ℕ). IsNew name s (acquired from v k s) l) (sym (same-name name n e)) one)
+  by true e = found (value_of name s.entries) refl (subst (λ (k : List ℕ). IsNew name s (acquired from v k s) l) (sym (same-name name n e)) one)
   by false e = absurd (one.new (ap token-in (sym (acquired-beside name from v n s e)) ∙ ap token-in one.stands))
 
-release-new : (from : Address) (v : ViewId) (n name : List ℕ) (s : Table) (l : Lock) → Rises s.locks → IsUpTo s.last.view v → IsNew name s (gone_from from v n s (value_of n s.locks)) l → l.token.view ≡ v
-release-new from v n name s l rises up = by (value_of n s.locks) refl where
-  same : (x : Lock) → value_of n s.locks ≡ Some x → (b : Bool) → is_eq (key_cmp name n) ≡ b → IsNew name s (gone_from from v n s (Some x)) l → l.token.view ≡ v
+release-new : (from : Address) (v : ViewId) (n name : List ℕ) (s : Table) (l : Lock) → Rises s.entries → IsUpTo s.last.view v → IsNew name s (gone_from from v n s (value_of n s.entries)) l → l.token.view ≡ v
+release-new from v n name s l rises up = by (value_of n s.entries) refl where
+  same : (x : Lock) → value_of n s.entries ≡ Some x → (b : Bool) → is_eq (key_cmp name n) ≡ b → IsNew name s (gone_from from v n s (Some x)) l → l.token.view ≡ v
   same x at false e new = absurd (new.new (ap token-in (sym (gone-beside name from v n s x rises e)) ∙ ap token-in new.stands))
   same x at true e new =
       let named : name ≡ n = same-name name n e in
-      let here : value_of name s.locks ≡ Some x = ap (λ (k : List ℕ). value_of k s.locks) named ∙ at in
-      let found : (k : Option Lock) → value_of name (with_lock name k s.locks) ≡ k = found-left in
+      let here : value_of name s.entries ≡ Some x = ap (λ (k : List ℕ). value_of k s.entries) named ∙ at in
+      let found : (k : Option Lock) → value_of name (with_lock name k s.entries) ≡ k = found-left in
       let stands : (left_to (others from) v s.last x).lock ≡ Some l =
-      sym (found (left_to (others from) v s.last x).lock) ∙ ap (λ (k : List ℕ). value_of name (with_lock k (left_to (others from) v s.last x).lock s.locks)) named ∙ new.stands in
+      sym (found (left_to (others from) v s.last x).lock) ∙ ap (λ (k : List ℕ). value_of name (with_lock k (left_to (others from) v s.last x).lock s.entries)) named ∙ new.stands in
       ap (λ (t : Token). t.view) (left-token (others from) v s.last x l stands (λ f. new.new (ap token-in here ∙ f))) ∙ next-in v s.last up
     where
-      found-left : (k : Option Lock) → value_of name (with_lock name k s.locks) ≡ k
-      found-left None = found-without name s.locks name rises ∙ ap (λ (b : Bool). cond b None (value_of name s.locks)) (same-key name)
-      found-left (Some y) = found-there name y s.locks
+      found-left : (k : Option Lock) → value_of name (with_lock name k s.entries) ≡ k
+      found-left None = found-without name s.entries name rises ∙ ap (λ (b : Bool). cond b None (value_of name s.entries)) (same-key name)
+      found-left (Some y) = found-there name y s.entries
 
-  by : (o : Option Lock) → value_of n s.locks ≡ o → IsNew name s (gone_from from v n s o) l → l.token.view ≡ v
+  by : (o : Option Lock) → value_of n s.entries ≡ o → IsNew name s (gone_from from v n s o) l → l.token.view ≡ v
   by None at new = unchanged-alone name s l new
   by (Some x) at new = same x at (is_eq (key_cmp name n)) refl new
 
-roll-new : (stays : Address → Bool) (v : ViewId) (name : List ℕ) (s : Table) (l : Lock) → Rises s.locks → IsUpTo s.last.view v → IsNew name s (rolled stays v s.last s.locks) l → l.token.view ≡ v
-roll-new stays v name s l rises up new = by (value_of name s.locks) refl where
+roll-new : (stays : Address → Bool) (v : ViewId) (name : List ℕ) (s : Table) (l : Lock) → Rises s.entries → IsUpTo s.last.view v → IsNew name s (rolled stays v s.last s.entries) l → l.token.view ≡ v
+roll-new stays v name s l rises up new = by (value_of name s.entries) refl where
   last : Token
-  last = came stays v s.last name s.locks
+  last = came stays v s.last name s.entries
 
-  by : (o : Option Lock) → value_of name s.locks ≡ o → l.token.view ≡ v
-  by None at = let n = sym (found-rolled stays v s.last name s.locks rises ∙ ap (left_at stays v last) at) ∙ new.stands in absurd cc
+  by : (o : Option Lock) → value_of name s.entries ≡ o → l.token.view ≡ v
+  by None at = let n = sym (found-rolled stays v s.last name s.entries rises ∙ ap (left_at stays v last) at) ∙ new.stands in absurd cc
   by (Some x) at =
-      let stands : (left_to stays v last x).lock ≡ Some l = sym (found-rolled stays v s.last name s.locks rises ∙ ap (left_at stays v last) at) ∙ new.stands in
-      ap (λ (t : Token). t.view) (left-token stays v last x l stands (λ f. new.new (ap token-in at ∙ f))) ∙ next-in v last (came-stays stays v s.last name s.locks up)
+      let stands : (left_to stays v last x).lock ≡ Some l = sym (found-rolled stays v s.last name s.entries rises ∙ ap (left_at stays v last) at) ∙ new.stands in
+      ap (λ (t : Token). t.view) (left-token stays v last x l stands (λ f. new.new (ap token-in at ∙ f))) ∙ next-in v last (came-stays stays v s.last name s.entries up)
 
-obeyed-new : (from : Address) (c : Command) (name : List ℕ) (s : Table) (l : Lock) → Rises s.locks → IsUpTo s.last.view (view_of c) → IsNew name s (obeyed from c s) l → l.token.view ≡ view_of c
+obeyed-new : (from : Address) (c : Command) (name : List ℕ) (s : Table) (l : Lock) → Rises s.entries → IsUpTo s.last.view (view_of c) → IsNew name s (obeyed from c s) l → l.token.view ≡ view_of c
 obeyed-new from (Acquire v n) name s l rises up =
     within-by (λ t. IsNew name s t l → l.token.view ≡ v) s (acquired from v n s) (λ new. unchanged-alone name s l new) (acquire-new from v n name s l up)
 obeyed-new from (Release v n) name s l rises up = release-new from v n name s l rises up
 obeyed-new from (Roll view) name s l rises up = by (same_address from view.id.creator) where
-  by : (b : Bool) → IsNew name s (cond b (rolled (members view) view.id s.last s.locks) s) l → l.token.view ≡ view.id
+  by : (b : Bool) → IsNew name s (cond b (rolled (members view) view.id s.last s.entries) s) l → l.token.view ≡ view.id
   by true new = roll-new (members view) view.id name s l rises up new
   by false new = unchanged-alone name s l new
 
-pub carried-new : (from : Address) (c : Command) (name : List ℕ) (s : Table) (l : Lock) → Rises s.locks → IsUpTo s.last.view (view_of c) → IsNew name s (carried_out from c s) l → l.token.view ≡ view_of c
+pub carried-new : (from : Address) (c : Command) (name : List ℕ) (s : Table) (l : Lock) → Rises s.entries → IsUpTo s.last.view (view_of c) → IsNew name s (carried_out from c s) l → l.token.view ≡ view_of c
 carried-new from c name s l rises up = by (is_used_up (view_of c) s) where
   by : (b : Bool) → IsNew name s (cond b s (obeyed from c s)) l → l.token.view ≡ view_of c
   by true new = unchanged-alone name s l new

@@ -51,16 +51,16 @@ joined-many p l = by (stands_in p (queue l)) where
   by true = omega arith
   by false = omega (arith, length_push l.waiters p)
 
-within-fits : (s new : Table) → table_size new.locks ≤ STATE → within s new ≡ new
-within-fits s new fits = by (leb (table_size new.locks) STATE) refl where
-  by : (b : Bool) → leb (table_size new.locks) STATE ≡ b → cond b new s ≡ new
+within-fits : (s new : Table) → table_size new.entries ≤ STATE → within s new ≡ new
+within-fits s new fits = by (leb (table_size new.entries) STATE) refl where
+  by : (b : Bool) → leb (table_size new.entries) STATE ≡ b → cond b new s ≡ new
   by true e = refl
   by false e = absurd (let past = leb-false _ _ e in omega (arith, past, fits))
 
 -- ---- an acquire
 
 after-acquire : (s : Table) (m : Message) (view : ViewId) (name : List ℕ) (o : Option Lock) → command_of m.payload ≡ Some (Acquire view name) → is_used_up view s ≡ false
-    → value_of name s.locks ≡ o → table_size (asked m.from view name s o).locks ≤ STATE → after s m ≡ asked m.from view name s o
+    → value_of name s.entries ≡ o → table_size (asked m.from view name s o).entries ≤ STATE → after s m ≡ asked m.from view name s o
 after-acquire s m view name o e left at fits =
     ap (after_command m.from s) e ∙ ap (λ (b : Bool). cond b s (obeyed m.from (Acquire view name) s)) left
     ∙ ap (λ (t : Table). within s t) (ap (asked m.from view name s) at) ∙ within-fits s (asked m.from view name s o) fits
@@ -68,33 +68,33 @@ after-acquire s m view name o e left at fits =
 pub free-granted : FreeIsGranted
 free-granted s m view name e left free room =
     let lock = granted m.from (next_token view s.last) in
-    let size = size-new name s.locks lock free in
+    let size = size-new name s.entries lock free in
     let done = after-acquire s m view name None e left free (omega (arith, size, room)) in
     record {
-      stands = ap (lock_of name) done ∙ found-there name lock s.locks;
+      stands = ap (lock_of name) done ∙ found-there name lock s.entries;
       new = λ same. let none : None ≡ Some lock.token = sym (ap (option_map (λ (l : Lock). l.token)) free) ∙ same in absurd cc;
     }
 
 pub held-waits : HeldIsWaitedFor
 held-waits s m view name l e left held room =
-    let size = size-put name s.locks l (joined_by m.from l) held in
+    let size = size-put name s.entries l (joined_by m.from l) held in
     let few = joined-many m.from l in
-    ap (lock_of name) (after-acquire s m view name (Some l) e left held (omega (arith, size, few, room))) ∙ found-there name (joined_by m.from l) s.locks
+    ap (lock_of name) (after-acquire s m view name (Some l) e left held (omega (arith, size, few, room))) ∙ found-there name (joined_by m.from l) s.entries
 
 -- ---- a release
 
-release-lock : (name : List ℕ) (from : Address) (view : ViewId) (s : Table) (l : Lock) → Rises s.locks
+release-lock : (name : List ℕ) (from : Address) (view : ViewId) (s : Table) (l : Lock) → Rises s.entries
     → lock_of name (gone_from from view name s (Some l)) ≡ (left_to (others from) view s.last l).lock
 release-lock name from view s l up = found (left_to (others from) view s.last l).lock where
-  found : (k : Option Lock) → value_of name (with_lock name k s.locks) ≡ k
-  found None = found-without name s.locks name up ∙ ap (λ (b : Bool). cond b None (value_of name s.locks)) (same-key name)
-  found (Some x) = found-there name x s.locks
+  found : (k : Option Lock) → value_of name (with_lock name k s.entries) ≡ k
+  found None = found-without name s.entries name up ∙ ap (λ (b : Bool). cond b None (value_of name s.entries)) (same-key name)
+  found (Some x) = found-there name x s.entries
 
 pub release-leaves : ReleasedIsLeft
 release-leaves s m view name is e left =
-    ap (queue_of name) (ap (after_command m.from s) e ∙ ap (λ (b : Bool). cond b s (released m.from view name s)) left) ∙ by (value_of name s.locks) refl
+    ap (queue_of name) (ap (after_command m.from s) e ∙ ap (λ (b : Bool). cond b s (released m.from view name s)) left) ∙ by (value_of name s.entries) refl
   where
-    by : (o : Option Lock) → value_of name s.locks ≡ o → queue_of name (gone_from m.from view name s o) ≡ filter (others m.from) (option_map_or queue o [])
+    by : (o : Option Lock) → value_of name s.entries ≡ o → queue_of name (gone_from m.from view name s o) ≡ filter (others m.from) (option_map_or queue o [])
     by None at = ap (λ (o : Option Lock). option_map_or queue o []) at
     by (Some l) at = ap (λ (o : Option Lock). option_map_or queue o []) (release-lock name m.from view s l is.rises) ∙ queue-left (others m.from) view s.last l
 
@@ -102,9 +102,9 @@ release-leaves s m view name is e left =
 
 pub roll-leaves : RolledIsLeft
 roll-leaves s m view name is e left own =
-    ap (queue_of name) (ap (after_command m.from s) e ∙ ap (λ (b : Bool). cond b s (obeyed m.from (Roll view) s)) left ∙ ap (λ (b : Bool). cond b (rolled (members view) view.id s.last s.locks) s) own)
-    ∙ ap (λ (o : Option Lock). option_map_or queue o []) (found-rolled (members view) view.id s.last name s.locks is.rises) ∙ by (value_of name s.locks)
+    ap (queue_of name) (ap (after_command m.from s) e ∙ ap (λ (b : Bool). cond b s (obeyed m.from (Roll view) s)) left ∙ ap (λ (b : Bool). cond b (rolled (members view) view.id s.last s.entries) s) own)
+    ∙ ap (λ (o : Option Lock). option_map_or queue o []) (found-rolled (members view) view.id s.last name s.entries is.rises) ∙ by (value_of name s.entries)
   where
-    by : (o : Option Lock) → option_map_or queue (left_at (members view) view.id (came (members view) view.id s.last name s.locks) o) [] ≡ filter (members view) (option_map_or queue o [])
+    by : (o : Option Lock) → option_map_or queue (left_at (members view) view.id (came (members view) view.id s.last name s.entries) o) [] ≡ filter (members view) (option_map_or queue o [])
     by None = refl
-    by (Some l) = queue-left (members view) view.id (came (members view) view.id s.last name s.locks) l
+    by (Some l) = queue-left (members view) view.id (came (members view) view.id s.last name s.entries) l

@@ -81,38 +81,38 @@ left-last stays view last x l = by (stays x.holder) where
   by true e new = absurd (new (ap (λ (y : Lock). Some y.token) (some-lock (record { holder = x.holder; token = x.token; waiters = filter stays x.waiters }) l e)))
   by false e new = by-first (filter stays x.waiters) e
 
-rolled-rise : (stays : Address → Bool) (view : ViewId) (s : Table) (a b : List ℕ) (l k : Lock) → Rises s.locks → IsNew a s (rolled stays view s.last s.locks) l → IsNew b s (rolled stays view s.last s.locks) k → key_cmp a b ≡ Less → IsBelow l.token k.token
-rolled-rise stays view s a b l k up one two less = by (value_of a s.locks) refl (value_of b s.locks) refl where
-  found : (q : List ℕ) (o : Option Lock) → value_of q s.locks ≡ o → lock_of q (rolled stays view s.last s.locks) ≡ left_at stays view (came stays view s.last q s.locks) o
-  found q o at = found-rolled stays view s.last q s.locks up ∙ ap (left_at stays view (came stays view s.last q s.locks)) at
+rolled-rise : (stays : Address → Bool) (view : ViewId) (s : Table) (a b : List ℕ) (l k : Lock) → Rises s.entries → IsNew a s (rolled stays view s.last s.entries) l → IsNew b s (rolled stays view s.last s.entries) k → key_cmp a b ≡ Less → IsBelow l.token k.token
+rolled-rise stays view s a b l k up one two less = by (value_of a s.entries) refl (value_of b s.entries) refl where
+  found : (q : List ℕ) (o : Option Lock) → value_of q s.entries ≡ o → lock_of q (rolled stays view s.last s.entries) ≡ left_at stays view (came stays view s.last q s.entries) o
+  found q o at = found-rolled stays view s.last q s.entries up ∙ ap (left_at stays view (came stays view s.last q s.entries)) at
 
-  by : (o : Option Lock) → value_of a s.locks ≡ o → (p : Option Lock) → value_of b s.locks ≡ p → IsBelow l.token k.token
+  by : (o : Option Lock) → value_of a s.entries ≡ o → (p : Option Lock) → value_of b s.entries ≡ p → IsBelow l.token k.token
   by None at p other = let n = sym (found a None at) ∙ one.stands in absurd cc
   by (Some x) at None other = let n = sym (found b None other) ∙ two.stands in absurd cc
   by (Some x) at (Some y) other =
-      let first = left-last stays view (came stays view s.last a s.locks) x l (sym (found a (Some x) at) ∙ one.stands) (λ e. one.new (ap token-in at ∙ e)) in
-      let second = left-token stays view (came stays view s.last b s.locks) y k (sym (found b (Some y) other) ∙ two.stands) (λ e. two.new (ap token-in other ∙ e)) in
-      let later = came-later stays view s.last a b s.locks x less at in
-      let low : is_up_to l.token (came stays view s.last b s.locks) ≡ true = ap (λ (t : Token). is_up_to t (came stays view s.last b s.locks)) first ∙ later in
-      subst (IsBelow l.token) (sym second) (up-below l.token (came stays view s.last b s.locks) (next_token view (came stays view s.last b s.locks)) low (next-above view (came stays view s.last b s.locks)))
+      let first = left-last stays view (came stays view s.last a s.entries) x l (sym (found a (Some x) at) ∙ one.stands) (λ e. one.new (ap token-in at ∙ e)) in
+      let second = left-token stays view (came stays view s.last b s.entries) y k (sym (found b (Some y) other) ∙ two.stands) (λ e. two.new (ap token-in other ∙ e)) in
+      let later = came-later stays view s.last a b s.entries x less at in
+      let low : is_up_to l.token (came stays view s.last b s.entries) ≡ true = ap (λ (t : Token). is_up_to t (came stays view s.last b s.entries)) first ∙ later in
+      subst (IsBelow l.token) (sym second) (up-below l.token (came stays view s.last b s.entries) (next_token view (came stays view s.last b s.entries)) low (next-above view (came stays view s.last b s.entries)))
 
 -- ---- each command
 
-obeyed-rise : (from : Address) (c : Command) (s : Table) (a b : List ℕ) (l k : Lock) → Rises s.locks → IsNew a s (obeyed from c s) l → IsNew b s (obeyed from c s) k → key_cmp a b ≡ Less → IsBelow l.token k.token
-obeyed-rise from (Acquire view n) s a b l k up = by (leb (table_size (acquired from view n s).locks) STATE) where
+obeyed-rise : (from : Address) (c : Command) (s : Table) (a b : List ℕ) (l k : Lock) → Rises s.entries → IsNew a s (obeyed from c s) l → IsNew b s (obeyed from c s) k → key_cmp a b ≡ Less → IsBelow l.token k.token
+obeyed-rise from (Acquire view n) s a b l k up = by (leb (table_size (acquired from view n s).entries) STATE) where
   by : (x : Bool) → IsNew a s (cond x (acquired from view n s) s) l → IsNew b s (cond x (acquired from view n s) s) k → key_cmp a b ≡ Less → IsBelow l.token k.token
   by true one two less = named-alone n s (acquired from view n s) (λ q e. acquired-beside q from view n s e) a b l k one two less
   by false one two less = unchanged-alone s s a l refl one
-obeyed-rise from (Release view n) s a b l k up = by (value_of n s.locks) where
+obeyed-rise from (Release view n) s a b l k up = by (value_of n s.entries) where
   by : (o : Option Lock) → IsNew a s (gone_from from view n s o) l → IsNew b s (gone_from from view n s o) k → key_cmp a b ≡ Less → IsBelow l.token k.token
   by None one two less = unchanged-alone s s a l refl one
   by (Some x) one two less = named-alone n s (gone_from from view n s (Some x)) (λ q e. gone-beside q from view n s x up e) a b l k one two less
 obeyed-rise from (Roll view) s a b l k up = by (same_address from view.id.creator) where
-  by : (x : Bool) → IsNew a s (cond x (rolled (members view) view.id s.last s.locks) s) l → IsNew b s (cond x (rolled (members view) view.id s.last s.locks) s) k → key_cmp a b ≡ Less → IsBelow l.token k.token
+  by : (x : Bool) → IsNew a s (cond x (rolled (members view) view.id s.last s.entries) s) l → IsNew b s (cond x (rolled (members view) view.id s.last s.entries) s) k → key_cmp a b ≡ Less → IsBelow l.token k.token
   by true one two less = rolled-rise (members view) view.id s a b l k up one two less
   by false one two less = unchanged-alone s s a l refl one
 
-carried-rise : (from : Address) (c : Command) (s : Table) (a b : List ℕ) (l k : Lock) → Rises s.locks → IsNew a s (carried_out from c s) l → IsNew b s (carried_out from c s) k → key_cmp a b ≡ Less → IsBelow l.token k.token
+carried-rise : (from : Address) (c : Command) (s : Table) (a b : List ℕ) (l k : Lock) → Rises s.entries → IsNew a s (carried_out from c s) l → IsNew b s (carried_out from c s) k → key_cmp a b ≡ Less → IsBelow l.token k.token
 carried-rise from c s a b l k up = by (is_used_up (view_of c) s) where
   by : (x : Bool) → IsNew a s (cond x s (obeyed from c s)) l → IsNew b s (cond x s (obeyed from c s)) k → key_cmp a b ≡ Less → IsBelow l.token k.token
   by true one two less = unchanged-alone s s a l refl one

@@ -37,12 +37,12 @@ nobody-leaves p view last l st =
     rw (parts.0, all-others p l.waiters parts.1) refl
 
 released-same : (p : Address) (view : ViewId) (name : List ℕ) (s : Table) → stands_in p (queue_of name s) ≡ false → released p view name s ≡ s
-released-same p view name s st = by (value_of name s.locks) refl where
-  by : (o : Option Lock) → value_of name s.locks ≡ o → gone_from p view name s o ≡ s
+released-same p view name s st = by (value_of name s.entries) refl where
+  by : (o : Option Lock) → value_of name s.entries ≡ o → gone_from p view name s o ≡ s
   by None at = refl
   by (Some l) at =
       let here : stands_in p (queue l) ≡ false = ap (λ (o : Option Lock). stands_in p (option_map_or queue o [])) (sym at) ∙ st in
-      ap (λ (o : Outcome). table_of o.last (with_lock name o.lock s.locks)) (nobody-leaves p view s.last l here) ∙ ap (table_of s.last) (put-same name l s.locks at)
+      ap (λ (o : Outcome). table_of o.last (with_lock name o.lock s.entries)) (nobody-leaves p view s.last l here) ∙ ap (table_of s.last) (put-same name l s.entries at)
 
 pub other-release : (s : Table) (m : Message) (view : ViewId) (name : List ℕ) → command_of m.payload ≡ Some (Release view name) → stands_in m.from (queue_of name s) ≡ false → after s m ≡ s
 other-release s m view name e st = ap (after_command m.from s) e ∙ by (is_used_up view s) where
@@ -82,13 +82,13 @@ left-stays stays view last l k = by (stays l.holder) refl where
   by true is e = subst (Stays stays) (some-lock (record { holder = l.holder; token = l.token; waiters = filter stays l.waiters }) k e) (record { holder = is; waiters = passes-filter stays l.waiters })
   by false is e = by-first (filter stays l.waiters) (passes-filter stays l.waiters) e
 
-rolled-stay : (stays : Address → Bool) (view : ViewId) (last : Token) (es : List (Entry Lock)) → AllByRecursion (λ e. Stays stays e.value) (rolled stays view last es).locks
+rolled-stay : (stays : Address → Bool) (view : ViewId) (last : Token) (es : List (Entry Lock)) → AllByRecursion (λ e. Stays stays e.value) (rolled stays view last es).entries
 rolled-stay stays view last [] = tt
 rolled-stay stays view last (e ∷ es) = by (left_to stays view last e.value).lock (left-stays stays view last e.value) (rolled-stay stays view (left_to stays view last e.value).last es) where
   rest : Table
   rest = rolled stays view (left_to stays view last e.value).last es
 
-  by : (k : Option Lock) → ((l : Lock) → k ≡ Some l → Stays stays l) → AllByRecursion (λ x. Stays stays x.value) rest.locks → AllByRecursion (λ x. Stays stays x.value) (before e.key k rest).locks
+  by : (k : Option Lock) → ((l : Lock) → k ≡ Some l → Stays stays l) → AllByRecursion (λ x. Stays stays x.value) rest.entries → AllByRecursion (λ x. Stays stays x.value) (before e.key k rest).entries
   by None one all = all
   by (Some l) one all = (one l refl, all)
 
@@ -96,7 +96,7 @@ rolled-stay stays view last (e ∷ es) = by (left_to stays view last e.value).lo
 rolled-same : (stays : Address → Bool) (view : ViewId) (last : Token) (es : List (Entry Lock)) → AllByRecursion (λ e. Stays stays e.value) es → rolled stays view last es ≡ table_of last es
 rolled-same stays view last [] all = refl
 rolled-same stays view last (e ∷ es) all =
-    rw (all.0.holder, filter-passed stays e.value.waiters all.0.waiters) (ap (λ (t : Table). table_of t.last (e ∷ t.locks)) (rolled-same stays view last es all.1))
+    rw (all.0.holder, filter-passed stays e.value.waiters all.0.waiters) (ap (λ (t : Table). table_of t.last (e ∷ t.entries)) (rolled-same stays view last es all.1))
 
 roll-twice : (from : Address) (view : View) (s : Table) → carried_out from (Roll view) (carried_out from (Roll view) s) ≡ carried_out from (Roll view) s
 roll-twice from view s = by (is_used_up view.id s) refl where
@@ -106,12 +106,12 @@ roll-twice from view s = by (is_used_up view.id s) refl where
     either true = refl
     either false = e
 
-  rolls : (b : Bool) → same_address from view.id.creator ≡ b → (t : Table) → t ≡ cond b (rolled (members view) view.id s.last s.locks) s → obeyed from (Roll view) t ≡ t
+  rolls : (b : Bool) → same_address from view.id.creator ≡ b → (t : Table) → t ≡ cond b (rolled (members view) view.id s.last s.entries) s → obeyed from (Roll view) t ≡ t
   rolls true e t is =
-      let all = rolled-stay (members view) view.id s.last s.locks in
-      let stay : AllByRecursion (λ x. Stays (members view) x.value) t.locks = subst (λ (u : Table). AllByRecursion (λ x. Stays (members view) x.value) u.locks) (sym is) all in
-      ap (λ (b : Bool). cond b (rolled (members view) view.id t.last t.locks) t) e ∙ rolled-same (members view) view.id t.last t.locks stay
-  rolls false e t is = ap (λ (b : Bool). cond b (rolled (members view) view.id t.last t.locks) t) e
+      let all = rolled-stay (members view) view.id s.last s.entries in
+      let stay : AllByRecursion (λ x. Stays (members view) x.value) t.entries = subst (λ (u : Table). AllByRecursion (λ x. Stays (members view) x.value) u.entries) (sym is) all in
+      ap (λ (b : Bool). cond b (rolled (members view) view.id t.last t.entries) t) e ∙ rolled-same (members view) view.id t.last t.entries stay
+  rolls false e t is = ap (λ (b : Bool). cond b (rolled (members view) view.id t.last t.entries) t) e
 
   by : (b : Bool) → is_used_up view.id s ≡ b → carried_out from (Roll view) (cond b s (obeyed from (Roll view) s)) ≡ cond b s (obeyed from (Roll view) s)
   by true e = ap (λ (b : Bool). cond b s (obeyed from (Roll view) s)) e

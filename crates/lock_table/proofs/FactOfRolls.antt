@@ -12,7 +12,7 @@ use Rattle.lock_table.specs.StepLaws.{MayRoll, first-sound, roll-goes-on}
 
 -- locks before a table's
 abbrev pub behind : List (Entry Lock) → Table → Table
-behind front s = table_of s.last (front ++ s.locks)
+behind front s = table_of s.last (front ++ s.entries)
 
 -- one more lock is left in its place
 pub goes-on : (stays : Address → Bool) (view : ViewId) (last token : Token) (front : List (Entry Lock)) (e : Entry Lock) (es : List (Entry Lock)) (l : Lock) (total : Table)
@@ -26,8 +26,8 @@ goes-on stays view last token front e es l total left so_far = by (stays l.holde
   at = ap (λ (t : Token). rolled stays view t es) (sym left.last)
 
   by : (b : Bool) → (left_to stays view last e.value).lock ≡ cond b (Some l) None → behind (front ++ cond b (entry_of e.key l ∷ []) []) (rolled stays view token es) ≡ behind front (before e.key (left_to stays view last e.value).lock rest)
-  by true is = rw (is, at) (ap (table_of rest.last) (append_assoc front (entry_of e.key l ∷ []) rest.locks))
-  by false is = rw (is, at) (ap (table_of rest.last) (append_assoc front [] rest.locks))
+  by true is = rw (is, at) (ap (table_of rest.last) (append_assoc front (entry_of e.key l ∷ []) rest.entries))
+  by false is = rw (is, at) (ap (table_of rest.last) (append_assoc front [] rest.entries))
 
 -- ---- a lock that is written in its place
 
@@ -47,32 +47,32 @@ drop-here (x ∷ xs) zero e lt at = ap (λ (y : Entry Lock). y ∷ xs) (sym at)
 drop-here (x ∷ xs) (suc i) e lt at = drop-here xs i e (omega (arith, lt)) at
 
 -- what a loop keeps at each lock
-pub record Rolls (stays : Address → Bool) (view : ViewId) (last : Token) (locks : List (Entry Lock)) (i : ℕ) (total : Table) : Type 0 where
-  pub all : behind (filter (holder_in stays) (take i locks)) (rolled stays view last (drop i locks)) ≡ total
-  pub may : MayRoll view last (drop i locks)
+pub record Rolls (stays : Address → Bool) (view : ViewId) (last : Token) (entries : List (Entry Lock)) (i : ℕ) (total : Table) : Type 0 where
+  pub all : behind (filter (holder_in stays) (take i entries)) (rolled stays view last (drop i entries)) ≡ total
+  pub may : MayRoll view last (drop i entries)
 
-pub rolls-on : (stays : Address → Bool) (view : ViewId) (last token : Token) (locks : List (Entry Lock)) (i n : ℕ) (e : Entry Lock) (k : List ℕ) (l : Lock) (total : Table) → i < length locks → n ≡ suc i → e ≡ get_or locks i e → k ≡ e.key
-    → IsLeft stays (left_to stays view last e.value) l token → Rolls stays view last locks i total → Rolls stays view token (set locks i (entry_of k l)) n total
-rolls-on stays view last token locks i n e k l total lt next at name left so_far =
-    let here = drop-here locks i e lt at in
-    let may : MayRoll view last (e ∷ drop (suc i) locks) = subst (MayRoll view last) here so_far.may in
-    let all : behind (filter (holder_in stays) (take i locks)) (rolled stays view last (e ∷ drop (suc i) locks)) ≡ total = ap (λ (es : List (Entry Lock)). behind (filter (holder_in stays) (take i locks)) (rolled stays view last es)) (sym here) ∙ so_far.all in
-    let sound = first-sound stays view last e (drop (suc i) locks) may in
-    let more : MayRoll view token (drop (suc i) locks) = subst (λ (t : Token). MayRoll view t (drop (suc i) locks)) left.last (roll-goes-on view last e (drop (suc i) locks) (left_to stays view last e.value) may sound) in
-    let front : filter (holder_in stays) (take (suc i) (set locks i (entry_of e.key l))) ≡ filter (holder_in stays) (take i locks) ++ filter (holder_in stays) (entry_of e.key l ∷ []) =
-    ap (filter (holder_in stays)) (take-through locks i (entry_of e.key l) lt) ∙ filter-append (holder_in stays) (take i locks) (entry_of e.key l ∷ []) in
+pub rolls-on : (stays : Address → Bool) (view : ViewId) (last token : Token) (entries : List (Entry Lock)) (i n : ℕ) (e : Entry Lock) (k : List ℕ) (l : Lock) (total : Table) → i < length entries → n ≡ suc i → e ≡ get_or entries i e → k ≡ e.key
+    → IsLeft stays (left_to stays view last e.value) l token → Rolls stays view last entries i total → Rolls stays view token (set entries i (entry_of k l)) n total
+rolls-on stays view last token entries i n e k l total lt next at name left so_far =
+    let here = drop-here entries i e lt at in
+    let may : MayRoll view last (e ∷ drop (suc i) entries) = subst (MayRoll view last) here so_far.may in
+    let all : behind (filter (holder_in stays) (take i entries)) (rolled stays view last (e ∷ drop (suc i) entries)) ≡ total = ap (λ (es : List (Entry Lock)). behind (filter (holder_in stays) (take i entries)) (rolled stays view last es)) (sym here) ∙ so_far.all in
+    let sound = first-sound stays view last e (drop (suc i) entries) may in
+    let more : MayRoll view token (drop (suc i) entries) = subst (λ (t : Token). MayRoll view t (drop (suc i) entries)) left.last (roll-goes-on view last e (drop (suc i) entries) (left_to stays view last e.value) may sound) in
+    let front : filter (holder_in stays) (take (suc i) (set entries i (entry_of e.key l))) ≡ filter (holder_in stays) (take i entries) ++ filter (holder_in stays) (entry_of e.key l ∷ []) =
+    ap (filter (holder_in stays)) (take-through entries i (entry_of e.key l) lt) ∙ filter-append (holder_in stays) (take i entries) (entry_of e.key l ∷ []) in
     rw (next, name) (record {
-      all = rw (front, drop-through locks i (entry_of e.key l)) (goes-on stays view last token (filter (holder_in stays) (take i locks)) e (drop (suc i) locks) l total left all);
-      may = rw (drop-through locks i (entry_of e.key l)) more;
+      all = rw (front, drop-through entries i (entry_of e.key l)) (goes-on stays view last token (filter (holder_in stays) (take i entries)) e (drop (suc i) entries) l total left all);
+      may = rw (drop-through entries i (entry_of e.key l)) more;
     })
 
 -- the loop has come to the end
-pub rolls-end : (stays : Address → Bool) (view : ViewId) (last : Token) (locks : List (Entry Lock)) (i : ℕ) (total : Table) → Rolls stays view last locks i total → length locks ≤ i → table_of last (filter (holder_in stays) locks) ≡ total
-rolls-end stays view last locks i total so_far end =
-    let front : filter (holder_in stays) (take i locks) ≡ filter (holder_in stays) locks = ap (filter (holder_in stays)) (take_all i locks end) in
-    let nothing : rolled stays view last (drop i locks) ≡ table_of last [] = ap (rolled stays view last) (drop_all i locks end) in
-    let whole : behind (filter (holder_in stays) (take i locks)) (rolled stays view last (drop i locks)) ≡ table_of last (filter (holder_in stays) locks) =
-    rw (nothing, front) (ap (table_of last) (append-nil (filter (holder_in stays) locks))) in
+pub rolls-end : (stays : Address → Bool) (view : ViewId) (last : Token) (entries : List (Entry Lock)) (i : ℕ) (total : Table) → Rolls stays view last entries i total → length entries ≤ i → table_of last (filter (holder_in stays) entries) ≡ total
+rolls-end stays view last entries i total so_far end =
+    let front : filter (holder_in stays) (take i entries) ≡ filter (holder_in stays) entries = ap (filter (holder_in stays)) (take_all i entries end) in
+    let nothing : rolled stays view last (drop i entries) ≡ table_of last [] = ap (rolled stays view last) (drop_all i entries end) in
+    let whole : behind (filter (holder_in stays) (take i entries)) (rolled stays view last (drop i entries)) ≡ table_of last (filter (holder_in stays) entries) =
+    rw (nothing, front) (ap (table_of last) (append-nil (filter (holder_in stays) entries))) in
     sym whole ∙ so_far.all
 
 -- a lock that was left, by another name of its entry

@@ -21,44 +21,44 @@ remove-set (x ∷ xs) (suc i) y = ap (λ (l : List _). x ∷ l) (remove-set xs i
 
 -- ---- a release
 
-pub gone-freed : (p : Address) (view : ViewId) (k : List ℕ) (last : Token) (locks : List (Entry Lock)) (i : ℕ) (x : Entry Lock) (l : Lock) (token : Token) → IsHeldAt k locks i → slice_get locks i ≡ Some x
-    → IsLeft (others p) (left_to (others p) view last x.value) l token → same_address p l.holder ≡ true → table_of token (remove (set locks i (entry_of x.key l)) i) ≡ released p view k (table_of last locks)
-gone-freed p view k last locks i x l token held stands left is =
-    let at : value_of k locks ≡ Some x.value = held.value x stands in
+pub gone-freed : (p : Address) (view : ViewId) (k : List ℕ) (last : Token) (entries : List (Entry Lock)) (i : ℕ) (x : Entry Lock) (l : Lock) (token : Token) → IsHeldAt k entries i → slice_get entries i ≡ Some x
+    → IsLeft (others p) (left_to (others p) view last x.value) l token → same_address p l.holder ≡ true → table_of token (remove (set entries i (entry_of x.key l)) i) ≡ released p view k (table_of last entries)
+gone-freed p view k last entries i x l token held stands left is =
+    let at : value_of k entries ≡ Some x.value = held.value x stands in
     let o = left_to (others p) view last x.value in
     let free : o.lock ≡ None = left.lock ∙ ap (λ (b : Bool). cond (not b) (Some l) None) is in
-    let locks-are : remove (set locks i (entry_of x.key l)) i ≡ with_lock k o.lock locks = remove-set locks i (entry_of x.key l) ∙ sym held.takes ∙ ap (λ (m : Option Lock). with_lock k m locks) (sym free) in
-    ap (table_of token) locks-are ∙ ap (λ (t : Token). table_of t (with_lock k o.lock locks)) (sym left.last) ∙ ap (gone_from p view k (table_of last locks)) (sym at)
+    let entries-are : remove (set entries i (entry_of x.key l)) i ≡ with_lock k o.lock entries = remove-set entries i (entry_of x.key l) ∙ sym held.takes ∙ ap (λ (m : Option Lock). with_lock k m entries) (sym free) in
+    ap (table_of token) entries-are ∙ ap (λ (t : Token). table_of t (with_lock k o.lock entries)) (sym left.last) ∙ ap (gone_from p view k (table_of last entries)) (sym at)
 
-pub gone-kept : (p : Address) (view : ViewId) (k : List ℕ) (last : Token) (locks : List (Entry Lock)) (i : ℕ) (x : Entry Lock) (l : Lock) (token : Token) → IsHeldAt k locks i → slice_get locks i ≡ Some x
-    → IsLeft (others p) (left_to (others p) view last x.value) l token → same_address p l.holder ≡ false → table_of token (set locks i (entry_of x.key l)) ≡ released p view k (table_of last locks)
-gone-kept p view k last locks i x l token held stands left is =
-    let at : value_of k locks ≡ Some x.value = held.value x stands in
+pub gone-kept : (p : Address) (view : ViewId) (k : List ℕ) (last : Token) (entries : List (Entry Lock)) (i : ℕ) (x : Entry Lock) (l : Lock) (token : Token) → IsHeldAt k entries i → slice_get entries i ≡ Some x
+    → IsLeft (others p) (left_to (others p) view last x.value) l token → same_address p l.holder ≡ false → table_of token (set entries i (entry_of x.key l)) ≡ released p view k (table_of last entries)
+gone-kept p view k last entries i x l token held stands left is =
+    let at : value_of k entries ≡ Some x.value = held.value x stands in
     let o = left_to (others p) view last x.value in
     let kept : o.lock ≡ Some l = left.lock ∙ ap (λ (b : Bool). cond (not b) (Some l) None) is in
-    let locks-are : set locks i (entry_of x.key l) ≡ with_lock k o.lock locks = sym (held.puts x l stands) ∙ ap (λ (m : Option Lock). with_lock k m locks) (sym kept) in
-    ap (table_of token) locks-are ∙ ap (λ (t : Token). table_of t (with_lock k o.lock locks)) (sym left.last) ∙ ap (gone_from p view k (table_of last locks)) (sym at)
+    let entries-are : set entries i (entry_of x.key l) ≡ with_lock k o.lock entries = sym (held.puts x l stands) ∙ ap (λ (m : Option Lock). with_lock k m entries) (sym kept) in
+    ap (table_of token) entries-are ∙ ap (λ (t : Token). table_of t (with_lock k o.lock entries)) (sym left.last) ∙ ap (gone_from p view k (table_of last entries)) (sym at)
 
 -- ---- an acquisition
 
-stays-away : (s new : Table) → STATE < table_size new.locks → s ≡ within s new
-stays-away s new more = by (leb (table_size new.locks) STATE) refl where
-  by : (b : Bool) → leb (table_size new.locks) STATE ≡ b → s ≡ cond b new s
-  by true test = let small : table_size new.locks ≤ STATE = leb-true _ _ test in absurd (omega (arith, small, more))
+stays-away : (s new : Table) → STATE < table_size new.entries → s ≡ within s new
+stays-away s new more = by (leb (table_size new.entries) STATE) refl where
+  by : (b : Bool) → leb (table_size new.entries) STATE ≡ b → s ≡ cond b new s
+  by true test = let small : table_size new.entries ≤ STATE = leb-true _ _ test in absurd (omega (arith, small, more))
   by false test = refl
 
-comes-in : (s new : Table) → table_size new.locks ≤ STATE → new ≡ within s new
-comes-in s new few = sym (cond-true (leb (table_size new.locks) STATE) new s (le-leb _ _ few))
+comes-in : (s new : Table) → table_size new.entries ≤ STATE → new ≡ within s new
+comes-in s new few = sym (cond-true (leb (table_size new.entries) STATE) new s (le-leb _ _ few))
 
 either-way : (s new : Table) → new ≡ s → s ≡ within s new
-either-way s new same = by (leb (table_size new.locks) STATE) where
+either-way s new same = by (leb (table_size new.entries) STATE) where
   by : (b : Bool) → s ≡ cond b new s
   by true = sym same
   by false = refl
 
 -- what is asked for where a lock is held
-asked-held : (p : Address) (view : ViewId) (k : List ℕ) (last : Token) (locks : List (Entry Lock)) (l : Lock) → value_of k locks ≡ Some l → acquired p view k (table_of last locks) ≡ table_of last (put k (joined_by p l) locks)
-asked-held p view k last locks l at = ap (asked p view k (table_of last locks)) at
+asked-held : (p : Address) (view : ViewId) (k : List ℕ) (last : Token) (entries : List (Entry Lock)) (l : Lock) → value_of k entries ≡ Some l → acquired p view k (table_of last entries) ≡ table_of last (put k (joined_by p l) entries)
+asked-held p view k last entries l at = ap (asked p view k (table_of last entries)) at
 
 pub set-same : (xs : List (Entry Lock)) (i : ℕ) (x : Entry Lock) → slice_get xs i ≡ Some x → set xs i x ≡ xs
 set-same [] i x e = refl
@@ -72,49 +72,49 @@ joined-new : (p : Address) (l : Lock) → stands_in p (queue l) ≡ false → le
 joined-new p l e = ap (λ (b : Bool). length (cond b l (record { holder = l.holder; token = l.token; waiters = l.waiters ++ p ∷ [] })).waiters) e ∙ length-append l.waiters (p ∷ [])
 
 -- one stands there already
-pub stands-already : (p : Address) (view : ViewId) (k : List ℕ) (last : Token) (locks : List (Entry Lock)) (i : ℕ) (x : Entry Lock) → IsHeldAt k locks i → slice_get locks i ≡ Some x → stands_in p (queue x.value) ≡ true
-    → table_of last locks ≡ within (table_of last locks) (acquired p view k (table_of last locks))
-stands-already p view k last locks i x held stands e =
-    either-way (table_of last locks) (acquired p view k (table_of last locks))
-    (asked-held p view k last locks x.value (held.value x stands) ∙ ap (λ (l : Lock). table_of last (put k l locks)) (joined-there p x.value e) ∙ ap (table_of last) (held.puts x x.value stands ∙ set-same locks i x stands))
+pub stands-already : (p : Address) (view : ViewId) (k : List ℕ) (last : Token) (entries : List (Entry Lock)) (i : ℕ) (x : Entry Lock) → IsHeldAt k entries i → slice_get entries i ≡ Some x → stands_in p (queue x.value) ≡ true
+    → table_of last entries ≡ within (table_of last entries) (acquired p view k (table_of last entries))
+stands-already p view k last entries i x held stands e =
+    either-way (table_of last entries) (acquired p view k (table_of last entries))
+    (asked-held p view k last entries x.value (held.value x stands) ∙ ap (λ (l : Lock). table_of last (put k l entries)) (joined-there p x.value e) ∙ ap (table_of last) (held.puts x x.value stands ∙ set-same entries i x stands))
 
 -- one waits
-pub joins : (p : Address) (view : ViewId) (k : List ℕ) (last : Token) (locks : List (Entry Lock)) (i : ℕ) (x : Entry Lock) (l : Lock) → IsHeldAt k locks i → slice_get locks i ≡ Some x → stands_in p (queue x.value) ≡ false → l ≡ joined_by p x.value → table_size locks + 6 ≤ STATE
-    → table_of last (set locks i (entry_of x.key l)) ≡ within (table_of last locks) (acquired p view k (table_of last locks))
-joins p view k last locks i x l held stands e is few =
+pub joins : (p : Address) (view : ViewId) (k : List ℕ) (last : Token) (entries : List (Entry Lock)) (i : ℕ) (x : Entry Lock) (l : Lock) → IsHeldAt k entries i → slice_get entries i ≡ Some x → stands_in p (queue x.value) ≡ false → l ≡ joined_by p x.value → table_size entries + 6 ≤ STATE
+    → table_of last (set entries i (entry_of x.key l)) ≡ within (table_of last entries) (acquired p view k (table_of last entries))
+joins p view k last entries i x l held stands e is few =
     let at = held.value x stands in
-    let new = asked-held p view k last locks x.value at in
-    let size = size-put k locks x.value (joined_by p x.value) at in
-    let puts : set locks i (entry_of x.key l) ≡ put k (joined_by p x.value) locks = ap (λ (m : Lock). set locks i (entry_of x.key m)) is ∙ sym (held.puts x (joined_by p x.value) stands) in
-    let sizes : table_size (acquired p view k (table_of last locks)).locks ≡ table_size (put k (joined_by p x.value) locks) = ap (λ (t : Table). table_size t.locks) new in
-    ap (table_of last) puts ∙ sym new ∙ comes-in (table_of last locks) (acquired p view k (table_of last locks)) (omega (arith, sizes, size, joined-new p x.value e, few))
+    let new = asked-held p view k last entries x.value at in
+    let size = size-put k entries x.value (joined_by p x.value) at in
+    let puts : set entries i (entry_of x.key l) ≡ put k (joined_by p x.value) entries = ap (λ (m : Lock). set entries i (entry_of x.key m)) is ∙ sym (held.puts x (joined_by p x.value) stands) in
+    let sizes : table_size (acquired p view k (table_of last entries)).entries ≡ table_size (put k (joined_by p x.value) entries) = ap (λ (t : Table). table_size t.entries) new in
+    ap (table_of last) puts ∙ sym new ∙ comes-in (table_of last entries) (acquired p view k (table_of last entries)) (omega (arith, sizes, size, joined-new p x.value e, few))
 
 -- one may not wait, since the state would be too long
-pub joins-not : (p : Address) (view : ViewId) (k : List ℕ) (last : Token) (locks : List (Entry Lock)) (i : ℕ) (x : Entry Lock) → IsHeldAt k locks i → slice_get locks i ≡ Some x → stands_in p (queue x.value) ≡ false → STATE < table_size locks + 6
-    → table_of last locks ≡ within (table_of last locks) (acquired p view k (table_of last locks))
-joins-not p view k last locks i x held stands e more =
+pub joins-not : (p : Address) (view : ViewId) (k : List ℕ) (last : Token) (entries : List (Entry Lock)) (i : ℕ) (x : Entry Lock) → IsHeldAt k entries i → slice_get entries i ≡ Some x → stands_in p (queue x.value) ≡ false → STATE < table_size entries + 6
+    → table_of last entries ≡ within (table_of last entries) (acquired p view k (table_of last entries))
+joins-not p view k last entries i x held stands e more =
     let at = held.value x stands in
-    let new = asked-held p view k last locks x.value at in
-    let size = size-put k locks x.value (joined_by p x.value) at in
-    let sizes : table_size (acquired p view k (table_of last locks)).locks ≡ table_size (put k (joined_by p x.value) locks) = ap (λ (t : Table). table_size t.locks) new in
-    stays-away (table_of last locks) (acquired p view k (table_of last locks)) (omega (arith, sizes, size, joined-new p x.value e, more))
+    let new = asked-held p view k last entries x.value at in
+    let size = size-put k entries x.value (joined_by p x.value) at in
+    let sizes : table_size (acquired p view k (table_of last entries)).entries ≡ table_size (put k (joined_by p x.value) entries) = ap (λ (t : Table). table_size t.entries) new in
+    stays-away (table_of last entries) (acquired p view k (table_of last entries)) (omega (arith, sizes, size, joined-new p x.value e, more))
 
 -- a lock that is free
-asked-free : (p : Address) (view : ViewId) (k : List ℕ) (last : Token) (locks : List (Entry Lock)) (i : ℕ) → IsFreeAt k locks i
-    → acquired p view k (table_of last locks) ≡ table_of (next_token view last) (insert locks i (entry_of k (granted p (next_token view last))))
-asked-free p view k last locks i free = ap (asked p view k (table_of last locks)) free.value ∙ ap (table_of (next_token view last)) (free.puts (granted p (next_token view last)))
+asked-free : (p : Address) (view : ViewId) (k : List ℕ) (last : Token) (entries : List (Entry Lock)) (i : ℕ) → IsFreeAt k entries i
+    → acquired p view k (table_of last entries) ≡ table_of (next_token view last) (insert entries i (entry_of k (granted p (next_token view last))))
+asked-free p view k last entries i free = ap (asked p view k (table_of last entries)) free.value ∙ ap (table_of (next_token view last)) (free.puts (granted p (next_token view last)))
 
-size-free : (p : Address) (view : ViewId) (k : List ℕ) (last : Token) (locks : List (Entry Lock)) (i : ℕ) → IsFreeAt k locks i → table_size (acquired p view k (table_of last locks)).locks ≡ table_size locks + 33 + length k
-size-free p view k last locks i free =
-    let sums = sum_by-insert lock_size locks i (entry_of k (granted p (next_token view last))) in
-    let sizes : table_size (acquired p view k (table_of last locks)).locks ≡ table_size (insert locks i (entry_of k (granted p (next_token view last)))) = ap (λ (t : Table). table_size t.locks) (asked-free p view k last locks i free) in
+size-free : (p : Address) (view : ViewId) (k : List ℕ) (last : Token) (entries : List (Entry Lock)) (i : ℕ) → IsFreeAt k entries i → table_size (acquired p view k (table_of last entries)).entries ≡ table_size entries + 33 + length k
+size-free p view k last entries i free =
+    let sums = sum_by-insert lock_size entries i (entry_of k (granted p (next_token view last))) in
+    let sizes : table_size (acquired p view k (table_of last entries)).entries ≡ table_size (insert entries i (entry_of k (granted p (next_token view last)))) = ap (λ (t : Table). table_size t.entries) (asked-free p view k last entries i free) in
     omega (arith, sums, sizes)
 
-pub grants : (p : Address) (view : ViewId) (k : List ℕ) (last : Token) (locks : List (Entry Lock)) (i : ℕ) → IsFreeAt k locks i → table_size locks + 33 + length k ≤ STATE
-    → table_of (next_token view last) (insert locks i (entry_of k (granted p (next_token view last)))) ≡ within (table_of last locks) (acquired p view k (table_of last locks))
-grants p view k last locks i free few =
-    sym (asked-free p view k last locks i free) ∙ comes-in (table_of last locks) (acquired p view k (table_of last locks)) (omega (arith, size-free p view k last locks i free, few))
+pub grants : (p : Address) (view : ViewId) (k : List ℕ) (last : Token) (entries : List (Entry Lock)) (i : ℕ) → IsFreeAt k entries i → table_size entries + 33 + length k ≤ STATE
+    → table_of (next_token view last) (insert entries i (entry_of k (granted p (next_token view last)))) ≡ within (table_of last entries) (acquired p view k (table_of last entries))
+grants p view k last entries i free few =
+    sym (asked-free p view k last entries i free) ∙ comes-in (table_of last entries) (acquired p view k (table_of last entries)) (omega (arith, size-free p view k last entries i free, few))
 
-pub grants-not : (p : Address) (view : ViewId) (k : List ℕ) (last : Token) (locks : List (Entry Lock)) (i : ℕ) → IsFreeAt k locks i → STATE < table_size locks + 33 + length k
-    → table_of last locks ≡ within (table_of last locks) (acquired p view k (table_of last locks))
-grants-not p view k last locks i free more = stays-away (table_of last locks) (acquired p view k (table_of last locks)) (omega (arith, size-free p view k last locks i free, more))
+pub grants-not : (p : Address) (view : ViewId) (k : List ℕ) (last : Token) (entries : List (Entry Lock)) (i : ℕ) → IsFreeAt k entries i → STATE < table_size entries + 33 + length k
+    → table_of last entries ≡ within (table_of last entries) (acquired p view k (table_of last entries))
+grants-not p view k last entries i free more = stays-away (table_of last entries) (acquired p view k (table_of last entries)) (omega (arith, size-free p view k last entries i free, more))

@@ -67,5 +67,5 @@ pub later-above : (s : Table) (m : Message) (ms : List Message) (n : Message) (n
 later-above s m ms n name other l k is one all first second =
     let start = after-is-table s m is one in
     let then = all-is-table ms (after s m) start all in
-    let held : is_up_to l.token (after s m).last ≡ true = holds-of (λ x. is_up_to x.token (after s m).last ≡ true) name (after s m).locks l start.tokens first.stands in
+    let held : is_up_to l.token (after s m).last ≡ true = holds-of (λ x. is_up_to x.token (after s m).last ≡ true) name (after s m).entries l start.tokens first.stands in
     up-below l.token (after_all (after s m) ms).last k.token (up-trans l.token (after s m).last (after_all (after s m) ms).last held (lasts-up ms (after s m))) (grant-above (after_all (after s m) ms) n other k then second)

@@ -178,11 +178,11 @@ view-fits (Acquire view name) fits = fits.0
 view-fits (Release view name) fits = fits.0
 view-fits (Roll view) fits = fits.id
 
-obeyed-is-table : (from : Address) (c : Command) (s : Table) → IsTable s → IsAddress from → IsCommand c → (next_token (view_of c) s.last).count + length s.locks ≤ GREATEST_NUMBER → IsTable (obeyed from c s)
+obeyed-is-table : (from : Address) (c : Command) (s : Table) → IsTable s → IsAddress from → IsCommand c → (next_token (view_of c) s.last).count + length s.entries ≤ GREATEST_NUMBER → IsTable (obeyed from c s)
 obeyed-is-table from (Acquire view name) s is address fits few = acquired-is-table from view name s is address fits.0 fits.1 (omega (arith, few))
 obeyed-is-table from (Release view name) s is address fits few = released-is-table from view name s is fits.0 fits.1 (omega (arith, few))
 obeyed-is-table from (Roll view) s is address fits few = by (same_address from view.id.creator) where
-  by : (b : Bool) → IsTable (cond b (rolled (members view) view.id s.last s.locks) s)
+  by : (b : Bool) → IsTable (cond b (rolled (members view) view.id s.last s.entries) s)
   by true = rolled-is-table (members view) view.id s fits.id is few
   by false = is
 

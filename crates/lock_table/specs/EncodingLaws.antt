@@ -1,5 +1,6 @@
--- What each part of a table and of a command is read from is its spelling, and its spelling is read as it, whatever follows.
-use Rattle.std.proofs.Common.{◌≡◌, ℕ, ◌≤◌, List, ◌++◌, length, Some, refl, sym, ap, subst, ◌∙◌, append_assoc, arith}
+-- What those who wait and a lock are read from is their spelling, and their spelling is read as them, whatever follows.
+use Rattle.std.proofs.lemmas.List.{length-append}
+use Rattle.std.proofs.Common.{◌≡◌, ℕ, ◌+◌, ◌*◌, ◌≤◌, List, [], ◌∷◌, ◌++◌, length, Some, refl, sym, ap, subst, ◌∙◌, append_assoc, arith}
 use Rattle.std.specs.List.{flat_map, AllByRecursion}
 use Rattle.byteorder.specs.Endian.{big_bytes}
 use Rattle.big_endian.proofs.Bytes.{wide4}
@@ -7,14 +8,10 @@ use Rattle.big_endian.specs.Spelled.{address_bytes}
 use Rattle.address.specs.Ids.{Address, IsAddress}
 use Rattle.reading.specs.Reading.{number_at, address_at, list_at, ◌>>=◌}
 use Rattle.reading.specs.PartLaws.{bind_some, some_is, joined, IsPart, IsWithin, number_part, address_part, list_takes, list_again}
-use Rattle.keyed_entries.specs.declared.Entry.{Entry}
-use Rattle.keyed_entries.specs.Entries.{entry_of}
-use Rattle.keyed_entries.specs.Keys.{IsKey, key_bytes, key_at}
-use Rattle.keyed_entries.specs.KeyLaws.{key_takes, key_again}
-use Rattle.lock_table.specs.Locks.{Lock, IsLock}
 use Rattle.tokens.specs.Spelling.{token_bytes, token_at}
-use Rattle.tokens.specs.SpellingLaws.{token_part}
-use Rattle.lock_table.specs.Encoding.{waiters_bytes, waiters_at, lock_bytes, lock_at, entry_bytes, entry_at}
+use Rattle.tokens.specs.SpellingLaws.{token_part, length-token}
+use Rattle.keyed_state.specs.StateLaws.{FormLaws}
+use Rattle.lock_table.specs.Forms.{Lock, IsLock, IsShort, waiters_bytes, waiters_at, lock_bytes, lock_at, lock_form}
 
 -- ---- those who wait
 
@@ -42,11 +39,6 @@ waiters_again ps rest are =
 
 -- ---- locks
 
--- the locks that can be spelled
-pub record IsShort (l : Lock) : Type 0 where
-  pub is : IsLock l
-  pub few : length l.waiters ≤ 4294967295
-
 lock_takes : (bytes : List ℕ) (l : Lock) (rest : List ℕ) → lock_at bytes ≡ Some (l, rest) → (bytes ≡ lock_bytes l ++ rest) × IsShort l
 unfolding lock_at
 lock_takes bytes l rest e =
@@ -67,27 +59,16 @@ lock_again l rest short =
     ap lock_at (append_assoc (address_bytes l.holder) (token_bytes l.token ++ waiters_bytes l.waiters) rest ∙ ap (λ (t : List ℕ). address_bytes l.holder ++ t) (append_assoc (token_bytes l.token) (waiters_bytes l.waiters) rest))
     ∙ rw (address_part.again l.holder (token_bytes l.token ++ (waiters_bytes l.waiters ++ rest)) short.is.holder, token_part.again l.token (waiters_bytes l.waiters ++ rest) short.is.token, waiters_again l.waiters rest (record { each = short.is.waiters; few = short.few })) refl
 
--- ---- entries
+pub length-addresses : (ps : List Address) → length (flat_map address_bytes ps) ≡ 6 * length ps
+length-addresses [] = refl
+length-addresses (p ∷ ps) = let rest = length-addresses ps in omega (arith, length-append (address_bytes p) (flat_map address_bytes ps), length-append (big_bytes 2 p.node) (big_bytes 4 p.incarnation), rest)
 
-pub record IsShortEntry (e : Entry Lock) : Type 0 where
-  pub name : IsKey e.key
-  pub lock : IsShort e.value
+lock-sized : (l : Lock) → length (lock_bytes l) ≡ lock_form.size_of l
+lock-sized l =
+    let holder = length-append (big_bytes 2 l.holder.node) (big_bytes 4 l.holder.incarnation) in
+    let waiters = length-append (big_bytes 4 (length l.waiters)) (flat_map address_bytes l.waiters) in
+    let parts = length-append (token_bytes l.token) (waiters_bytes l.waiters) in
+    omega (arith, length-append (address_bytes l.holder) (token_bytes l.token ++ waiters_bytes l.waiters), holder, parts, length-token l.token, waiters, length-addresses l.waiters)
 
-entry_takes : (bytes : List ℕ) (x : Entry Lock) (rest : List ℕ) → entry_at bytes ≡ Some (x, rest) → (bytes ≡ entry_bytes x ++ rest) × IsShortEntry x
-unfolding entry_at
-entry_takes bytes x rest e =
-    let a = bind_some (key_at bytes) (λ name. lock_at name.1 >>= λ lock. Some (entry_of name.0 lock.0, lock.1)) (x, rest) e in
-    let b = bind_some (lock_at a.0.1) (λ lock. Some (entry_of a.0.0 lock.0, lock.1)) (x, rest) a.2 in
-    let t = key_takes bytes a.0.0 a.0.1 a.1 in
-    let u = lock_takes a.0.1 b.0.0 b.0.1 b.1 in
-    subst (λ (p : Entry Lock × List ℕ). (bytes ≡ entry_bytes p.0 ++ p.1) × IsShortEntry p.0) (some_is (entry_of a.0.0 b.0.0, b.0.1) (x, rest) b.2)
-    (joined bytes (key_bytes a.0.0) a.0.1 (lock_bytes b.0.0) b.0.1 t.0 u.0, record { name = t.1; lock = u.1 })
-
-entry_again : (x : Entry Lock) (rest : List ℕ) → IsShortEntry x → entry_at (entry_bytes x ++ rest) ≡ Some (x, rest)
-unfolding entry_at
-entry_again x rest is =
-    ap entry_at (append_assoc (key_bytes x.key) (lock_bytes x.value) rest)
-    ∙ rw (key_again x.key (lock_bytes x.value ++ rest) is.name, lock_again x.value rest is.lock) refl
-
-pub entry_part : IsPart entry_at entry_bytes IsShortEntry
-entry_part = record { takes = entry_takes; again = entry_again }
+pub lock_laws : FormLaws lock_form
+lock_laws = record { sized = lock-sized; part = record { takes = lock_takes; again = lock_again }; short = λ l is few. record { is = is; few = omega (arith, few) }; plain = λ l short. short.is }

@@ -1,3 +1,4 @@
+pub mod Forms
 pub mod Locks
 pub mod Encoding
 pub mod Commands

@@ -7,28 +7,16 @@ use Rattle.address.specs.Ids.{Address, ViewId, same_address, IsAddress}
 use Rattle.view.specs.Members.{View, stands_in}
 use Rattle.limits.specs.declared.TheConstants.{STATE, GREATEST_NUMBER}
 use Rattle.keyed_entries.specs.declared.Entry.{Entry}
-use Rattle.keyed_entries.specs.Entries.{entry_of, value_of, put, without, Rises}
-use Rattle.keyed_entries.specs.Keys.{IsKey}
+use Rattle.keyed_entries.specs.Entries.{entry_of, value_of, put, without}
+use Rattle.keyed_state.specs.States.{KeyedState, state_of, entry_size, state_size, IsState, IsEntry as IsEntryOf, AreUpTo as AreAllUpTo}
 use Rattle.tokens.specs.declared.token.Token.{Token}
-use Rattle.tokens.specs.Tokens.{is_up_to, next_token, IsToken}
+use Rattle.tokens.specs.Tokens.{next_token}
+pub use Rattle.lock_table.specs.Forms.{Lock, IsLock, queue, granted}
+use Rattle.lock_table.specs.Forms.{lock_form}
 use Rattle.lock_table.specs.declared.command.Command.{Command}
 use Rattle.lock_table.specs.declared.command.Command.TheVariants.{Acquire, Release, Roll}
 
--- ---- locks
-
--- a lock that is held: by whom, with which token, and who waits for it, in the order of their requests
-pub record Lock : Type 0 where
-  pub holder : Address
-  pub token : Token
-  pub waiters : List Address
-
--- who stand at a lock: its holder, and behind it those who wait
-abbrev pub queue : Lock → List Address
-queue l = l.holder ∷ l.waiters
-
--- a lock that nobody waits for
-abbrev pub granted : Address → Token → Lock
-granted p token = record { holder = p; token = token; waiters = [] }
+-- ---- what becomes of a lock
 
 -- who asks for a lock that is held waits behind the others, if it does not stand there already
 abbrev pub joined_by : Address → Lock → Lock
@@ -72,33 +60,32 @@ abbrev pub holder_in : (Address → Bool) → Entry Lock → Bool
 holder_in stays e = stays e.value.holder
 
 -- the last token that was granted, and the locks that are held, by their names
-pub record Table : Type 0 where
-  pub last : Token
-  pub locks : List (Entry Lock)
+abbrev pub Table : Type 0
+Table = KeyedState Lock
 
 abbrev pub table_of : Token → List (Entry Lock) → Table
-table_of last locks = record { last = last; locks = locks }
+table_of last entries = state_of last entries
 
--- how many bytes a lock is encoded in: the length of its name in one, its holder in 6, its token in 22, the number of those who wait in 4, each of them in 6
+-- how many bytes a lock is encoded in, with its name
 abbrev pub lock_size : Entry Lock → ℕ
-lock_size e = 33 + length e.key + 6 * length e.value.waiters
+lock_size e = entry_size lock_form e
 
--- how many bytes a table with these locks is encoded in: the last token in 22, the number of locks in 4
+-- how many bytes a table with these locks is encoded in: the last token in 22, the number of locks in 4, and each lock with its name
 abbrev pub table_size : List (Entry Lock) → ℕ
-table_size locks = 26 + sum_by lock_size locks
+table_size entries = state_size lock_form entries
 
 -- one asks for a lock
 abbrev pub asked : Address → ViewId → List ℕ → Table → Option Lock → Table
-asked p view name s None = record { last = next_token view s.last; locks = put name (granted p (next_token view s.last)) s.locks }
-asked p view name s (Some l) = record { last = s.last; locks = put name (joined_by p l) s.locks }
+asked p view name s None = record { last = next_token view s.last; entries = put name (granted p (next_token view s.last)) s.entries }
+asked p view name s (Some l) = record { last = s.last; entries = put name (joined_by p l) s.entries }
 
 abbrev pub acquired : Address → ViewId → List ℕ → Table → Table
-acquired p view name s = asked p view name s (value_of name s.locks)
+acquired p view name s = asked p view name s (value_of name s.entries)
 
 -- the locks with what became of a name's
 abbrev pub with_lock : List ℕ → Option Lock → List (Entry Lock) → List (Entry Lock)
-with_lock name None locks = without name locks
-with_lock name (Some l) locks = put name l locks
+with_lock name None entries = without name entries
+with_lock name (Some l) entries = put name l entries
 
 -- all but one stay
 abbrev pub others : Address → Address → Bool
@@ -107,28 +94,28 @@ others p q = not (same_address p q)
 -- one leaves a lock, which it holds or waits for
 abbrev pub gone_from : Address → ViewId → List ℕ → Table → Option Lock → Table
 gone_from p view name s None = s
-gone_from p view name s (Some l) = record { last = (left_to (others p) view s.last l).last; locks = with_lock name (left_to (others p) view s.last l).lock s.locks }
+gone_from p view name s (Some l) = record { last = (left_to (others p) view s.last l).last; entries = with_lock name (left_to (others p) view s.last l).lock s.entries }
 
 abbrev pub released : Address → ViewId → List ℕ → Table → Table
-released p view name s = gone_from p view name s (value_of name s.locks)
+released p view name s = gone_from p view name s (value_of name s.entries)
 
 -- a lock, if it is held, before others
 abbrev pub before : List ℕ → Option Lock → Table → Table
 before name None rest = rest
-before name (Some l) rest = record { last = rest.last; locks = entry_of name l ∷ rest.locks }
+before name (Some l) rest = record { last = rest.last; entries = entry_of name l ∷ rest.entries }
 
 -- only some stay, at each lock, in the order of the names
 abbrev pub rolled : (Address → Bool) → ViewId → Token → List (Entry Lock) → Table
-rolled stays view last [] = record { last = last; locks = [] }
+rolled stays view last [] = record { last = last; entries = [] }
 rolled stays view last (e ∷ es) = before e.key (left_to stays view last e.value).lock (rolled stays view (left_to stays view last e.value).last es)
 
 -- a table by which the state would no longer fit stays away
 abbrev pub within : Table → Table → Table
-within s new = if nat_le (table_size new.locks) STATE then new else s
+within s new = if nat_le (table_size new.entries) STATE then new else s
 
 -- the lock of a name
 abbrev pub lock_of : List ℕ → Table → Option Lock
-lock_of name s = value_of name s.locks
+lock_of name s = value_of name s.entries
 
 -- ---- what is lent of it
 
@@ -147,7 +134,7 @@ view_of (Roll view) = view.id
 
 -- whether so few numbers are left that not each lock could be granted once more, and one beside them
 abbrev pub is_used_up : ViewId → Table → Bool
-is_used_up view s = nat_lt GREATEST_NUMBER ((next_token view s.last).count + length s.locks)
+is_used_up view s = nat_lt GREATEST_NUMBER ((next_token view s.last).count + length s.entries)
 
 -- what a command makes of the table
 abbrev pub members : View → Address → Bool
@@ -156,30 +143,19 @@ members view p = stands_in p view.members
 abbrev pub obeyed : Address → Command → Table → Table
 obeyed from (Acquire view name) s = within s (acquired from view name s)
 obeyed from (Release view name) s = released from view name s
-obeyed from (Roll view) s = if same_address from view.id.creator then rolled (members view) view.id s.last s.locks else s
+obeyed from (Roll view) s = if same_address from view.id.creator then rolled (members view) view.id s.last s.entries else s
 
 abbrev pub carried_out : Address → Command → Table → Table
 carried_out from c s = if is_used_up (view_of c) s then s else obeyed from c s
 
--- ---- the tables that there are
+-- ---- the tables that there are: the names rise, no token is above the last, and the encoding fits into a state
 
-pub record IsLock (l : Lock) : Type 0 where
-  pub holder : IsAddress l.holder
-  pub token : IsToken l.token
-  pub waiters : AllByRecursion IsAddress l.waiters
+abbrev pub IsTable : Table → Type 0
+IsTable s = IsState lock_form s
 
-pub record IsEntry (e : Entry Lock) : Type 0 where
-  pub name : IsKey e.key
-  pub lock : IsLock e.value
+abbrev pub IsEntry : Entry Lock → Type 0
+IsEntry e = IsEntryOf lock_form e
 
 -- no lock has a token above the last
 abbrev pub AreUpTo : Token → List (Entry Lock) → Type 0
-AreUpTo last locks = AllByRecursion (λ e. is_up_to e.value.token last ≡ true) locks
-
--- the states of a table: the names rise, no token is above the last, and the encoding fits into a state
-pub record IsTable (s : Table) : Type 0 where
-  pub last : IsToken s.last
-  pub locks : AllByRecursion IsEntry s.locks
-  pub tokens : AreUpTo s.last s.locks
-  pub rises : Rises s.locks
-  pub fits : table_size s.locks ≤ STATE
+AreUpTo last entries = AreAllUpTo lock_form last entries

@@ -8,7 +8,7 @@ use Rattle.lock_table.specs.Commands.{table_apply}
 
 -- at the beginning no lock is held, and none was granted
 abbrev pub no_locks : Table
-no_locks = record { last = least_token; locks = [] }
+no_locks = record { last = least_token; entries = [] }
 
 abbrev pub table_meaning : Meaning Table
 table_meaning = record { opening = no_locks; apply = table_apply; encode = table_encode; decode = table_decode; is_state = IsTable }

@@ -13,12 +13,12 @@ use Rattle.lock_table.specs.Turns.{Message, after, queue_of, Grants}
 -- FREE IS GRANTED: a free lock is granted to the member that asks for it, with the next token. A lock that nobody waits for takes 33 bytes and its name
 abbrev pub FreeIsGranted : Type 0
 FreeIsGranted = (s : Table) (m : Message) (view : ViewId) (name : List ℕ) → command_of m.payload ≡ Some (Acquire view name) → is_used_up view s ≡ false
-    → lock_of name s ≡ None → table_size s.locks + 33 + length name ≤ STATE → Grants name m s (granted m.from (next_token view s.last))
+    → lock_of name s ≡ None → table_size s.entries + 33 + length name ≤ STATE → Grants name m s (granted m.from (next_token view s.last))
 
 -- HELD IS WAITED FOR: a member that asks for a held lock waits for it, if it does not stand there already. One more member that waits takes 6 bytes
 abbrev pub HeldIsWaitedFor : Type 0
 HeldIsWaitedFor = (s : Table) (m : Message) (view : ViewId) (name : List ℕ) (l : Lock) → command_of m.payload ≡ Some (Acquire view name) → is_used_up view s ≡ false
-    → lock_of name s ≡ Some l → table_size s.locks + 6 ≤ STATE → lock_of name (after s m) ≡ Some (joined_by m.from l)
+    → lock_of name s ≡ Some l → table_size s.entries + 6 ≤ STATE → lock_of name (after s m) ≡ Some (joined_by m.from l)
 
 -- RELEASED IS LEFT: a release removes its sender from the lock's queue, and nobody else
 abbrev pub ReleasedIsLeft : Type 0

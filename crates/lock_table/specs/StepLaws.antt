@@ -11,10 +11,12 @@ use Rattle.view.specs.Members.{stands_in}
 use Rattle.limits.specs.declared.TheConstants.{STATE, GREATEST_NUMBER}
 use Rattle.keyed_entries.specs.declared.Entry.{Entry}
 use Rattle.keyed_entries.specs.Entries.{key_cmp, entry_of, value_of, put, without, Rises}
-use Rattle.keyed_entries.specs.EntryLaws.{all-put, all-without, rises-put, rises-without, IsBelowAll}
+use Rattle.keyed_entries.specs.EntryLaws.{IsBelowAll}
 use Rattle.keyed_entries.specs.Keys.{IsKey}
 use Rattle.tokens.specs.declared.token.Token.{Token}
 use Rattle.tokens.specs.Tokens.{next_token, is_up_to, IsViewId, IsToken}
+use Rattle.keyed_state.specs.StateLaws as states
+use Rattle.lock_table.specs.Forms.{lock_form}
 use Rattle.lock_table.specs.Locks.{Lock, Outcome, Table, queue, granted, joined_by, passed_on, left_to, table_of, lock_size, table_size, acquired, asked, with_lock, others, gone_from, released, before, rolled, within, IsLock, IsEntry, AreUpTo, IsTable}
 use Rattle.tokens.specs.TokenLaws.{up-trans, up-refl, below-is-up, next-above, next-next, next-is-token}
 
@@ -53,9 +55,6 @@ holds-of Q name (e ∷ es) l all at = by (key_cmp name e.key) (holds-of Q name e
 
 -- ---- tokens
 
-pub all-up : (a b : Token) (es : List (Entry Lock)) → AreUpTo a es → is_up_to a b ≡ true → AreUpTo b es
-all-up a b es up more = all-by (λ e. is_up_to e.value.token a ≡ true) (λ e. is_up_to e.value.token b ≡ true) (λ e one. up-trans e.value.token a b one more) es up
-
 pub next-up : (view : ViewId) (last : Token) → is_up_to last (next_token view last) ≡ true
 next-up view last = below-is-up last (next_token view last) (next-above view last)
 
@@ -72,14 +71,6 @@ size-put name (e ∷ es) l k at = by (key_cmp name e.key) (size-put name es l k)
       let many : length e.value.waiters ≡ length l.waiters = ap (λ (x : Lock). length x.waiters) same in
       omega (arith, many, sum_by-cons lock_size (entry_of e.key k) es, sum_by-cons lock_size e es)
   by Greater rest at = let less = rest at in omega (arith, less, sum_by-cons lock_size e (put name k es), sum_by-cons lock_size e es)
-
-size-without : (name : List ℕ) (es : List (Entry Lock)) → sum_by lock_size (without name es) ≤ sum_by lock_size es
-size-without name [] = omega arith
-size-without name (e ∷ es) = by (key_cmp name e.key) (size-without name es) where
-  by : (o : Ordering) → sum_by lock_size (without name es) ≤ sum_by lock_size es → sum_by lock_size (match_ordering o (e ∷ es) es (e ∷ without name es)) ≤ sum_by lock_size (e ∷ es)
-  by Less rest = omega arith
-  by Equal rest = omega (arith, sum_by-cons lock_size e es)
-  by Greater rest = omega (arith, rest, sum_by-cons lock_size e es, sum_by-cons lock_size e (without name es))
 
 -- ---- a lock that some leave
 
@@ -135,17 +126,17 @@ left-sound stays view last l is up token id few = by (stays l.holder) where
 pub record IsRolled (last : Token) (es : List (Entry Lock)) (s : Table) : Type 0 where
   pub token : IsToken s.last
   pub up : is_up_to last s.last ≡ true
-  pub locks : AllByRecursion IsEntry s.locks
-  pub tokens : AreUpTo s.last s.locks
-  pub below : (k : List ℕ) → IsBelowAll k es → IsBelowAll k s.locks
-  pub rises : Rises s.locks
-  pub size : sum_by lock_size s.locks ≤ sum_by lock_size es
+  pub entries : AllByRecursion IsEntry s.entries
+  pub tokens : AreUpTo s.last s.entries
+  pub below : (k : List ℕ) → IsBelowAll k es → IsBelowAll k s.entries
+  pub rises : Rises s.entries
+  pub size : sum_by lock_size s.entries ≤ sum_by lock_size es
 
 -- what is needed of them before it
 pub record MayRoll (view : ViewId) (last : Token) (es : List (Entry Lock)) : Type 0 where
   pub id : IsViewId view
   pub token : IsToken last
-  pub locks : AllByRecursion IsEntry es
+  pub entries : AllByRecursion IsEntry es
   pub tokens : AreUpTo last es
   pub rises : Rises es
   pub few : (next_token view last).count + length es ≤ GREATEST_NUMBER
@@ -154,8 +145,8 @@ pub roll-goes-on : (view : ViewId) (last : Token) (e : Entry Lock) (es : List (E
 roll-goes-on view last e es o may sound = record {
   id = may.id;
   token = sound.token;
-  locks = may.locks.1;
-  tokens = all-up last o.last es may.tokens.1 sound.up;
+  entries = may.entries.1;
+  tokens = states.all-up lock_form last o.last es may.tokens.1 sound.up;
   rises = may.rises.1;
   few = let few : (next_token view last).count + suc (length es) ≤ GREATEST_NUMBER = may.few in omega (arith, few, sound.next);
 }
@@ -163,10 +154,10 @@ roll-goes-on view last e es o may sound = record {
 pub first-sound : (stays : Address → Bool) (view : ViewId) (last : Token) (e : Entry Lock) (es : List (Entry Lock)) → MayRoll view last (e ∷ es) → IsSound view e.value last (left_to stays view last e.value)
 first-sound stays view last e es may =
     let few : (next_token view last).count + suc (length es) ≤ GREATEST_NUMBER = may.few in
-    left-sound stays view last e.value may.locks.0.lock may.tokens.0 may.token may.id (omega (arith, few))
+    left-sound stays view last e.value may.entries.0.value may.tokens.0 may.token may.id (omega (arith, few))
 
 pub rolled-is : (stays : Address → Bool) (view : ViewId) (last : Token) (es : List (Entry Lock)) → MayRoll view last es → IsRolled last es (rolled stays view last es)
-rolled-is stays view last [] may = record { token = may.token; up = up-refl last; locks = tt; tokens = tt; below = λ k all. tt; rises = tt; size = omega arith }
+rolled-is stays view last [] may = record { token = may.token; up = up-refl last; entries = tt; tokens = tt; below = λ k all. tt; rises = tt; size = omega arith }
 rolled-is stays view last (e ∷ es) may =
     let o = left_to stays view last e.value in
     let sound = first-sound stays view last e es may in
@@ -178,7 +169,7 @@ rolled-is stays view last (e ∷ es) may =
     by None lock up rest = record {
       token = rest.token;
       up = up-trans last _ _ up rest.up;
-      locks = rest.locks;
+      entries = rest.entries;
       tokens = rest.tokens;
       below = λ k all. rest.below k all.1;
       rises = rest.rises;
@@ -189,78 +180,54 @@ rolled-is stays view last (e ∷ es) may =
         record {
           token = rest.token;
           up = up-trans last _ _ up rest.up;
-          locks = (record { name = may.locks.0.name; lock = kept.is }, rest.locks);
+          entries = (record { key = may.entries.0.key; value = kept.is }, rest.entries);
           tokens = (up-trans l.token _ _ kept.up rest.up, rest.tokens);
           below = λ k all. (all.0, rest.below k all.1);
           rises = (rest.below e.key may.rises.0, rest.rises);
-          size = omega (arith, rest.size, kept.few, sum_by-cons lock_size e es, sum_by-cons lock_size (entry_of e.key l) (rolled stays view (left_to stays view last e.value).last es).locks);
+          size = omega (arith, rest.size, kept.few, sum_by-cons lock_size e es, sum_by-cons lock_size (entry_of e.key l) (rolled stays view (left_to stays view last e.value).last es).entries);
         }
 
-pub rolled-is-table : (stays : Address → Bool) (view : ViewId) (s : Table) → IsViewId view → IsTable s → (next_token view s.last).count + length s.locks ≤ GREATEST_NUMBER → IsTable (rolled stays view s.last s.locks)
+pub rolled-is-table : (stays : Address → Bool) (view : ViewId) (s : Table) → IsViewId view → IsTable s → (next_token view s.last).count + length s.entries ≤ GREATEST_NUMBER → IsTable (rolled stays view s.last s.entries)
 rolled-is-table stays view s id is few =
-    let r = rolled-is stays view s.last s.locks (record { id = id; token = is.last; locks = is.locks; tokens = is.tokens; rises = is.rises; few = few }) in
-    let fits : table_size s.locks ≤ STATE = is.fits in
-    record { last = r.token; locks = r.locks; tokens = r.tokens; rises = r.rises; fits = omega (arith, fits, r.size) }
+    let r = rolled-is stays view s.last s.entries (record { id = id; token = is.last; entries = is.entries; tokens = is.tokens; rises = is.rises; few = few }) in
+    let fits : table_size s.entries ≤ STATE = is.fits in
+    record { last = r.token; entries = r.entries; tokens = r.tokens; rises = r.rises; fits = omega (arith, fits, r.size) }
 
 -- ---- a release
 
-released-by : (p : Address) (view : ViewId) (name : List ℕ) (s : Table) (l : Lock) → IsTable s → IsViewId view → IsKey name → value_of name s.locks ≡ Some l → (next_token view s.last).count ≤ GREATEST_NUMBER → IsTable (gone_from p view name s (Some l))
+released-by : (p : Address) (view : ViewId) (name : List ℕ) (s : Table) (l : Lock) → IsTable s → IsViewId view → IsKey name → value_of name s.entries ≡ Some l → (next_token view s.last).count ≤ GREATEST_NUMBER → IsTable (gone_from p view name s (Some l))
 released-by p view name s l is id key at few = by o.lock sound.lock where
   o : Outcome
   o = left_to (others p) view s.last l
 
   of-lock : IsLock l
-  of-lock = holds-of IsLock name s.locks l (all-by IsEntry (λ e. IsLock e.value) (λ e one. one.lock) s.locks is.locks) at
+  of-lock = holds-of IsLock name s.entries l (all-by IsEntry (λ e. IsLock e.value) (λ e one. one.value) s.entries is.entries) at
 
   of-token : is_up_to l.token s.last ≡ true
-  of-token = holds-of (λ x. is_up_to x.token s.last ≡ true) name s.locks l is.tokens at
+  of-token = holds-of (λ x. is_up_to x.token s.last ≡ true) name s.entries l is.tokens at
 
   sound : IsSound view l s.last o
   sound = left-sound (others p) view s.last l of-lock of-token is.last id few
 
-  tokens : AreUpTo o.last s.locks
-  tokens = all-up s.last o.last s.locks is.tokens sound.up
-
-  by : (k : Option Lock) → ((x : Lock) → k ≡ Some x → IsKept l s.last o x) → IsTable (table_of o.last (with_lock name k s.locks))
-  by None lock =
-      let fits : table_size s.locks ≤ STATE = is.fits in
-      record {
-        last = sound.token;
-        locks = all-without IsEntry name s.locks is.locks;
-        tokens = all-without (λ e. is_up_to e.value.token o.last ≡ true) name s.locks tokens;
-        rises = rises-without name s.locks is.rises;
-        fits = omega (arith, fits, size-without name s.locks);
-      }
+  by : (k : Option Lock) → ((x : Lock) → k ≡ Some x → IsKept l s.last o x) → IsTable (table_of o.last (with_lock name k s.entries))
+  by None lock = states.without_is_state lock_form name o.last s is sound.token sound.up
   by (Some x) lock =
-      let fits : table_size s.locks ≤ STATE = is.fits in
+      let fits : table_size s.entries ≤ STATE = is.fits in
       let kept = lock x refl in
-      record {
-        last = sound.token;
-        locks = all-put IsEntry name x s.locks is.locks (record { name = key; lock = kept.is }) (λ e one. record { name = one.name; lock = kept.is });
-        tokens = all-put (λ e. is_up_to e.value.token o.last ≡ true) name x s.locks tokens kept.up (λ e one. kept.up);
-        rises = rises-put name x s.locks is.rises;
-        fits = omega (arith, fits, kept.few, size-put name s.locks l x at);
-      }
+      states.put_is_state lock_form name x o.last s is key kept.is sound.token sound.up kept.up (omega (arith, fits, kept.few, size-put name s.entries l x at))
 
 pub released-is-table : (p : Address) (view : ViewId) (name : List ℕ) (s : Table) → IsTable s → IsViewId view → IsKey name → (next_token view s.last).count ≤ GREATEST_NUMBER → IsTable (released p view name s)
-released-is-table p view name s is id key few = by (value_of name s.locks) refl where
-  by : (o : Option Lock) → value_of name s.locks ≡ o → IsTable (gone_from p view name s o)
+released-is-table p view name s is id key few = by (value_of name s.entries) refl where
+  by : (o : Option Lock) → value_of name s.entries ≡ o → IsTable (gone_from p view name s o)
   by None at = is
   by (Some l) at = released-by p view name s l is id key at few
 
 -- ---- an acquisition
 
--- what holds of a table but that it fits
-pub record IsTableBut (s : Table) : Type 0 where
-  pub last : IsToken s.last
-  pub locks : AllByRecursion IsEntry s.locks
-  pub tokens : AreUpTo s.last s.locks
-  pub rises : Rises s.locks
-
-pub within-is-table : (s new : Table) → IsTable s → IsTableBut new → IsTable (within s new)
-within-is-table s new is but = by (leb (table_size new.locks) STATE) refl where
-  by : (b : Bool) → leb (table_size new.locks) STATE ≡ b → IsTable (cond b new s)
-  by true e = record { last = but.last; locks = but.locks; tokens = but.tokens; rises = but.rises; fits = leb-true _ _ e }
+pub within-is-table : (s new : Table) → IsTable s → (table_size new.entries ≤ STATE → IsTable new) → IsTable (within s new)
+within-is-table s new is fits = by (leb (table_size new.entries) STATE) refl where
+  by : (b : Bool) → leb (table_size new.entries) STATE ≡ b → IsTable (cond b new s)
+  by true e = fits (leb-true _ _ e)
   by false e = is
 
 joined-is-lock : (p : Address) (l : Lock) → IsAddress p → IsLock l → IsLock (joined_by p l)
@@ -276,23 +243,13 @@ joined-token p l = by (stands_in p (queue l)) where
   by false = refl
 
 pub acquired-is-table : (p : Address) (view : ViewId) (name : List ℕ) (s : Table) → IsTable s → IsAddress p → IsViewId view → IsKey name → (next_token view s.last).count ≤ GREATEST_NUMBER → IsTable (within s (acquired p view name s))
-acquired-is-table p view name s is address id key few = within-is-table s (acquired p view name s) is (by (value_of name s.locks) refl) where
-  by : (o : Option Lock) → value_of name s.locks ≡ o → IsTableBut (asked p view name s o)
-  by None at =
+acquired-is-table p view name s is address id key few = within-is-table s (acquired p view name s) is (by (value_of name s.entries) refl) where
+  by : (o : Option Lock) → value_of name s.entries ≡ o → table_size (asked p view name s o).entries ≤ STATE → IsTable (asked p view name s o)
+  by None at small =
       let next = next_token view s.last in
       let token = next-is-token view s.last id is.last few in
-      record {
-        last = token;
-        locks = all-put IsEntry name (granted p next) s.locks is.locks (record { name = key; lock = record { holder = address; token = token; waiters = tt } }) (λ e one. record { name = one.name; lock = record { holder = address; token = token; waiters = tt } });
-        tokens = all-put (λ e. is_up_to e.value.token next ≡ true) name (granted p next) s.locks (all-up s.last next s.locks is.tokens (next-up view s.last)) (up-refl next) (λ e one. up-refl next);
-        rises = rises-put name (granted p next) s.locks is.rises;
-      }
-  by (Some l) at =
-      let lock = joined-is-lock p l address (holds-of IsLock name s.locks l (all-by IsEntry (λ e. IsLock e.value) (λ e one. one.lock) s.locks is.locks) at) in
-      let up : is_up_to (joined_by p l).token s.last ≡ true = ap (λ (t : Token). is_up_to t s.last) (joined-token p l) ∙ holds-of (λ x. is_up_to x.token s.last ≡ true) name s.locks l is.tokens at in
-      record {
-        last = is.last;
-        locks = all-put IsEntry name (joined_by p l) s.locks is.locks (record { name = key; lock = lock }) (λ e one. record { name = one.name; lock = lock });
-        tokens = all-put (λ e. is_up_to e.value.token s.last ≡ true) name (joined_by p l) s.locks is.tokens up (λ e one. up);
-        rises = rises-put name (joined_by p l) s.locks is.rises;
-      }
+      states.put_is_state lock_form name (granted p next) next s is key (record { holder = address; token = token; waiters = tt }) token (next-up view s.last) (up-refl next) small
+  by (Some l) at small =
+      let lock = joined-is-lock p l address (holds-of IsLock name s.entries l (all-by IsEntry (λ e. IsLock e.value) (λ e one. one.value) s.entries is.entries) at) in
+      let up : is_up_to (joined_by p l).token s.last ≡ true = ap (λ (t : Token). is_up_to t s.last) (joined-token p l) ∙ holds-of (λ x. is_up_to x.token s.last ≡ true) name s.entries l is.tokens at in
+      states.put_is_state lock_form name (joined_by p l) s.last s is key lock is.last (up-refl s.last) up small

@@ -16,13 +16,13 @@ text_of_lock e = hex_of e.key ++ text_of_queue e.value
 
 -- locks, each behind a space
 abbrev pub text_of_more : List (Entry Lock) → List ℕ
-text_of_more locks = flat_map (λ e. field (text_of_lock e)) locks
+text_of_more entries = flat_map (λ e. field (text_of_lock e)) entries
 
 -- locks, the names rising, each a field; ` -` for none
 abbrev pub text_of_locks : List (Entry Lock) → List ℕ
 text_of_locks [] = field dash
-text_of_locks (e ∷ locks) = text_of_more (e ∷ locks)
+text_of_locks (e ∷ entries) = text_of_more (e ∷ entries)
 
 -- the line of a member whose table this is: `locks P LAST LOCK ..`, with its line feed
 abbrev pub table_line : Address → Table → List ℕ
-table_line member s = line_with (codes "locks") (field (text_of_address member) ++ field (text_of_token s.last) ++ text_of_locks s.locks)
+table_line member s = line_with (codes "entries") (field (text_of_address member) ++ field (text_of_token s.last) ++ text_of_locks s.entries)

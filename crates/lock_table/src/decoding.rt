@@ -1,21 +1,17 @@
-//! Commands and tables from bytes, in one pass.
+//! Commands and locks from bytes, in one pass.
 
 ghost use Rattle.std.specs.Prelude.{◌≡◌, IfOk};
 ghost use Rattle.reading.specs.Reading.{IsReadOrNone, list_at, address_at};
-ghost use Rattle.lock_table.specs.Encoding.{waiters_at, lock_at, entry_at, table_at, table_decode, are_up_to};
+ghost use Rattle.lock_table.specs.Forms.{waiters_at, lock_at};
 ghost use Rattle.lock_table.specs.Commands.{view_at, acquire_at, release_at, roll_at, command_at};
-ghost use Rattle.lock_table.specs.Locks.{table_of};
 
-use crate::held::Held;
-use crate::{Command, Lock, Token};
+use crate::{Command, Lock};
 use address::Address;
-use keyed_entries::{Entry, is_rising, key_from};
-use limits::{MEMBERS, STATE};
+use keyed_entries::key_from;
+use limits::MEMBERS;
 use reading::Reader;
 use std::alloc::{AllocError, Global};
-use std::cmp::Ordering;
 use tokens::{token_from, view_id_from};
-use trace_props::Bytes;
 use view::{Addresses, View};
 
 fn some_addresses(
@@ -35,7 +31,7 @@ fn some_addresses(
     Ok(Some(list))
 }
 
-#[tactic(auto, unfolding(crate::specs::Encoding::waiters_at))]
+#[tactic(auto, unfolding(crate::specs::Forms::waiters_at))]
 fn waiters_from(alloc: Global, from: &mut Reader<'_>) -> Result<Option<Vec<Address>>, AllocError>
     ensures { IfOk result (λ list. IsReadOrNone (λ l. (l.items, from.new)) list (waiters_at from.old)) }
 {
@@ -45,8 +41,9 @@ fn waiters_from(alloc: Global, from: &mut Reader<'_>) -> Result<Option<Vec<Addre
     some_addresses(alloc, count, from)
 }
 
-#[tactic(auto, unfolding(crate::specs::Encoding::lock_at))]
-fn lock_from(alloc: Global, from: &mut Reader<'_>) -> Result<Option<Lock>, AllocError>
+// A lock that bytes begin with.
+#[tactic(auto, unfolding(crate::specs::Forms::lock_at))]
+pub(crate) fn lock_from(alloc: Global, from: &mut Reader<'_>) -> Result<Option<Lock>, AllocError>
     ensures { IfOk result (λ l. IsReadOrNone (λ x. (x, from.new)) l (lock_at from.old)) }
 {
     let Some(holder) = from.address() else {
@@ -59,84 +56,6 @@ fn lock_from(alloc: Global, from: &mut Reader<'_>) -> Result<Option<Lock>, Alloc
         return Ok(None);
     };
     Ok(Some(Lock::new(holder, token, waiters)))
-}
-
-#[tactic(auto, unfolding(crate::specs::Encoding::entry_at))]
-fn entry_from(alloc: Global, from: &mut Reader<'_>) -> Result<Option<Entry<Lock>>, AllocError>
-    ensures { IfOk result (λ e. IsReadOrNone (λ x. (x, from.new)) e (entry_at from.old)) }
-{
-    let Some(name) = key_from(from) else {
-        return Ok(None);
-    };
-    let Some(value) = lock_from(alloc, from)? else {
-        return Ok(None);
-    };
-    let key = Bytes::from_slice(alloc, name.as_slice())?;
-    Ok(Some(Entry { key, value }))
-}
-
-fn some_entries(
-    alloc: Global,
-    count: u32,
-    from: &mut Reader<'_>,
-) -> Result<Option<Vec<Entry<Lock>>>, AllocError>
-    ensures { IfOk result (λ entries. IsReadOrNone (λ l. (l.items, from.new)) entries (list_at entry_at count from.old)) }
-{
-    let mut entries = Vec::new(alloc);
-    for _ in 0..count {
-        let Some(entry) = entry_from(alloc, from)? else {
-            return Ok(None);
-        };
-        entries.push(entry)?;
-    }
-    Ok(Some(entries))
-}
-
-#[tactic(auto, unfolding(crate::specs::Encoding::table_at))]
-fn held_from(alloc: Global, from: &mut Reader<'_>) -> Result<Option<Held>, AllocError>
-    ensures { IfOk result (λ held. IsReadOrNone (λ h. (table_of h.last h.locks.items, from.new)) held (table_at from.old)) }
-{
-    let Some(last) = token_from(from) else {
-        return Ok(None);
-    };
-    let Some(count) = from.u32(0, u32::MAX) else {
-        return Ok(None);
-    };
-    let Some(locks) = some_entries(alloc, count, from)? else {
-        return Ok(None);
-    };
-    Ok(Some(Held { last, locks }))
-}
-
-// Whether no lock has a token above the last.
-fn are_up_to(last: Token, locks: &[Entry<Lock>]) -> bool
-    ensures { result ≡ are_up_to last locks.now }
-{
-    locks.iter().all(|entry| entry.value.token().cmp(&last) != Ordering::Greater)
-}
-
-// The last token and the locks of the table that bytes stand for.
-#[tactic(auto, unfolding(crate::specs::Encoding::table_decode))]
-pub(crate) fn held_of(alloc: Global, bytes: &[u8]) -> Result<Option<Held>, AllocError>
-    ensures { IfOk result (λ held. IsReadOrNone (λ h. table_of h.last h.locks.items) held (table_decode bytes.now)) }
-{
-    let mut from = Reader::new(bytes);
-    let Some(held) = held_from(alloc, &mut from)? else {
-        return Ok(None);
-    };
-    if !from.is_empty() {
-        return Ok(None);
-    }
-    if bytes.len() > STATE {
-        return Ok(None);
-    }
-    if !is_rising(held.locks.as_slice()) {
-        return Ok(None);
-    }
-    if !are_up_to(held.last, held.locks.as_slice()) {
-        return Ok(None);
-    }
-    Ok(Some(held))
 }
 
 #[tactic(auto, unfolding(crate::specs::Commands::view_at))]

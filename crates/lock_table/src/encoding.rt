@@ -1,23 +1,19 @@
-//! Commands and tables as bytes. What grows is grown once, before the first byte is put.
+//! Commands and locks as bytes. What grows is grown once, before the first byte is put.
 
-ghost use Rattle.std.specs.Prelude.{◌≡◌, ◌≤◌, ◌+◌, ◌*◌, ◌++◌, length, vec_len, vec_capacity, OnOk, OnErr};
-ghost use Rattle.std.specs.List.{flat_map, sum_by, AllByRecursion};
+ghost use Rattle.std.specs.Prelude.{◌≡◌, ◌≤◌, ◌+◌, ◌*◌, ◌++◌, length, vec_len, vec_capacity};
+ghost use Rattle.std.specs.List.{flat_map, AllByRecursion};
 ghost use Rattle.address.specs.Ids.{IsAddress};
 ghost use Rattle.big_endian.specs.Spelled.{address_bytes};
-ghost use Rattle.keyed_entries.specs.Keys.{IsKey};
-ghost use Rattle.limits.specs.declared.TheConstants.{MEMBERS, STATE};
-ghost use Rattle.lock_table.specs.Locks.{IsEntry, IsTable, table_of, table_size, lock_size};
-ghost use Rattle.lock_table.specs.Encoding.{waiters_bytes, lock_bytes, entry_bytes, table_encode};
+ghost use Rattle.limits.specs.declared.TheConstants.{MEMBERS};
+ghost use Rattle.lock_table.specs.Forms.{waiters_bytes, lock_bytes};
 ghost use Rattle.lock_table.specs.Commands.{IsCommand, IsView, view_bytes, command_bytes};
 ghost use Rattle.lock_table.specs.declared.TheConstants.{LONGEST_COMMAND};
 ghost use Rattle.lock_table.specs.declared.command.Command.TheVariants.{Roll};
 
-use crate::size::size_of_all;
-use crate::{Command, Lock, Token};
+use crate::{Command, Lock};
 use address::Address;
 use big_endian::{put_address, put_u8, put_u32};
-use keyed_entries::{Entry, put_key};
-use std::alloc::AllocError;
+use keyed_entries::put_key;
 use tokens::{put_token, put_view_id};
 use view::View;
 
@@ -53,7 +49,8 @@ fn put_waiters(waiters: &[Address], out: &mut Vec<u8>)
     put_addresses(waiters, out);
 }
 
-fn put_lock(lock: &Lock, out: &mut Vec<u8>)
+// Appends a lock: its holder, its token, and who waits.
+pub(crate) fn put_lock(lock: &Lock, out: &mut Vec<u8>)
     requires few { length lock.now.waiters ≤ 4294967295 }
     requires room { vec_len out.old + (32 + 6 * length lock.now.waiters) ≤ vec_capacity out.old }
     ensures items { out.new.items ≡ out.old.items ++ lock_bytes lock.now }
@@ -62,56 +59,6 @@ fn put_lock(lock: &Lock, out: &mut Vec<u8>)
     put_address(lock.holder(), out);
     put_token(lock.token(), out);
     put_waiters(lock.waiters(), out);
-}
-
-fn put_entry(entry: &Entry<Lock>, out: &mut Vec<u8>)
-    requires few { lock_size entry.now ≤ STATE }
-    requires name { IsKey entry.now.key }
-    requires room { vec_len out.old + lock_size entry.now ≤ vec_capacity out.old }
-    ensures items { out.new.items ≡ out.old.items ++ entry_bytes entry.now }
-    ensures room { vec_capacity out.old ≤ vec_capacity out.new }
-{
-    put_key(entry.key.as_slice(), out);
-    put_lock(&entry.value, out);
-}
-
-#[tactic(auto, using(crate::specs::TableLaws::length_entry))]
-fn put_entries(entries: &[Entry<Lock>], out: &mut Vec<u8>)
-    requires few { table_size entries.now ≤ STATE }
-    requires entries { AllByRecursion IsEntry entries.now }
-    requires room { vec_len out.old + sum_by lock_size entries.now ≤ vec_capacity out.old }
-    ensures items { out.new.items ≡ out.old.items ++ flat_map entry_bytes entries.now }
-    ensures room { vec_capacity out.old ≤ vec_capacity out.new }
-{
-    for entry in entries {
-        put_entry(entry, out);
-    }
-}
-
-#[tactic(auto, using(crate::specs::TableLaws::few_locks))]
-fn put_all(last: Token, locks: &[Entry<Lock>], out: &mut Vec<u8>)
-    requires table { IsTable (table_of last locks.now) }
-    requires room { vec_len out.old + table_size locks.now ≤ vec_capacity out.old }
-    ensures { out.new.items ≡ out.old.items ++ table_encode (table_of last locks.now) }
-{
-    put_token(last, out);
-    put_u32(locks.len() as u32, out);
-    put_entries(locks, out);
-}
-
-// Appends the encoding of a table, whose room is taken at once. On refusal the vector's items are as they were.
-pub(crate) fn put_table(
-    last: Token,
-    locks: &[Entry<Lock>],
-    out: &mut Vec<u8>,
-) -> Result<(), AllocError>
-    requires { IsTable (table_of last locks.now) }
-    ensures ok { OnOk result (out.new.items ≡ out.old.items ++ table_encode (table_of last locks.now)) }
-    ensures err { OnErr result (out.new.items ≡ out.old.items) }
-{
-    out.reserve(size_of_all(locks))?;
-    put_all(last, locks, out);
-    Ok(())
 }
 
 // Appends a roll to a view.

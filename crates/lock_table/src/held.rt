@@ -7,10 +7,10 @@ ghost use Rattle.lock_table.specs.Locks.{IsTable, within, acquired, released, ro
 ghost use Rattle.lock_table.specs.StepLaws.{MayRoll};
 ghost use Rattle.std.specs.List.{filter};
 
-use crate::size::size_of_all;
 use crate::{Lock, Token};
 use address::{Address, ViewId};
 use keyed_entries::{Entry, KeyBytes, Place, find};
+use keyed_state::size_of_all;
 use limits::STATE;
 use std::alloc::{AllocError, Global};
 use tokens::known_view_id;
@@ -21,7 +21,7 @@ use view::View;
 #[derive(Debug, Drop)]
 pub(crate) struct Held {
     pub(crate) last: Token,
-    pub(crate) locks: Vec<Entry<Lock>>,
+    pub(crate) entries: Vec<Entry<Lock>>,
 }
 
 // What a program holds as an address is one. It does nothing; its clause is a fact for proofs.
@@ -49,13 +49,13 @@ fn granted(
 }
 
 // Lets all go, at each lock, who are no members of a view. A lock that became free names its former holder still. Gives the last token.
-fn roll_each(locks: &mut [Entry<Lock>], view: &View, last: Token) -> Token
-    requires { MayRoll view.now.id last locks.old }
-    ensures len { length locks.new ≡ length locks.old }
-    ensures rolls { table_of result (filter (holder_in (members view.now)) locks.new) ≡ rolled (members view.now) view.now.id last locks.old }
+fn roll_each(entries: &mut [Entry<Lock>], view: &View, last: Token) -> Token
+    requires { MayRoll view.now.id last entries.old }
+    ensures len { length entries.new ≡ length entries.old }
+    ensures rolls { table_of result (filter (holder_in (members view.now)) entries.new) ≡ rolled (members view.now) view.now.id last entries.old }
 {
     let mut last = last;
-    for entry in locks.iter_mut() {
+    for entry in entries.iter_mut() {
         last = entry.value.roll(view, last);
     }
     last
@@ -69,18 +69,18 @@ impl Held {
         view: ViewId,
         name: &KeyBytes<'_>,
     ) -> Result<(), AllocError>
-        requires table { IsTable (table_of self.old.last self.old.locks.items) }
-        requires numbers { is_used_up view (table_of self.old.last self.old.locks.items) ≡ false }
-        ensures ok { OnOk result (table_of self.new.last self.new.locks.items ≡ within (table_of self.old.last self.old.locks.items) (acquired from view name.now (table_of self.old.last self.old.locks.items))) }
-        ensures err { OnErr result (table_of self.new.last self.new.locks.items ≡ table_of self.old.last self.old.locks.items) }
-        ensures kept { IsTable (table_of self.new.last self.new.locks.items) }
+        requires table { IsTable (table_of self.old.last self.old.entries.items) }
+        requires numbers { is_used_up view (table_of self.old.last self.old.entries.items) ≡ false }
+        ensures ok { OnOk result (table_of self.new.last self.new.entries.items ≡ within (table_of self.old.last self.old.entries.items) (acquired from view name.now (table_of self.old.last self.old.entries.items))) }
+        ensures err { OnErr result (table_of self.new.last self.new.entries.items ≡ table_of self.old.last self.old.entries.items) }
+        ensures kept { IsTable (table_of self.new.last self.new.entries.items) }
     {
         known_address(from);
         known_view_id(view);
-        let size = size_of_all(self.locks.as_slice());
-        match find(self.locks.as_slice(), name.as_slice()) {
+        let size = size_of_all(self.entries.as_slice());
+        match find(self.entries.as_slice(), name.as_slice()) {
             Place::Held(i) => {
-                let lock = &mut self.locks[i].value;
+                let lock = &mut self.entries[i].value;
                 if lock.has(&from) {
                     return Ok(());
                 }
@@ -92,8 +92,8 @@ impl Held {
             Place::Free(i) => {
                 if size + 33 + name.as_slice().len() <= STATE {
                     let token = self.last.next(view);
-                    let entry = granted(*self.locks.allocator(), name, from, &token)?;
-                    self.locks.insert(i, entry)?;
+                    let entry = granted(*self.entries.allocator(), name, from, &token)?;
+                    self.entries.insert(i, entry)?;
                     self.last = token;
                 }
                 Ok(())
@@ -103,31 +103,31 @@ impl Held {
 
     // Has one hold a lock no more, and not wait for it.
     pub(crate) fn release(&mut self, from: Address, view: ViewId, name: &KeyBytes<'_>)
-        requires table { IsTable (table_of self.old.last self.old.locks.items) }
-        requires numbers { is_used_up view (table_of self.old.last self.old.locks.items) ≡ false }
-        ensures kept { IsTable (table_of self.new.last self.new.locks.items) }
-        ensures makes { table_of self.new.last self.new.locks.items ≡ released from view name.now (table_of self.old.last self.old.locks.items) }
+        requires table { IsTable (table_of self.old.last self.old.entries.items) }
+        requires numbers { is_used_up view (table_of self.old.last self.old.entries.items) ≡ false }
+        ensures kept { IsTable (table_of self.new.last self.new.entries.items) }
+        ensures makes { table_of self.new.last self.new.entries.items ≡ released from view name.now (table_of self.old.last self.old.entries.items) }
     {
         known_view_id(view);
-        if let Place::Held(i) = find(self.locks.as_slice(), name.as_slice()) {
-            let lock = &mut self.locks[i].value;
+        if let Place::Held(i) = find(self.entries.as_slice(), name.as_slice()) {
+            let lock = &mut self.entries[i].value;
             self.last = lock.release(from, view, self.last);
             if lock.holder() == from {
-                self.locks.remove(i);
+                self.entries.remove(i);
             }
         }
     }
 
     // Has only members of a view hold locks and wait for them.
     pub(crate) fn roll(&mut self, view: &View)
-        requires table { IsTable (table_of self.old.last self.old.locks.items) }
-        requires numbers { is_used_up view.now.id (table_of self.old.last self.old.locks.items) ≡ false }
-        ensures kept { IsTable (table_of self.new.last self.new.locks.items) }
-        ensures makes { table_of self.new.last self.new.locks.items ≡ rolled (members view.now) view.now.id self.old.last self.old.locks.items }
+        requires table { IsTable (table_of self.old.last self.old.entries.items) }
+        requires numbers { is_used_up view.now.id (table_of self.old.last self.old.entries.items) ≡ false }
+        ensures kept { IsTable (table_of self.new.last self.new.entries.items) }
+        ensures makes { table_of self.new.last self.new.entries.items ≡ rolled (members view.now) view.now.id self.old.last self.old.entries.items }
     {
         known_view_id(view.id());
-        self.last = roll_each(self.locks.as_mut_slice(), view, self.last);
-        self.locks
+        self.last = roll_each(self.entries.as_mut_slice(), view, self.last);
+        self.entries
             .retain(|entry| view.contains(&entry.value.holder()));
     }
 }

@@ -63,7 +63,7 @@ impl Application for LockTable {
     ghost is_said_again = { true };
 
     fn put_line(&self, member: &Address, out: &mut Vec<u8>) -> Result<(), AllocError> {
-        put_table_line(out, member, &self.last(), self.locks())
+        put_table_line(out, member, &self.last(), self.entries())
     }
 
     /// The spelling of `acquire NAME` and `release NAME`, sent in this view.

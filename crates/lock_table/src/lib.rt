@@ -10,7 +10,6 @@ mod in_program;
 mod law;
 mod lines;
 mod lock;
-mod size;
 mod table;
 mod words;
 

@@ -37,24 +37,24 @@ fn put_lock(out: &mut Vec<u8>, entry: &Entry<Lock>) -> Result<(), AllocError>
 
 // Appends locks, each behind a space.
 #[tactic(auto, using(vsync_text::proofs::KeepFront::goes_on, vsync_text::proofs::KeepFront::stays))]
-fn put_more(out: &mut Vec<u8>, locks: &[Entry<Lock>]) -> Result<(), AllocError>
-    ensures text { OnOk result (out.new.items ≡ out.old.items ++ text_of_more locks.now) }
+fn put_more(out: &mut Vec<u8>, entries: &[Entry<Lock>]) -> Result<(), AllocError>
+    ensures text { OnOk result (out.new.items ≡ out.old.items ++ text_of_more entries.now) }
     ensures kept { GoesOnFrom out.old.items out.new.items }
 {
-    for lock in locks {
+    for lock in entries {
         put_lock(out, lock)?;
     }
     Ok(())
 }
 
 // Appends locks, each behind a space, ` -` for none.
-fn put_locks(out: &mut Vec<u8>, locks: &[Entry<Lock>]) -> Result<(), AllocError>
-    ensures text { OnOk result (out.new.items ≡ out.old.items ++ text_of_locks locks.now) }
+fn put_locks(out: &mut Vec<u8>, entries: &[Entry<Lock>]) -> Result<(), AllocError>
+    ensures text { OnOk result (out.new.items ≡ out.old.items ++ text_of_locks entries.now) }
     ensures kept { GoesOnFrom out.old.items out.new.items }
 {
-    match locks {
+    match entries {
         [] => put(out, b" -"),
-        [_, ..] => put_more(out, locks),
+        [_, ..] => put_more(out, entries),
     }
 }
 
@@ -64,14 +64,14 @@ pub(crate) fn put_table_line(
     out: &mut Vec<u8>,
     member: &Address,
     last: &Token,
-    locks: &[Entry<Lock>],
+    entries: &[Entry<Lock>],
 ) -> Result<(), AllocError>
-    ensures text { OnOk result (out.new.items ≡ out.old.items ++ table_line member.now (table_of last.now locks.now)) }
+    ensures text { OnOk result (out.new.items ≡ out.old.items ++ table_line member.now (table_of last.now entries.now)) }
     ensures kept { GoesOnFrom out.old.items out.new.items }
 {
-    put(out, b"locks")?;
+    put(out, b"entries")?;
     put_address(out, b' ', member)?;
     put_token_text(out, b' ', last)?;
-    put_locks(out, locks)?;
+    put_locks(out, entries)?;
     put(out, b"\n")
 }

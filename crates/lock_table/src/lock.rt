@@ -5,7 +5,11 @@ ghost use Rattle.view.specs.Members.{stands_in};
 ghost use Rattle.lock_table.specs.Locks.{IsLeft, queue, granted, joined_by, passed, left_to, others, members};
 
 use crate::Token;
+use crate::decoding::lock_from;
+use crate::encoding::put_lock;
 use address::{Address, ViewId};
+use keyed_state::Kept;
+use reading::Reader;
 use std::alloc::{AllocError, Global};
 use std::marker::Model;
 use view::View;
@@ -19,11 +23,36 @@ pub struct Lock {
 }
 
 impl Model for Lock {
-    ghost use Rattle.lock_table.specs.Locks.{Lock};
+    ghost use Rattle.lock_table.specs.Forms.{Lock};
 
     ghost Value = { Lock };
 
     ghost view = { λ l. record { holder = l.holder; token = l.token; waiters = l.waiters.items } };
+}
+
+impl Kept for Lock {
+    ghost use Rattle.lock_table.specs.Forms.{lock_form};
+    ghost use Rattle.lock_table.specs.EncodingLaws.{lock_laws};
+
+    ghost form = { lock_form };
+
+    ghost laws = { lock_laws };
+
+    fn token(&self) -> Token {
+        self.token
+    }
+
+    fn size(&self) -> usize {
+        32 + 6 * self.waiters.len()
+    }
+
+    fn put(&self, out: &mut Vec<u8>) {
+        put_lock(self, out);
+    }
+
+    fn read(alloc: Global, from: &mut Reader<'_>) -> Result<Option<Lock>, AllocError> {
+        lock_from(alloc, from)
+    }
 }
 
 fn stands_in(address: &Address, list: &[Address]) -> bool

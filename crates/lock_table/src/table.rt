@@ -4,12 +4,11 @@ ghost use Rattle.lock_table.specs.Encoding.{table_encode, table_decode};
 ghost use Rattle.lock_table.specs.Commands.{table_apply};
 ghost use Rattle.limits.specs.declared.TheConstants.{STATE};
 
-use crate::decoding::held_of;
-use crate::encoding::put_table;
 use crate::held::Held;
 use crate::{Command, Lock, Token};
 use address::{Address, ViewId};
 use keyed_entries::{Entry, Place, find};
+use keyed_state::{contents_of, put_state, size_of_all};
 use limits::GREATEST_NUMBER;
 use state_transfer::Receiver;
 use std::alloc::{AllocError, Global};
@@ -28,31 +27,31 @@ impl Model for LockTable {
 
     ghost Value = { Table };
 
-    ghost view = { λ t. table_of t.held.last t.held.locks.items };
+    ghost view = { λ t. table_of t.held.last t.held.entries.items };
 
-    ghost invariant = { λ t. IsTable (table_of t.held.last t.held.locks.items) };
+    ghost invariant = { λ t. IsTable (table_of t.held.last t.held.entries.items) };
 }
 
 impl LockTable {
     /// How many locks are held.
     pub fn len(&self) -> usize
-        ensures { result ≡ length self.now.locks }
+        ensures { result ≡ length self.now.entries }
     {
-        self.held.locks.len()
+        self.held.entries.len()
     }
 
     /// Whether no lock is held.
     pub fn is_empty(&self) -> bool
-        ensures { result ≡ (length self.now.locks == 0) }
+        ensures { result ≡ (length self.now.entries == 0) }
     {
-        self.held.locks.is_empty()
+        self.held.entries.is_empty()
     }
 
     /// The name of the lock at an index, in the order of the names from 0, and the lock; `None` past the last one that is held.
     pub fn entry(&self, i: usize) -> Option<(&[u8], &Lock)>
-        ensures { entry_lent result ≡ slice_get self.now.locks i }
+        ensures { entry_lent result ≡ slice_get self.now.entries i }
     {
-        let entry = self.held.locks.get(i)?;
+        let entry = self.held.entries.get(i)?;
         Some((entry.key.as_slice(), &entry.value))
     }
 
@@ -60,8 +59,8 @@ impl LockTable {
     pub fn lock(&self, name: &[u8]) -> Option<&Lock>
         ensures { lock_lent result ≡ lock_of name.now self.now }
     {
-        match find(self.held.locks.as_slice(), name) {
-            Place::Held(i) => Some(&self.held.locks[i].value),
+        match find(self.held.entries.as_slice(), name) {
+            Place::Held(i) => Some(&self.held.entries[i].value),
             Place::Free(_) => None,
         }
     }
@@ -74,17 +73,17 @@ impl LockTable {
     }
 
     // The locks that are held, their names rising.
-    pub(crate) fn locks(&self) -> &[Entry<Lock>]
-        ensures { result.now ≡ self.now.locks }
+    pub(crate) fn entries(&self) -> &[Entry<Lock>]
+        ensures { result.now ≡ self.now.entries }
     {
-        self.held.locks.as_slice()
+        self.held.entries.as_slice()
     }
 
     // Whether so few numbers are left that not each lock could be granted once more, and one beside them.
     fn is_used_up(&self, view: ViewId) -> bool
         ensures { result ≡ is_used_up view self.now }
     {
-        self.held.last.next(view).count + self.held.locks.len() as u64 > GREATEST_NUMBER
+        self.held.last.next(view).count + self.held.entries.len() as u64 > GREATEST_NUMBER
     }
 
     // Carries out a command. Where memory is refused, the table is as before.
@@ -132,7 +131,7 @@ impl Receiver for LockTable {
     fn opening(alloc: Global) -> Result<LockTable, AllocError> {
         let held = Held {
             last: Token::least(),
-            locks: Vec::new(alloc),
+            entries: Vec::new(alloc),
         };
         Ok(LockTable { held })
     }
@@ -142,7 +141,7 @@ impl Receiver for LockTable {
         ensures applies { OnOk result (self.new ≡ table_apply self.old from payload.now) }
         ensures err { OnErr result (self.new ≡ self.old) }
     {
-        match Command::decode(*self.held.locks.allocator(), payload)? {
+        match Command::decode(*self.held.entries.allocator(), payload)? {
             None => Ok(()),
             Some(command) => self.carry_out(from, command),
         }
@@ -159,7 +158,8 @@ impl Receiver for LockTable {
         ensures short { OnOk result (length (table_encode self.now) ≤ STATE) }
         ensures err { OnErr result (state.new.items ≡ state.old.items) }
     {
-        put_table(self.held.last, self.held.locks.as_slice(), state)
+        let entries = self.held.entries.as_slice();
+        put_state(self.held.last, entries, size_of_all(entries), state)
     }
 
     fn kept(&self) {
@@ -172,10 +172,13 @@ impl Receiver for LockTable {
         ensures ok { IfOk result (λ taken. MatchOption (table_decode state.now) ((taken ≡ false) × (self.new ≡ self.old)) (λ s. (taken ≡ true) × (self.new ≡ s))) }
         ensures err { OnErr result (self.new ≡ self.old) }
     {
-        match held_of(*self.held.locks.allocator(), state)? {
+        match contents_of::<Lock>(*self.held.entries.allocator(), state)? {
             None => Ok(false),
-            Some(held) => {
-                self.held = held;
+            Some(contents) => {
+                self.held = Held {
+                    last: contents.last,
+                    entries: contents.entries,
+                };
                 Ok(true)
             }
         }

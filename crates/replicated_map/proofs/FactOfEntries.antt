@@ -17,8 +17,13 @@ use Rattle.keyed_entries.specs.Entries.{key_cmp, entry_of, value_of, put, withou
 use Rattle.tokens.specs.declared.token.Token.{Token}
 use Rattle.tokens.specs.Tokens.{next_token, IsViewId}
 use Rattle.replicated_map.specs.declared.entries.Held.{Held}
-use Rattle.replicated_map.specs.Entries.{MapState, state_of, held, entry_size, map_size, IsValue, IsMap, given, is_within, put_within, removed}
+use Rattle.keyed_state.specs.States.{entry_size as size_in}
+use Rattle.replicated_map.specs.Values.{held_form}
+use Rattle.replicated_map.specs.Entries.{MapState, state_of, held, map_size, IsValue, IsMap, given, is_within, put_within, removed}
 use Rattle.replicated_map.specs.MapLaws.{given_is_map, removed_is_map}
+
+abbrev entry_size : Entry Held → ℕ
+entry_size e = size_in held_form e
 
 abbrev pub Entries : Type 0
 Entries = List (Entry Held)

@@ -34,7 +34,7 @@ holds-of Q k (e ∷ es) h all at = by (key_cmp k e.key) (holds-of Q k es h all.1
 
 -- no version is above the last
 up-to-last : (s : MapState) (k : List ℕ) (h : Held) → IsMap s → held_of k s ≡ Some h → is_up_to h.version s.last ≡ true
-up-to-last s k h is at = holds-of (λ x. is_up_to x.version s.last ≡ true) k s.entries h is.versions at
+up-to-last s k h is at = holds-of (λ x. is_up_to x.version s.last ≡ true) k s.entries h is.tokens at
 
 -- ---- from one state to a later one
 

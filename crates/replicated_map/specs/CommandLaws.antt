@@ -17,7 +17,7 @@ use Rattle.tokens.specs.SpellingLaws.{view_id_part, token_part}
 use Rattle.replicated_map.specs.declared.command.Command.{Command}
 use Rattle.replicated_map.specs.declared.command.Command.TheVariants.{Put, Remove, Replace, Clear, ReplaceAt, RemoveAt}
 use Rattle.replicated_map.specs.Entries.{MapState, IsMap, held_of, value_in, put_within, removed}
-use Rattle.replicated_map.specs.Encoding.{value_bytes, value_at}
+use Rattle.replicated_map.specs.Values.{value_bytes, value_at}
 use Rattle.replicated_map.specs.Commands.{is_expected, has_version, carried_out, expected_bytes, pair_bytes, command_bytes, expected_at, pair_at, put_at, remove_at, replace_at, replace_version_at, remove_version_at, command_at, command_of, IsExpected, IsPair, IsCommand, after_command, map_apply}
 use Rattle.replicated_map.specs.EncodingLaws.{value_takes, value_again}
 use Rattle.replicated_map.specs.MapLaws.{nothing_is_map, cleared_is_map, put_is_map, removed_is_map}

@@ -12,7 +12,7 @@ use Rattle.replicated_map.specs.declared.command.Command.{Command}
 use Rattle.replicated_map.specs.declared.command.Command.TheVariants.{Put, Remove, Replace, Clear, ReplaceAt, RemoveAt}
 use Rattle.replicated_map.specs.declared.entries.Held.{Held}
 use Rattle.replicated_map.specs.Entries.{MapState, IsValue, held_of, value_in, put_within, removed, cleared}
-use Rattle.replicated_map.specs.Encoding.{value_bytes, value_at}
+use Rattle.replicated_map.specs.Values.{value_bytes, value_at}
 
 -- whether a key's value is the one that is expected
 abbrev pub is_expected : Option (List ℕ) → Option (List ℕ) → Bool

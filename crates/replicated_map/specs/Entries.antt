@@ -1,33 +1,22 @@
 -- The map's state: the last version, and the values that keys have, each with its version; how many bytes they are encoded in, and which are a map.
-use Rattle.std.specs.Prelude.{◌≡◌, ℕ, ◌+◌, ◌≤◌, Bool, true, ◌&&◌, List, [], length, Option, Some, None, if◌then◌else◌, nat_le}
-use Rattle.std.specs.List.{AllByRecursion, sum_by}
+use Rattle.std.specs.Prelude.{ℕ, Bool, ◌&&◌, List, [], Option, if◌then◌else◌, nat_le}
 use Rattle.std.specs.Option.{option_map}
 use Rattle.std.specs.Borrow.{Bor}
 use Rattle.address.specs.Ids.{ViewId}
 use Rattle.keyed_entries.specs.declared.Entry.{Entry}
-use Rattle.keyed_entries.specs.Keys.{IsKey}
-use Rattle.keyed_entries.specs.Entries.{entry_of, value_of, put, without, Rises}
+use Rattle.keyed_entries.specs.Entries.{entry_of, value_of, put, without}
 use Rattle.tokens.specs.declared.token.Token.{Token}
-use Rattle.tokens.specs.Tokens.{is_up_to, next_token, IsToken}
+use Rattle.tokens.specs.Tokens.{next_token}
+pub use Rattle.keyed_state.specs.States.{state_of}
+use Rattle.keyed_state.specs.States.{KeyedState, IsState, state_size}
 use Rattle.limits.specs.declared.TheConstants.{STATE, GREATEST_NUMBER}
-use Rattle.replicated_map.specs.declared.TheConstants.{VALUE}
 use Rattle.replicated_map.specs.declared.entries.Held.{Held}
-
--- the values that a map may hold: of at most 400 bytes
-abbrev pub IsValue : List ℕ → Type 0
-IsValue v = length v ≤ VALUE
-
--- a value of a version
-abbrev pub held : Token → List ℕ → Held
-held version v = record { version = version; value = v }
+pub use Rattle.replicated_map.specs.Values.{IsValue, held}
+use Rattle.replicated_map.specs.Values.{held_form}
 
 -- the last version that was given, and what the keys have
-pub record MapState : Type 0 where
-  pub last : Token
-  pub entries : List (Entry Held)
-
-abbrev pub state_of : Token → List (Entry Held) → MapState
-state_of last entries = record { last = last; entries = entries }
+abbrev pub MapState : Type 0
+MapState = KeyedState Held
 
 -- what a key has: a value and its version
 abbrev pub held_of : List ℕ → MapState → Option Held
@@ -39,32 +28,13 @@ value_in found = option_map (λ h. h.value) found
 abbrev pub version_in : Option Held → Option Token
 version_in found = option_map (λ h. h.version) found
 
--- how many bytes an entry is encoded in: the lengths of its key and value in three, its version in 22
-abbrev pub entry_size : Entry Held → ℕ
-entry_size e = 25 + length e.key + length e.value.value
-
--- how many bytes a state is encoded in: the last version in 22, the number of its entries in four
+-- how many bytes a state is encoded in: the last version in 22, the number of its entries in four; of an entry the lengths of its key and value in three, its version in 22
 abbrev pub map_size : List (Entry Held) → ℕ
-map_size entries = 26 + sum_by entry_size entries
-
--- ---- the states that there are
-
-pub record IsEntry (e : Entry Held) : Type 0 where
-  pub key : IsKey e.key
-  pub version : IsToken e.value.version
-  pub value : IsValue e.value.value
-
--- no value has a version above the last
-abbrev pub AreUpTo : Token → List (Entry Held) → Type 0
-AreUpTo last entries = AllByRecursion (λ e. is_up_to e.value.version last ≡ true) entries
+map_size entries = state_size held_form entries
 
 -- the states of a map: the keys rise, no version is above the last, and the encoding fits into a state
-pub record IsMap (s : MapState) : Type 0 where
-  pub last : IsToken s.last
-  pub entries : AllByRecursion IsEntry s.entries
-  pub versions : AreUpTo s.last s.entries
-  pub rises : Rises s.entries
-  pub fits : map_size s.entries ≤ STATE
+abbrev pub IsMap : MapState → Type 0
+IsMap s = IsState held_form s
 
 -- ---- what a command makes of a state
 

@@ -1,3 +1,4 @@
+pub mod Values
 pub mod Entries
 pub mod Encoding
 pub mod Commands

@@ -1,23 +1,21 @@
-//! Commands and a map's state as bytes. What grows is grown once, before the first byte is put.
+//! Commands as bytes. What grows is grown once, before the first byte is put.
 
-ghost use Rattle.std.specs.Prelude.{◌≡◌, ◌≤◌, ◌+◌, ◌++◌, length, vec_len, vec_capacity, OnOk, OnErr};
-ghost use Rattle.std.specs.List.{flat_map, sum_by, AllByRecursion};
+ghost use Rattle.std.specs.Prelude.{◌≡◌, ◌≤◌, ◌+◌, ◌++◌, length, vec_len, vec_capacity};
 ghost use Rattle.tokens.specs.Tokens.{IsToken};
 ghost use Rattle.tokens.specs.Spelling.{token_bytes};
-ghost use Rattle.replicated_map.specs.Entries.{IsValue, IsEntry, IsMap, state_of, entry_size, map_size};
-ghost use Rattle.replicated_map.specs.Encoding.{value_bytes, entry_bytes, map_encode};
+ghost use Rattle.replicated_map.specs.Values.{IsValue, value_bytes};
 ghost use Rattle.replicated_map.specs.Commands.{IsCommand, IsExpected, IsPair, expected_bytes, pair_bytes, command_bytes};
 ghost use Rattle.replicated_map.specs.declared.TheConstants.{VALUE, LONGEST_COMMAND};
 ghost use Rattle.keyed_entries.specs.declared.TheConstants.{KEY};
 ghost use Rattle.tokens.specs.declared.TheConstants.{TOKEN_BYTES};
 
-use crate::{Command, Held, ValueBytes, Version};
-use big_endian::{put, put_u8, put_u16, put_u32};
-use keyed_entries::{Entry, KeyBytes, put_key};
-use std::alloc::AllocError;
-use tokens::{Token, put_token, put_view_id};
+use crate::{Command, ValueBytes, Version};
+use big_endian::{put, put_u8, put_u16};
+use keyed_entries::{KeyBytes, put_key};
+use tokens::{put_token, put_view_id};
 
-fn put_value(value: &[u8], out: &mut Vec<u8>)
+// Appends a value: its length in two bytes, and its bytes.
+pub(crate) fn put_value(value: &[u8], out: &mut Vec<u8>)
     requires value { IsValue value.now }
     requires room { vec_len out.old + length (value_bytes value.now) ≤ vec_capacity out.old }
     ensures items { out.new.items ≡ out.old.items ++ value_bytes value.now }
@@ -107,56 +105,4 @@ pub(crate) fn put_command(command: &Command<'_>, out: &mut Vec<u8>)
             put_key(key.as_slice(), out);
         }
     }
-}
-
-fn put_entry(entry: &Entry<Held>, out: &mut Vec<u8>)
-    requires entry { IsEntry entry.now }
-    requires room { vec_len out.old + entry_size entry.now ≤ vec_capacity out.old }
-    ensures items { out.new.items ≡ out.old.items ++ entry_bytes entry.now }
-    ensures room { vec_capacity out.old ≤ vec_capacity out.new }
-{
-    put_key(entry.key.as_slice(), out);
-    put_token(entry.value.version, out);
-    put_value(entry.value.value.as_slice(), out);
-}
-
-#[tactic(auto, using(crate::specs::MapLaws::length_entry))]
-fn put_entries(entries: &[Entry<Held>], out: &mut Vec<u8>)
-    requires entries { AllByRecursion IsEntry entries.now }
-    requires room { vec_len out.old + sum_by entry_size entries.now ≤ vec_capacity out.old }
-    ensures items { out.new.items ≡ out.old.items ++ flat_map entry_bytes entries.now }
-    ensures room { vec_capacity out.old ≤ vec_capacity out.new }
-{
-    for entry in entries {
-        put_entry(entry, out);
-    }
-}
-
-#[tactic(auto, using(crate::specs::MapLaws::few_entries))]
-fn put_all(last: Token, entries: &[Entry<Held>], out: &mut Vec<u8>)
-    requires map { IsMap (state_of last entries.now) }
-    requires room { vec_len out.old + map_size entries.now ≤ vec_capacity out.old }
-    ensures { out.new.items ≡ out.old.items ++ map_encode (state_of last entries.now) }
-{
-    put_token(last, out);
-    put_u32(entries.len() as u32, out);
-    put_entries(entries, out);
-}
-
-// Appends the encoding of a map's state, whose room, size bytes, is taken at once. On refusal the vector's items are
-// as they were.
-pub(crate) fn put_map(
-    last: Token,
-    entries: &[Entry<Held>],
-    size: usize,
-    out: &mut Vec<u8>,
-) -> Result<(), AllocError>
-    requires map { IsMap (state_of last entries.now) }
-    requires size { size ≡ map_size entries.now }
-    ensures ok { OnOk result (out.new.items ≡ out.old.items ++ map_encode (state_of last entries.now)) }
-    ensures err { OnErr result (out.new.items ≡ out.old.items) }
-{
-    out.reserve(size)?;
-    put_all(last, entries, out);
-    Ok(())
 }

@@ -1,14 +1,17 @@
-//! The entries of a map: copies, look-ups and sizes.
+//! The entries of a map: what a key has, copies and look-ups.
 
 ghost use Rattle.std.specs.Prelude.{◌≡◌, IfOk};
-ghost use Rattle.replicated_map.specs.MapLaws.{IsCounted};
 ghost use Rattle.keyed_entries.specs.Entries.{Rises, entry_of, value_of};
-ghost use Rattle.replicated_map.specs.Entries.{IsEntry, entry_size, map_size, held, held_lent};
+ghost use Rattle.replicated_map.specs.Entries.{held, held_lent};
 
 use crate::ValueBytes;
+use crate::decoding::value_from;
+use crate::encoding::put_value;
 use keyed_entries::{Entry, KeyBytes, Place, find};
+use keyed_state::Kept;
+use reading::Reader;
 use std::alloc::{AllocError, Global};
-use tokens::Token;
+use tokens::{Token, put_token, token_from};
 use trace_props::Bytes;
 
 /// What a key has: a value, and the version that it was given with.
@@ -18,6 +21,40 @@ pub struct Held {
     pub version: Token,
     /// The value.
     pub value: Bytes,
+}
+
+impl Kept for Held {
+    ghost use Rattle.replicated_map.specs.Values.{held_form};
+    ghost use Rattle.replicated_map.specs.EncodingLaws.{held_laws};
+
+    ghost form = { held_form };
+
+    ghost laws = { held_laws };
+
+    fn token(&self) -> Token {
+        self.version
+    }
+
+    fn size(&self) -> usize {
+        24 + self.value.as_slice().len()
+    }
+
+    fn put(&self, out: &mut Vec<u8>) {
+        put_token(self.version, out);
+        put_value(self.value.as_slice(), out);
+    }
+
+    #[tactic(auto, unfolding(crate::specs::Values::held_at))]
+    fn read(alloc: Global, from: &mut Reader<'_>) -> Result<Option<Held>, AllocError> {
+        let Some(version) = token_from(from) else {
+            return Ok(None);
+        };
+        let Some(value) = value_from(from) else {
+            return Ok(None);
+        };
+        let value = Bytes::from_slice(alloc, value.as_slice())?;
+        Ok(Some(Held { version, value }))
+    }
 }
 
 // The entry of a copied key and value.
@@ -47,23 +84,4 @@ pub(crate) fn found_at<'a>(entries: &'a [Entry<Held>], key: &[u8]) -> Option<&'a
         Place::Held(i) => Some(&entries[i].value),
         Place::Free(_) => None,
     }
-}
-
-fn size_of_entry(entry: &Entry<Held>) -> usize
-    requires { IsEntry entry.now }
-    ensures { result ≡ entry_size entry.now }
-{
-    25 + entry.key.as_slice().len() + entry.value.value.as_slice().len()
-}
-
-// In how many bytes a state with these entries is encoded.
-pub(crate) fn size_of_all(entries: &[Entry<Held>]) -> usize
-    requires { IsCounted entries.now }
-    ensures { result ≡ map_size entries.now }
-{
-    let mut size = 26;
-    for entry in entries {
-        size += size_of_entry(entry);
-    }
-    size
 }

@@ -7,12 +7,11 @@ ghost use Rattle.replicated_map.specs.Commands.{is_expected, has_version, carrie
 ghost use Rattle.limits.specs.declared.TheConstants.{STATE};
 
 use crate::changing::{has_room, put_at, size_with};
-use crate::decoding::contents_of;
-use crate::encoding::put_map;
-use crate::entries::{found_at, size_of_all};
+use crate::entries::found_at;
 use crate::{Command, Held, ValueBytes, Version};
 use address::{Address, ViewId};
 use keyed_entries::{Entry, KeyBytes, Place, find};
+use keyed_state::{contents_of, put_state, size_of_all};
 use state_transfer::Receiver;
 use std::alloc::{AllocError, Global};
 use std::cmp::Ordering;
@@ -257,7 +256,7 @@ impl Receiver for ReplicatedMap {
         ensures short { OnOk result (length (map_encode self.now) ≤ STATE) }
         ensures err { OnErr result (state.new.items ≡ state.old.items) }
     {
-        put_map(self.last, self.entries.as_slice(), self.size, state)
+        put_state(self.last, self.entries.as_slice(), self.size, state)
     }
 
     fn kept(&self) {
@@ -270,7 +269,7 @@ impl Receiver for ReplicatedMap {
         ensures ok { IfOk result (λ taken. MatchOption (map_decode state.now) ((taken ≡ false) × (self.new ≡ self.old)) (λ s. (taken ≡ true) × (self.new ≡ s))) }
         ensures err { OnErr result (self.new ≡ self.old) }
     {
-        match contents_of(*self.entries.allocator(), state)? {
+        match contents_of::<Held>(*self.entries.allocator(), state)? {
             None => Ok(false),
             Some(contents) => {
                 self.size = size_of_all(contents.entries.as_slice());

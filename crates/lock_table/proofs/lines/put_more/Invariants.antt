@@ -6,5 +6,5 @@ use Rattle.lock_table.proofs.lines.put_more.Given as goal
 -- the locks before the index are printed
 abbrev pub invariant-loop-lock : goal.invariant-loop-lock
 invariant-loop-lock l =
-    (l.out.items ≡ l.initial.out.items ++ text_of_more (take l.lock-index l.locks))
+    (l.out.items ≡ l.initial.out.items ++ text_of_more (take l.lock-index l.entries))
     × GoesOnFrom l.initial.out.items l.out.items

@@ -14,36 +14,36 @@ use Rattle.lock_table.proofs.held.Held.release.Goals as goal
 
 pub returns-then-eq-clause-makes : goal.returns-then-eq-clause-makes
 returns-then-eq-clause-makes c =
-    let locks = c.args.self.now.locks.items in
+    let entries = c.args.self.now.entries.items in
     let k = c.args.name.now in
     let i = c.in-Held.i in
     let x = c.index_mut.result.now in
     let l = c.release-self.new.self in
-    let held : IsHeldAt k locks i = rw (c.as_slice-2.ensures.bytes, c.as_slice.ensures.value) at c.in-Held.ensures in
-    let stands : slice_get locks i ≡ Some x = slice_get_read locks (length locks) i x refl held.within c.index_mut.ensures.value in
+    let held : IsHeldAt k entries i = rw (c.as_slice-2.ensures.bytes, c.as_slice.ensures.value) at c.in-Held.ensures in
+    let stands : slice_get entries i ≡ Some x = slice_get_read entries (length entries) i x refl held.within c.index_mut.ensures.value in
     let is : same_address l.holder c.args.from ≡ true = rw c.holder.ensures at (sym c.eq.ensures ∙ c.if-eq.true) in
-    ap (table_of c.release-self.result) c.remove.ensures.items ∙ gone-freed c.args.from c.args.view k c.args.self.now.last locks i x l c.release-self.result held stands c.release-self.ensures (same_address-sym c.args.from l.holder ∙ is)
+    ap (table_of c.release-self.result) c.remove.ensures.items ∙ gone-freed c.args.from c.args.view k c.args.self.now.last entries i x l c.release-self.result held stands c.release-self.ensures (same_address-sym c.args.from l.holder ∙ is)
 
 pub returns-else-eq-clause-makes : goal.returns-else-eq-clause-makes
 returns-else-eq-clause-makes c =
-    let locks = c.args.self.now.locks.items in
+    let entries = c.args.self.now.entries.items in
     let k = c.args.name.now in
     let i = c.in-Held.i in
     let x = c.index_mut.result.now in
     let l = c.release-self.new.self in
-    let held : IsHeldAt k locks i = rw (c.as_slice-2.ensures.bytes, c.as_slice.ensures.value) at c.in-Held.ensures in
-    let stands : slice_get locks i ≡ Some x = slice_get_read locks (length locks) i x refl held.within c.index_mut.ensures.value in
+    let held : IsHeldAt k entries i = rw (c.as_slice-2.ensures.bytes, c.as_slice.ensures.value) at c.in-Held.ensures in
+    let stands : slice_get entries i ≡ Some x = slice_get_read entries (length entries) i x refl held.within c.index_mut.ensures.value in
     let is : same_address l.holder c.args.from ≡ false = rw c.holder.ensures at (sym c.eq.ensures ∙ c.if-eq.false) in
-    gone-kept c.args.from c.args.view k c.args.self.now.last locks i x l c.release-self.result held stands c.release-self.ensures (same_address-sym c.args.from l.holder ∙ is)
+    gone-kept c.args.from c.args.view k c.args.self.now.last entries i x l c.release-self.result held stands c.release-self.ensures (same_address-sym c.args.from l.holder ∙ is)
 
 pub returns-then-eq-clause-kept : goal.returns-then-eq-clause-kept
 returns-then-eq-clause-kept c =
-    let s = table_of c.args.self.now.last c.args.self.now.locks.items in
+    let s = table_of c.args.self.now.last c.args.self.now.entries.items in
     let few : (next_token c.args.view s.last).count ≤ GREATEST_NUMBER = omega (arith, ltb-false _ _ c.requires.numbers) in
     subst IsTable (sym (returns-then-eq-clause-makes c)) (released-is-table c.args.from c.args.view c.args.name.now s c.requires.table c.known_view_id.ensures (rw c.as_slice-2.ensures.bytes at c.as_slice-2.ensures.key) few)
 
 pub returns-else-eq-clause-kept : goal.returns-else-eq-clause-kept
 returns-else-eq-clause-kept c =
-    let s = table_of c.args.self.now.last c.args.self.now.locks.items in
+    let s = table_of c.args.self.now.last c.args.self.now.entries.items in
     let few : (next_token c.args.view s.last).count ≤ GREATEST_NUMBER = omega (arith, ltb-false _ _ c.requires.numbers) in
     subst IsTable (sym (returns-else-eq-clause-makes c)) (released-is-table c.args.from c.args.view c.args.name.now s c.requires.table c.known_view_id.ensures (rw c.as_slice-2.ensures.bytes at c.as_slice-2.ensures.key) few)

@@ -6,8 +6,8 @@ use Rattle.lock_table.proofs.table.LockTableReceiver.set_state.Goals as goal
 
 pub invariant_of-self : goal.invariant_of-self
 invariant_of-self c =
-    let s = table_of c.in-Some.held.last c.in-Some.held.locks.items in
-    let e : table_decode c.args.state.now ≡ Some s = rw c.in-Some.is at c.in_ok-held_of.ensures in
+    let s = table_of c.in-Some.contents.last c.in-Some.contents.entries.items in
+    let e : table_decode c.args.state.now ≡ Some s = rw c.in-Some.is at c.in_ok-contents_of.ensures in
     decoded_is_table c.args.state.now s e
 
 pub returns-in-None-clause-ok : goal.returns-in-None-clause-ok

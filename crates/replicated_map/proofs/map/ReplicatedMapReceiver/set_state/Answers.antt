@@ -1,7 +1,8 @@
-use Rattle.std.proofs.Common.{◌≡◌, Some, sym, ap, subst, ◌∙◌, rules}
+use Rattle.std.proofs.Common.{◌≡◌, ◌≤◌, Some, sym, ap, subst, ◌∙◌, rules}
 use Rattle.replicated_map.specs.Entries.{MapState, state_of, map_size}
 use Rattle.replicated_map.specs.Encoding.{map_decode}
-use Rattle.replicated_map.specs.MapLaws.{IsCounted, decoded_is_map, map_counted}
+use Rattle.limits.specs.declared.TheConstants.{STATE}
+use Rattle.replicated_map.specs.MapLaws.{decoded_is_map}
 use Rattle.replicated_map.proofs.FactOfEntries.{Entries}
 use Rattle.replicated_map.proofs.map.ReplicatedMapReceiver.set_state.Goals as goal
 
@@ -9,7 +10,7 @@ pub size_of_all-self-inside-requires : goal.size_of_all-self-inside-requires
 size_of_all-self-inside-requires c =
     let s = state_of c.in-Some.contents.last c.in-Some.contents.entries.items in
     let e : map_decode c.args.state.now ≡ Some s = rw c.in-Some.is at c.in_ok-contents_of.ensures in
-    subst (λ (es : Entries). IsCounted es) (sym c.as_slice.ensures.value) (map_counted s (decoded_is_map c.args.state.now s e))
+    subst (λ (es : Entries). map_size es ≤ STATE) (sym c.as_slice.ensures.value) (decoded_is_map c.args.state.now s e).fits
 
 pub invariant_of-self : goal.invariant_of-self
 invariant_of-self c =
