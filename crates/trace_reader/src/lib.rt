@@ -6,6 +6,7 @@ mod forms;
 mod hexadecimal;
 mod law;
 mod line;
+mod lines;
 mod spelling;
 mod text;
 

@@ -25,16 +25,16 @@ holds_at f (suc n) h b lt =
 
 -- a number stands for the value of a digit
 stands_for : Option ℕ → ℕ → Bool
-stands_for None x = nat_eq x 255
+stands_for None x = nat_eq x 46
 stands_for (Some v) x = nat_eq x v && nat_lt v 16
 
-as_said : (value : Option ℕ) (x : ℕ) → stands_for value x ≡ true → MatchOption value (x ≡ 255) (λ v. (x ≡ v) × (v < 16))
+as_said : (value : Option ℕ) (x : ℕ) → stands_for value x ≡ true → MatchOption value (x ≡ 46) (λ v. (x ≡ v) × (v < 16))
 unfolding stands_for
 as_said None x h = grind (arith, nat_tests)
 as_said (Some v) x h = grind (arith, nat_tests)
 
 from_table : (table : List ℕ) (b : ℕ) → b < 256 → holds_below (λ k. stands_for (hex_value k) (get_or table k 0)) 256 ≡ true
-    → MatchOption (hex_value b) (get_or table b 0 ≡ 255) (λ v. (get_or table b 0 ≡ v) × (v < 16))
+    → MatchOption (hex_value b) (get_or table b 0 ≡ 46) (λ v. (get_or table b 0 ≡ v) × (v < 16))
 from_table table b lt h = as_said (hex_value b) (get_or table b 0) (holds_at _ 256 h b lt)
 
 pub returns : goal.returns
