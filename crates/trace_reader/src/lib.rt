@@ -3,6 +3,7 @@
 
 mod fields;
 mod forms;
+mod fronts;
 mod hexadecimal;
 mod law;
 mod line;
