@@ -1,20 +1,20 @@
 -- A number, an address or a view id that is read at the front of what is left of a line is its next field, if that ends there.
-use Rattle.std.proofs.Common.{◌≡◌, ℕ, ◌+◌, Bool, true, false, ◌&&◌, List, [], ◌∷◌, ◌++◌, Option, None, Some, Ok, Err, Result, length, take, drop, nat_eq, not, cond, refl, sym, ◌∙◌, ap, append-nil, arith, zero, suc, inl, inr, ◌⊎◌, ⊎_elim, if◌then◌else◌}
+use Rattle.std.proofs.Common.{◌≡◌, ℕ, ◌+◌, Bool, true, false, ◌&&◌, List, [], ◌∷◌, ◌++◌, Option, None, Some, Ok, Err, nat_eq, refl, sym, ◌∙◌, ap, append-nil, arith, suc, inl, inr, ◌⊎◌, if◌then◌else◌}
 use Rattle.std.proofs.lemmas.Bool.{ne_eqb, false≢true}
 use Rattle.std.proofs.lemmas.Bool.Decides.{nat_tests}
 use Rattle.std.specs.Char.{is_ascii_digit}
 use Rattle.std.specs.List.{list_all, position_or_len}
-use Rattle.std.specs.Prelude.{MatchOption, option_and_then, unwrap_or}
+use Rattle.std.specs.Prelude.{option_and_then, unwrap_or}
 use Rattle.address.specs.Ids.{Address, ViewId}
 use Rattle.limits.specs.declared.TheConstants.{GREATEST_NUMBER, GREATEST_INCARNATION, GREATEST_NODE}
 use Rattle.script_reader.specs.AddressText.{address_of_text, address_from}
 use Rattle.script_reader.specs.Fields.{spelled_at, field_at, and_rest}
-use Rattle.script_reader.specs.Lines.{before_byte, behind_byte, behind, field_of, behind_field}
+use Rattle.script_reader.specs.Lines.{before_byte, behind_byte, field_of, behind_field}
 use Rattle.script_reader.specs.Numbers.{number_in, is_plain, has_plain_front}
 use Rattle.script_reader.specs.declared.fault.Fault.TheVariants.{BadNumber}
 use Rattle.trace_reader.specs.Forms.{◌>>=◌}
 use Rattle.trace_reader.specs.Fronts.{digits_of, behind_digits, behind_mark, with_behind, number_in_front, address_in_front, view_id_in_front, left_behind}
-use Rattle.trace_reader.specs.Spelling.{number_of_text, view_id_of_text}
+use Rattle.trace_reader.specs.Spelling.{view_id_of_text}
 use Rattle.trace_reader.proofs.FactOfCutTexts.{Without}
 
 -- WHERE DIGITS END
@@ -96,8 +96,8 @@ number_ends : (low high : ℕ) (ds rest : List ℕ) → NoDigitFirst rest → nu
 number_ends low high ds [] h = ap (number_in low high) (append-nil ds)
 number_ends low high ds (b ∷ bs) h =
     elim (nat_eq b 32) as (λ t. (nat_eq b 32 ≡ t) → number_in low high (ds ++ field_of (b ∷ bs)) ≡ (if t then number_in low high ds else None)) [
-      true ↦ λ e. ap (λ xs. number_in low high (ds ++ xs)) (field_end b bs e) ∙ ap (number_in low high) (append-nil ds)
-    | false ↦ λ e. ap (λ xs. number_in low high (ds ++ xs)) (before_one 32 b bs e) ∙ no_number low high ds b (field_of bs) h
+      | true ↦ λ e. ap (λ xs. number_in low high (ds ++ xs)) (field_end b bs e) ∙ ap (number_in low high) (append-nil ds)
+      | false ↦ λ e. ap (λ xs. number_in low high (ds ++ xs)) (before_one 32 b bs e) ∙ no_number low high ds b (field_of bs) h
     ] refl
 
 -- FRONTS
@@ -132,7 +132,7 @@ pub number_is_front : (high : ℕ) → IsFront (number_in 1 high) (number_in_fro
 unfolding number_in_front
 number_is_front high = record {
   read = λ text. ap (number_in 1 high) (field_split text) ∙ number_ends 1 high (digits_of text) (behind_digits text) (no_digit_first text)
-    ∙ if_ended_with (number_in 1 high (digits_of text)) (behind_digits text);
+      ∙ if_ended_with (number_in 1 high (digits_of text)) (behind_digits text);
   rest = λ text x left e. field_behind text ∙ ap behind_field (left_is (number_in 1 high (digits_of text)) (behind_digits text) x left e);
 }
 
@@ -147,11 +147,11 @@ Marked mark low high ds rest (Some more) =
 marked_else : (mark low high : ℕ) (ds : List ℕ) (b : ℕ) (bs : List ℕ) → is_ascii_digit b ≡ false → nat_eq b mark ≡ false → Marked mark low high ds (b ∷ bs) None
 marked_else mark low high ds b bs h m =
     elim (nat_eq b 32) as (λ t. (nat_eq b 32 ≡ t) → Marked mark low high ds (b ∷ bs) None) [
-      true ↦ λ e. inr (ap (behind_byte mark) (field_end b bs e))
-    | false ↦ λ e.
-        let field : field_of (b ∷ bs) ≡ b ∷ field_of bs = before_one 32 b bs e in
-        inl (ap (λ xs. number_in low high (ds ++ before_byte mark xs)) field ∙ ap (λ xs. number_in low high (ds ++ xs)) (before_one mark b (field_of bs) m)
-        ∙ no_number low high ds b (before_byte mark (field_of bs)) h)
+      | true ↦ λ e. inr (ap (behind_byte mark) (field_end b bs e))
+      | false ↦ λ e.
+          let field : field_of (b ∷ bs) ≡ b ∷ field_of bs = before_one 32 b bs e in
+          inl (ap (λ xs. number_in low high (ds ++ before_byte mark xs)) field ∙ ap (λ xs. number_in low high (ds ++ xs)) (before_one mark b (field_of bs) m)
+          ∙ no_number low high ds b (before_byte mark (field_of bs)) h)
     ] refl
 
 at_mark : (mark low high : ℕ) (ds : List ℕ) (b : ℕ) (bs : List ℕ) → nat_eq b 32 ≡ false → nat_eq b mark ≡ true → Marked mark low high ds (b ∷ bs) (Some bs)
@@ -163,8 +163,8 @@ marked : (mark low high : ℕ) (ds rest : List ℕ) → nat_eq mark 32 ≡ false
 marked mark low high ds [] n h = inr refl
 marked mark low high ds (b ∷ bs) n h =
     elim (nat_eq b mark) as (λ t. (nat_eq b mark ≡ t) → Marked mark low high ds (b ∷ bs) (if t then Some bs else None)) [
-      true ↦ λ e. let same : b ≡ mark = grind (arith, nat_tests) in at_mark mark low high ds b bs (ap (λ k. nat_eq k 32) same ∙ n) e
-    | false ↦ λ e. marked_else mark low high ds b bs h e
+      | true ↦ λ e. let same : b ≡ mark = grind (arith, nat_tests) in at_mark mark low high ds b bs (ap (λ k. nat_eq k 32) same ∙ n) e
+      | false ↦ λ e. marked_else mark low high ds b bs h e
     ] refl
 
 -- A NUMBER, A MARK AND A PART BEHIND IT
@@ -241,17 +241,17 @@ parts_are_front : {A B : Type 0} (make : ℕ → A → B) (spells : List ℕ →
     (λ text. by_parts make front (number_in 1 high (digits_of text)) (behind_mark mark (behind_digits text)))
 parts_are_front make spells front mark high f d n =
     let at : (text : List ℕ) → Marked mark 1 high (digits_of text) (behind_digits text) (behind_mark mark (behind_digits text)) =
-        λ text. marked mark 1 high (digits_of text) (behind_digits text) n (no_digit_first text) in
+    λ text. marked mark 1 high (digits_of text) (behind_digits text) n (no_digit_first text) in
     record {
       read = λ text.
-        let ds = digits_of text in
-        let field = field_of (behind_digits text) in
-        ap (λ xs. both make (number_in 1 high (before_byte mark xs)) (option_and_then spells (behind_byte mark xs))) (field_split text)
-        ∙ ap (λ xs. both make (number_in 1 high xs) (option_and_then spells (behind_byte mark (ds ++ field)))) (before_on mark ds field (digits_without mark text d))
-        ∙ ap (λ o. both make (number_in 1 high (ds ++ before_byte mark field)) (option_and_then spells o)) (behind_on mark ds field (digits_without mark text d))
-        ∙ parts_read make spells front mark high ds (behind_digits text) (behind_mark mark (behind_digits text)) f (at text);
+          let ds = digits_of text in
+          let field = field_of (behind_digits text) in
+          ap (λ xs. both make (number_in 1 high (before_byte mark xs)) (option_and_then spells (behind_byte mark xs))) (field_split text)
+          ∙ ap (λ xs. both make (number_in 1 high xs) (option_and_then spells (behind_byte mark (ds ++ field)))) (before_on mark ds field (digits_without mark text d))
+          ∙ ap (λ o. both make (number_in 1 high (ds ++ before_byte mark field)) (option_and_then spells o)) (behind_on mark ds field (digits_without mark text d))
+          ∙ parts_read make spells front mark high ds (behind_digits text) (behind_mark mark (behind_digits text)) f (at text);
       rest = λ text y left e.
-        field_behind text ∙ parts_left make spells front mark high (digits_of text) (behind_digits text) (number_in 1 high (digits_of text)) _ y left f (at text) e;
+          field_behind text ∙ parts_left make spells front mark high (digits_of text) (behind_digits text) (number_in 1 high (digits_of text)) _ y left f (at text) e;
     }
 
 alike : {A : Type 0} (spells spells' : List ℕ → Option A) (front front' : List ℕ → Option (A × List ℕ))
@@ -272,23 +272,23 @@ address_both (Some n) None = refl
 address_both (Some n) (Some i) = refl
 
 address_part : (n : ℕ) (part : Option (ℕ × List ℕ)) → (do
-    incarnation ← part
-    Some (made_address n incarnation.0, incarnation.1)) ≡ with_part made_address n part
+  incarnation ← part
+  Some (made_address n incarnation.0, incarnation.1)) ≡ with_part made_address n part
 address_part n None = refl
 address_part n (Some (i, left)) = refl
 
 address_behind : (n : ℕ) (more : Option (List ℕ)) → (do
-    rest ← more
-    incarnation ← number_in_front GREATEST_INCARNATION rest
-    Some (made_address n incarnation.0, incarnation.1)) ≡ by_parts made_address (number_in_front GREATEST_INCARNATION) (Some n) more
+  rest ← more
+  incarnation ← number_in_front GREATEST_INCARNATION rest
+  Some (made_address n incarnation.0, incarnation.1)) ≡ by_parts made_address (number_in_front GREATEST_INCARNATION) (Some n) more
 address_behind n None = refl
 address_behind n (Some more) = address_part n (number_in_front GREATEST_INCARNATION more)
 
 address_parts : (n : Option ℕ) (text : List ℕ) → (do
-    node ← with_behind n text
-    rest ← behind_mark 46 node.1
-    incarnation ← number_in_front GREATEST_INCARNATION rest
-    Some (made_address node.0 incarnation.0, incarnation.1)) ≡ by_parts made_address (number_in_front GREATEST_INCARNATION) n (behind_mark 46 text)
+  node ← with_behind n text
+  rest ← behind_mark 46 node.1
+  incarnation ← number_in_front GREATEST_INCARNATION rest
+  Some (made_address node.0 incarnation.0, incarnation.1)) ≡ by_parts made_address (number_in_front GREATEST_INCARNATION) n (behind_mark 46 text)
 address_parts None text = refl
 address_parts (Some n) text = address_behind n (behind_mark 46 text)
 
@@ -308,23 +308,23 @@ abbrev made_view_id : ℕ → Address → ViewId
 made_view_id counter creator = record { counter = counter; creator = creator }
 
 creator_said : (n : ℕ) (creator : Option Address) → (do
-    c ← creator
-    Some (made_view_id n c)) ≡ both made_view_id (Some n) creator
+  c ← creator
+  Some (made_view_id n c)) ≡ both made_view_id (Some n) creator
 creator_said n None = refl
 creator_said n (Some c) = refl
 
 creator_behind : (n : ℕ) (more : Option (List ℕ)) → (do
-    rest ← more
-    creator ← address_of_text rest
-    Some (made_view_id n creator)) ≡ both made_view_id (Some n) (option_and_then address_of_text more)
+  rest ← more
+  creator ← address_of_text rest
+  Some (made_view_id n creator)) ≡ both made_view_id (Some n) (option_and_then address_of_text more)
 creator_behind n None = refl
 creator_behind n (Some more) = creator_said n (address_of_text more)
 
 view_id_said : (n : Option ℕ) (more : Option (List ℕ)) → (do
-    counter ← n
-    rest ← more
-    creator ← address_of_text rest
-    Some (made_view_id counter creator)) ≡ both made_view_id n (option_and_then address_of_text more)
+  counter ← n
+  rest ← more
+  creator ← address_of_text rest
+  Some (made_view_id counter creator)) ≡ both made_view_id n (option_and_then address_of_text more)
 view_id_said None more = refl
 view_id_said (Some n) more = creator_behind n more
 
@@ -333,23 +333,23 @@ unfolding view_id_of_text
 view_id_both field = view_id_said (number_in 1 GREATEST_NUMBER (before_byte 64 field)) (behind_byte 64 field)
 
 view_id_part : (n : ℕ) (part : Option (Address × List ℕ)) → (do
-    creator ← part
-    Some (made_view_id n creator.0, creator.1)) ≡ with_part made_view_id n part
+  creator ← part
+  Some (made_view_id n creator.0, creator.1)) ≡ with_part made_view_id n part
 view_id_part n None = refl
 view_id_part n (Some (c, left)) = refl
 
 view_id_behind : (n : ℕ) (more : Option (List ℕ)) → (do
-    rest ← more
-    creator ← address_in_front rest
-    Some (made_view_id n creator.0, creator.1)) ≡ by_parts made_view_id address_in_front (Some n) more
+  rest ← more
+  creator ← address_in_front rest
+  Some (made_view_id n creator.0, creator.1)) ≡ by_parts made_view_id address_in_front (Some n) more
 view_id_behind n None = refl
 view_id_behind n (Some more) = view_id_part n (address_in_front more)
 
 view_id_parts : (n : Option ℕ) (text : List ℕ) → (do
-    counter ← with_behind n text
-    rest ← behind_mark 64 counter.1
-    creator ← address_in_front rest
-    Some (made_view_id counter.0 creator.0, creator.1)) ≡ by_parts made_view_id address_in_front n (behind_mark 64 text)
+  counter ← with_behind n text
+  rest ← behind_mark 64 counter.1
+  creator ← address_in_front rest
+  Some (made_view_id counter.0 creator.0, creator.1)) ≡ by_parts made_view_id address_in_front n (behind_mark 64 text)
 view_id_parts None text = refl
 view_id_parts (Some n) text = view_id_behind n (behind_mark 64 text)
 
@@ -369,8 +369,8 @@ left_at_end : (rest : List ℕ) (left : Option (List ℕ)) → left_behind rest 
 left_at_end [] left e = (refl, ap (λ o. unwrap_or o None) e)
 left_at_end (b ∷ bs) left e =
     elim (nat_eq b 32) as (λ t. (nat_eq b 32 ≡ t) → (if t then Some (Some bs) else None) ≡ Some left → (nat_eq b 32 ≡ true) × (behind_field (b ∷ bs) ≡ left)) [
-      true ↦ λ h some. (h, rw h (ap (λ o. unwrap_or o None) some))
-    | false ↦ λ h none. absurd cc
+      | true ↦ λ h some. (h, rw h (ap (λ o. unwrap_or o None) some))
+      | false ↦ λ h none. absurd cc
     ] refl e
 
 not_at_end : (rest : List ℕ) → left_behind rest ≡ None → ends rest ≡ false
@@ -386,22 +386,42 @@ unfolding spelled_at field_at
 spelled_as spells front text read f e = ap (λ o. and_rest o (behind_field text)) (f.read text ∙ ap if_ended e)
 
 -- the field ends behind what was read
-pub field_read : {A : Type 0} (spells : List ℕ → Option A) (front : List ℕ → Option (A × List ℕ)) (text rest : List ℕ) (x : A) (left : Option (List ℕ))
-    → IsFront spells front → front text ≡ Some (x, rest) → left_behind rest ≡ Some left → spelled_at spells (Some text) ≡ Ok (x, left)
-field_read {A} spells front text rest x left f e l =
+pub field_read : {A : Type 0} (spells : List ℕ → Option A) (front : List ℕ → Option (A × List ℕ)) (line : Option (List ℕ)) (text rest : List ℕ) (x : A) (left : Option (List ℕ))
+    → IsFront spells front → line ≡ Some text → front text ≡ Some (x, rest) → left_behind rest ≡ Some left → spelled_at spells line ≡ Ok (x, left)
+field_read {A} spells front line text rest x left f s e l =
     let at = left_at_end rest left l in
-    spelled_as spells front text (Some (x, rest)) f e
+    ap (spelled_at spells) s
+    ∙ spelled_as spells front text (Some (x, rest)) f e
     ∙ ap (λ t. and_rest (if◌then◌else◌ {A = Option A} t (Some x) None) (behind_field text)) at.0
     ∙ ap (λ r. Ok (x, r)) (f.rest text x rest e ∙ at.1)
 
 -- the field goes on
-pub field_goes_on : {A : Type 0} (spells : List ℕ → Option A) (front : List ℕ → Option (A × List ℕ)) (text rest : List ℕ) (x : A)
-    → IsFront spells front → front text ≡ Some (x, rest) → left_behind rest ≡ None → spelled_at spells (Some text) ≡ Err BadNumber
-field_goes_on {A} spells front text rest x f e l =
-    spelled_as spells front text (Some (x, rest)) f e
+pub field_goes_on : {A : Type 0} (spells : List ℕ → Option A) (front : List ℕ → Option (A × List ℕ)) (line : Option (List ℕ)) (text rest : List ℕ) (x : A)
+    → IsFront spells front → line ≡ Some text → front text ≡ Some (x, rest) → left_behind rest ≡ None → spelled_at spells line ≡ Err BadNumber
+field_goes_on {A} spells front line text rest x f s e l =
+    ap (spelled_at spells) s
+    ∙ spelled_as spells front text (Some (x, rest)) f e
     ∙ ap (λ t. and_rest (if◌then◌else◌ {A = Option A} t (Some x) None) (behind_field text)) (not_at_end rest l)
 
 -- nothing was read
-pub field_fails : {A : Type 0} (spells : List ℕ → Option A) (front : List ℕ → Option (A × List ℕ)) (text : List ℕ)
-    → IsFront spells front → front text ≡ None → spelled_at spells (Some text) ≡ Err BadNumber
-field_fails spells front text f e = spelled_as spells front text None f e
+pub field_fails : {A : Type 0} (spells : List ℕ → Option A) (front : List ℕ → Option (A × List ℕ)) (line : Option (List ℕ)) (text : List ℕ)
+    → IsFront spells front → line ≡ Some text → front text ≡ None → spelled_at spells line ≡ Err BadNumber
+field_fails spells front line text f s e = ap (spelled_at spells) s ∙ spelled_as spells front text None f e
+
+-- ADDRESSES AND VIEW IDS AS FIELDS
+
+pub address_read : (line : Option (List ℕ)) (text rest : List ℕ) (x : Address) (left : Option (List ℕ))
+    → line ≡ Some text → address_in_front text ≡ Some (x, rest) → Some left ≡ left_behind rest → spelled_at address_of_text line ≡ Ok (x, left)
+address_read line text rest x left s e l = field_read address_of_text address_in_front line text rest x left address_is_front s e (sym l)
+
+pub address_goes_on : (line : Option (List ℕ)) (text rest : List ℕ) (x : Address)
+    → line ≡ Some text → address_in_front text ≡ Some (x, rest) → None ≡ left_behind rest → spelled_at address_of_text line ≡ Err BadNumber
+address_goes_on line text rest x s e l = field_goes_on address_of_text address_in_front line text rest x address_is_front s e (sym l)
+
+pub view_id_read : (line : Option (List ℕ)) (text rest : List ℕ) (x : ViewId) (left : Option (List ℕ))
+    → line ≡ Some text → view_id_in_front text ≡ Some (x, rest) → Some left ≡ left_behind rest → spelled_at view_id_of_text line ≡ Ok (x, left)
+view_id_read line text rest x left s e l = field_read view_id_of_text view_id_in_front line text rest x left view_id_is_front s e (sym l)
+
+pub view_id_goes_on : (line : Option (List ℕ)) (text rest : List ℕ) (x : ViewId)
+    → line ≡ Some text → view_id_in_front text ≡ Some (x, rest) → None ≡ left_behind rest → spelled_at view_id_of_text line ≡ Err BadNumber
+view_id_goes_on line text rest x s e l = field_goes_on view_id_of_text view_id_in_front line text rest x view_id_is_front s e (sym l)

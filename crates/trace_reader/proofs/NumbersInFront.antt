@@ -1,9 +1,9 @@
 -- How the number at the front of a text is read, digit by digit.
-use Rattle.std.proofs.Common.{◌≡◌, ℕ, ◌+◌, ◌-◌, ◌*◌, ◌<◌, ◌≤◌, ◌&&◌, Bool, true, false, List, [], ◌∷◌, Option, None, Some, nat_le, refl, sym, ◌∙◌, ap, arith, if◌then◌else◌}
+use Rattle.std.proofs.Common.{◌≡◌, ℕ, ◌+◌, ◌-◌, ◌*◌, ◌<◌, ◌≤◌, ◌&&◌, true, false, List, [], ◌∷◌, None, Some, nat_le, refl, sym, ◌∙◌, ap, arith, if◌then◌else◌}
 use Rattle.std.proofs.lemmas.Bool.{le-leb, lt-leb, and_from}
 use Rattle.std.specs.Char.{is_ascii_digit}
 use Rattle.std.specs.List.{list_all}
-use Rattle.script_reader.specs.Numbers.{value_of, value_after, number_in, is_plain, has_plain_front}
+use Rattle.script_reader.specs.Numbers.{value_of, value_after, number_in, is_plain}
 use Rattle.trace_reader.specs.Fronts.{digits_of, behind_digits, number_in_front, with_behind}
 use Rattle.trace_reader.proofs.Numerals.{IsLed, led_is_plain}
 
@@ -25,8 +25,8 @@ digits_alone : (text : List ℕ) → list_all is_ascii_digit (digits_of text) �
 digits_alone [] = refl
 digits_alone (b ∷ bs) =
     elim (is_ascii_digit b) as (λ t. (is_ascii_digit b ≡ t) → list_all is_ascii_digit (if t then b ∷ digits_of bs else []) ≡ true) [
-      true ↦ λ e. and_from _ _ e (digits_alone bs)
-    | false ↦ λ e. refl
+      | true ↦ λ e. and_from _ _ e (digits_alone bs)
+      | false ↦ λ e. refl
     ] refl
 
 -- a number above the greatest is none
@@ -50,7 +50,7 @@ pub beyond : (high v d : ℕ) (text rest behind : List ℕ) → high < 10 * v �
     → value_of (digits_of text) ≡ value_after v (digits_of rest) → number_in_front high text ≡ None
 beyond high v d text rest behind h s r e =
     let all : value_of (digits_of text) ≡ value_after (10 * v + (48 + d - 48)) (digits_of behind) =
-        e ∙ ap (λ t. value_after v (digits_of t)) r ∙ ap (value_after v) (digits_go_on d behind s) in
+    e ∙ ap (λ t. value_after v (digits_of t)) r ∙ ap (value_after v) (digits_go_on d behind s) in
     nothing high text (above 1 high (digits_of text) (omega (arith, value_grows (10 * v + (48 + d - 48)) (digits_of behind))))
 
 zero_first : (high : ℕ) (ds : List ℕ) → number_in 1 high (48 ∷ ds) ≡ None

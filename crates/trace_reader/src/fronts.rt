@@ -63,13 +63,7 @@ fn behind_mark(byte: u8, text: &[u8]) -> Option<&[u8]>
 {
     match text.split_first() {
         None => None,
-        Some((first, behind)) => {
-            if *first == byte {
-                Some(behind)
-            } else {
-                None
-            }
-        }
+        Some((first, behind)) => { if *first == byte { Some(behind) } else { None } }
     }
 }
 
