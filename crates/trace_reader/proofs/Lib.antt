@@ -2,6 +2,8 @@ pub mod FactOfReading
 pub mod FactOfReadLists
 pub mod FactOfCutTexts
 pub mod Numerals
+pub mod NumbersInFront
+pub mod FieldsInFront
 pub mod FieldsBack
 pub mod LinesBack
 pub mod TextsBack

@@ -1,4 +1,5 @@
 pub mod Forms
+pub mod Fronts
 pub mod Spelling
 pub mod Fields
 pub mod Traces

@@ -8,12 +8,11 @@ ghost use Rattle.trace_reader.specs.Spelling.{number_of_text, view_id_of_text, p
 ghost use Rattle.script_reader.specs.Fields.{field_at, spelled_at, end_at};
 ghost use Rattle.script_reader.specs.Texts.{IsReadUnlessRefused};
 
-use crate::spelling::{
-    given_in, handed_back_in, message_number_in, payload_in, previous_in, together_in, view_id_in,
-    view_in,
-};
+use crate::fronts::{address_in_front, left_behind, number_in_front, view_id_in_front};
+use crate::spelling::{given_in, handed_back_in, payload_in, previous_in, together_in, view_in};
 use address::{Address, ViewId};
-use script_reader::{Fault, Unheard, address_in, first_field};
+use limits::GREATEST_NUMBER;
+use script_reader::{Fault, Unheard, first_field};
 use std::alloc::Global;
 use std::marker::Model;
 use trace_props::{Bytes, HandedBack};
@@ -63,26 +62,38 @@ impl<'a> Fields<'a> {
         }
     }
 
-    #[tactic(auto, unfolding(script_reader::specs::Fields::spelled_at))]
+    #[tactic(auto)]
     pub(crate) fn address(&mut self) -> Result<Address, Unheard>
         ensures { IsReadUnlessRefused (λ x. (x, self.new)) result (spelled_at address_of_text self.old) }
     {
-        let field = self.field()?;
-        match address_in(field) {
-            None => Err(Unheard::Fault(Fault::BadNumber)),
-            Some(address) => Ok(address),
-        }
+        let Some(text) = self.rest else {
+            return Err(Unheard::Fault(Fault::MissingField));
+        };
+        let Some((address, behind)) = address_in_front(text) else {
+            return Err(Unheard::Fault(Fault::BadNumber));
+        };
+        let Some(left) = left_behind(behind) else {
+            return Err(Unheard::Fault(Fault::BadNumber));
+        };
+        self.rest = left;
+        Ok(address)
     }
 
-    #[tactic(auto, unfolding(script_reader::specs::Fields::spelled_at))]
+    #[tactic(auto)]
     pub(crate) fn view_id(&mut self) -> Result<ViewId, Unheard>
         ensures { IsReadUnlessRefused (λ x. (x, self.new)) result (spelled_at view_id_of_text self.old) }
     {
-        let field = self.field()?;
-        match view_id_in(field) {
-            None => Err(Unheard::Fault(Fault::BadNumber)),
-            Some(view) => Ok(view),
-        }
+        let Some(text) = self.rest else {
+            return Err(Unheard::Fault(Fault::MissingField));
+        };
+        let Some((view, behind)) = view_id_in_front(text) else {
+            return Err(Unheard::Fault(Fault::BadNumber));
+        };
+        let Some(left) = left_behind(behind) else {
+            return Err(Unheard::Fault(Fault::BadNumber));
+        };
+        self.rest = left;
+        Ok(view)
     }
 
     #[tactic(auto, unfolding(script_reader::specs::Fields::spelled_at))]
@@ -96,15 +107,21 @@ impl<'a> Fields<'a> {
         }
     }
 
-    #[tactic(auto, unfolding(script_reader::specs::Fields::spelled_at))]
+    #[tactic(auto)]
     pub(crate) fn number(&mut self) -> Result<u64, Unheard>
         ensures { IsReadUnlessRefused (λ x. (x, self.new)) result (spelled_at number_of_text self.old) }
     {
-        let field = self.field()?;
-        match message_number_in(field) {
-            None => Err(Unheard::Fault(Fault::BadNumber)),
-            Some(number) => Ok(number),
-        }
+        let Some(text) = self.rest else {
+            return Err(Unheard::Fault(Fault::MissingField));
+        };
+        let Some((number, behind)) = number_in_front(GREATEST_NUMBER, text) else {
+            return Err(Unheard::Fault(Fault::BadNumber));
+        };
+        let Some(left) = left_behind(behind) else {
+            return Err(Unheard::Fault(Fault::BadNumber));
+        };
+        self.rest = left;
+        Ok(number)
     }
 
     #[tactic(auto, unfolding(script_reader::specs::Fields::spelled_at))]

@@ -1,54 +1,13 @@
-//! Hexadecimal digits, and lists joined by commas.
+//! Lists joined by commas.
 
-ghost use Rattle.std.specs.Prelude.{◌≡◌, ◌<◌, ◌∷◌, [], None, Some, IfOk, IfSome, MatchOption};
+ghost use Rattle.std.specs.Prelude.{◌≡◌, ◌<◌, ◌∷◌, [], IfOk, IfSome, MatchOption};
 ghost use Rattle.std.specs.Option.{option_copied};
-ghost use Rattle.trace_reader.specs.Forms.{hex_value, hex_byte, bytes_of_hex, parts_left, left_len};
+ghost use Rattle.trace_reader.specs.Forms.{parts_left, left_len};
 ghost use Rattle.trace_reader.specs.Spelling.{addresses_of_text};
 
 use script_reader::{address_in, split_at_first};
 use std::alloc::{AllocError, Global};
-use trace_props::Bytes;
 use view::Addresses;
-
-/// The value of a lower case hexadecimal digit.
-fn hex_value(digit: u8) -> Option<u8>
-    ensures value { result ≡ hex_value digit }
-    ensures small { IfSome result (λ v. v < 16) }
-{
-    match digit {
-        b'0'..=b'9' => Some(digit - b'0'),
-        b'a'..=b'f' => Some(digit - b'a' + 10),
-        _ => None,
-    }
-}
-
-/// The byte of two digits.
-fn hex_byte(high: u8, low: u8) -> Option<u8>
-    ensures { result ≡ hex_byte (hex_value high) (hex_value low) }
-{
-    let high = hex_value(high)?;
-    let low = hex_value(low)?;
-    Some(16 * high + low)
-}
-
-/// The bytes that lower case hexadecimal digits spell, two digits a byte.
-pub(crate) fn bytes_in(alloc: Global, digits: &[u8]) -> Result<Option<Bytes>, AllocError>
-    ensures { IfOk result (λ read. read ≡ bytes_of_hex digits.now) }
-{
-    let mut bytes = Vec::with_capacity(alloc, digits.len() / 2)?;
-    let mut rest = digits;
-    while let Some((high, behind)) = rest.split_first() {
-        let Some((low, behind)) = behind.split_first() else {
-            return Ok(None);
-        };
-        let Some(byte) = hex_byte(*high, *low) else {
-            return Ok(None);
-        };
-        bytes.push(byte)?;
-        rest = behind;
-    }
-    Ok(Some(Bytes::from_vec(bytes)))
-}
 
 /// The next part of what is left behind a comma, if something is, and what is left behind it.
 #[tactic(auto, using(crate::proofs::FactOfReadLists::first_of_parts, crate::proofs::FactOfReadLists::less_left))]

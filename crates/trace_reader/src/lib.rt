@@ -3,8 +3,11 @@
 
 mod fields;
 mod forms;
+mod fronts;
+mod hexadecimal;
 mod law;
 mod line;
+mod lines;
 mod spelling;
 mod text;
 

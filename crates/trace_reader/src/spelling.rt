@@ -4,7 +4,8 @@ ghost use Rattle.std.specs.Prelude.{◌≡◌, ◌≤◌, length, IfOk, IfSome};
 ghost use Rattle.view.specs.Members.{is_distinct};
 ghost use Rattle.trace_reader.specs.Spelling.{number_of_text, view_id_of_text, previous_of_text, short_of_hex, payload_of_text, view_of_text, together_of_text, message_of_text, messages_of_text, AreShort, handed_back_of_text, state_of_text, given_of_text};
 
-use crate::forms::{addresses_in, bytes_in, next_part};
+use crate::forms::{addresses_in, next_part};
+use crate::hexadecimal::bytes_in;
 use address::{Address, ViewId};
 use limits::{GREATEST_NUMBER, PAYLOAD};
 use script_reader::{address_in, number_in, split_at_first};

@@ -6,7 +6,8 @@ ghost use Rattle.script_reader.specs.Texts.{reading_by, HasRead, IsUnread};
 ghost use Rattle.trace_reader.specs.Traces.{said_in_line, with_said, trace_of};
 
 use crate::line::said_in_line;
-use script_reader::{Unread, first_line, is_skipped};
+use crate::lines::line_in_front;
+use script_reader::{Unread, is_skipped};
 use std::alloc::{AllocError, Global};
 use trace_props::{Event, Trace};
 
@@ -55,7 +56,7 @@ pub fn read_trace(alloc: Global, text: &[u8]) -> Result<Trace, Unread>
     let mut rest = text;
     let mut number: u64 = 0;
     while !rest.is_empty() {
-        let (line, behind) = first_line(rest);
+        let (line, behind) = line_in_front(rest);
         number += 1;
         read_on(alloc, &mut trace, number, line)?;
         rest = behind;

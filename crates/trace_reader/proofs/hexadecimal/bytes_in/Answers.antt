@@ -1,0 +1,9 @@
+use Rattle.std.proofs.Common.{length, ap, arith}
+use Rattle.trace_reader.proofs.FactOfReadLists.{byte_read}
+use Rattle.trace_reader.proofs.hexadecimal.bytes_in.Goals as goal
+
+pub loop-high-preserved : goal.loop-high-preserved
+loop-high-preserved c = record {
+  read = byte_read _ _ _ _ _ _ _ _ _ c.loop-high.invariant.read c.in-Some.ensures.cases.0 c.in-Some-split_first.ensures.cases.0 c.in-Some-hex_byte.ensures c.push_reserved.ensures.items;
+  room = omega (arith, ap length c.in-Some.ensures.cases.0, ap length c.in-Some-split_first.ensures.cases.0);
+}

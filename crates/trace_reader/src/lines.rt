@@ -1,0 +1,33 @@
+//! The lines of a text.
+
+ghost use Rattle.std.specs.Prelude.{◌≡◌, ◌<◌, ◌≤◌, ◌∷◌, length, nat_eq};
+ghost use Rattle.std.specs.List.{position_or_len};
+ghost use Rattle.script_reader.specs.Lines.{lines_of};
+
+use memchr::memchr;
+
+/// How many bytes stand before the first line feed: all of them where none is.
+fn line_length(text: &[u8]) -> usize
+    ensures value { result ≡ position_or_len (λ b. nat_eq b 10) text.now }
+    ensures within { result ≤ length text.now }
+{
+    match memchr(b'\n', text) {
+        None => text.len(),
+        Some(end) => end,
+    }
+}
+
+/// The first line of a text that is not empty, without its line feed, and what stands behind that; a last line may lack its
+/// line feed. The line feed is looked for many bytes at a time.
+#[tactic(auto, using(script_reader::proofs::FactOfReading::first_of_lines))]
+pub(crate) fn line_in_front(text: &[u8]) -> (&[u8], &[u8])
+    requires { 0 < length text.now }
+    ensures lines { lines_of text.now ≡ result.0.now ∷ lines_of result.1.now }
+    ensures shorter { length result.1.now < length text.now }
+{
+    let (line, rest) = text.split_at(line_length(text));
+    match rest.split_first() {
+        None => (line, rest),
+        Some((_, behind)) => (line, behind),
+    }
+}
