@@ -4,6 +4,8 @@
 #[cfg(test)]
 mod entries_tests;
 #[cfg(test)]
+mod events;
+#[cfg(test)]
 mod guard_tests;
 #[cfg(test)]
 mod lock_service_tests;

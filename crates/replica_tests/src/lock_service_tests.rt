@@ -1,60 +1,15 @@
-use address::{Address, Node, ViewId};
+use crate::events::{delivery, first, install, second, view};
 use lock_service::{
     Answer, Fate, LockService, Standing, follows, forgets_nobody, grants, misses_no_grant,
     standing_of,
 };
 use std::alloc::{AllocError, Global};
 use tickets::{Waiting, take_ticket};
-use trace_props::{BoxedInstall, Bytes, Delivery, Event, HandedBack, Install, Message};
-use view::{Addresses, View};
 
 // By hand from the tables of docs/FORMATS.md, in the view 1@1.1: acquire `a`, release `a`.
 const ACQUIRE_A: &[u8] = b"\x01\0\0\0\0\0\0\0\x01\0\x01\0\0\0\x01\x01a";
 
 const RELEASE_A: &[u8] = b"\x02\0\0\0\0\0\0\0\x01\0\x01\0\0\0\x01\x01a";
-
-fn first() -> Address {
-    Address::first_at(Node::new(1).unwrap())
-}
-
-fn second() -> Address {
-    Address::first_at(Node::new(2).unwrap())
-}
-
-fn view() -> ViewId {
-    ViewId::first_of(first())
-}
-
-// Node 1 delivers a message.
-fn delivery(
-    alloc: Global,
-    sender: Address,
-    number: u64,
-    payload: &[u8],
-) -> Result<Event, AllocError> {
-    Ok(Event::Delivered(Delivery {
-        member: first(),
-        view: view(),
-        message: Message {
-            sender: sender,
-            number,
-            payload: Bytes::from_slice(alloc, payload)?,
-        },
-    }))
-}
-
-// Node 1 installs its first view.
-fn install(alloc: Global) -> Result<Event, AllocError> {
-    let install = Install {
-        member: first(),
-        previous: None,
-        view: View::alone(alloc, view())?,
-        together: Addresses::alone(alloc, first())?,
-        handed_back: HandedBack::nothing(alloc),
-        given: None,
-    };
-    Ok(Event::Installed(BoxedInstall::new(alloc, install)?))
-}
 
 // The service of node 1 after these: it enters its view; node 2 takes the lock `a`; 70 asks for it by node 1's first message.
 fn waiting(alloc: Global) -> Result<LockService, AllocError> {

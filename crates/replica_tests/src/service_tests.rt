@@ -1,9 +1,7 @@
-use address::{Address, Node, ViewId};
+use crate::events::{delivery, first, install, second, view};
 use map_service::{Answer, Fate, MapService, answers, follows, forgets_nobody};
 use replicated_map::Outcome;
 use std::alloc::{AllocError, Global};
-use trace_props::{BoxedInstall, Bytes, Delivery, Event, HandedBack, Install, Message};
-use view::{Addresses, View};
 
 // By hand from the tables of docs/FORMATS.md: put `xy` for `a`, replace nothing of `a` by `z`, remove `b`.
 const PUT_A: &[u8] = b"\x01\x00\x00\x00\x00\x00\x00\x00\x01\x00\x01\x00\x00\x00\x01\x01a\x00\x02xy";
@@ -12,50 +10,6 @@ const REPLACE_NONE: &[u8] =
     b"\x03\x00\x00\x00\x00\x00\x00\x00\x01\x00\x01\x00\x00\x00\x01\x00\x01a\x00\x01z";
 
 const REMOVE_B: &[u8] = b"\x02\x01b";
-
-fn first() -> Address {
-    Address::first_at(Node::new(1).unwrap())
-}
-
-fn second() -> Address {
-    Address::first_at(Node::new(2).unwrap())
-}
-
-// The first view of node 1, in which all of this happens.
-fn view() -> ViewId {
-    ViewId::first_of(first())
-}
-
-// Node 1 delivers a message.
-fn delivery(
-    alloc: Global,
-    sender: Address,
-    number: u64,
-    payload: &[u8],
-) -> Result<Event, AllocError> {
-    Ok(Event::Delivered(Delivery {
-        member: first(),
-        view: view(),
-        message: Message {
-            sender: sender,
-            number,
-            payload: Bytes::from_slice(alloc, payload)?,
-        },
-    }))
-}
-
-// Node 1 installs its first view.
-fn install(alloc: Global) -> Result<Event, AllocError> {
-    let install = Install {
-        member: first(),
-        previous: None,
-        view: View::alone(alloc, view())?,
-        together: Addresses::alone(alloc, first())?,
-        handed_back: HandedBack::nothing(alloc),
-        given: None,
-    };
-    Ok(Event::Installed(BoxedInstall::new(alloc, install)?))
-}
 
 // The service of node 1 after these: it enters its view; 70, 71, 72 and 73 wait for its messages 1 to 4; node 2's put comes first, and then its own messages 1 to 3.
 fn told(alloc: Global) -> Result<MapService, AllocError> {
