@@ -1,4 +1,4 @@
-ghost use Rattle.std.specs.Prelude.{◌≡◌, [], Some, None, IfOk};
+ghost use Rattle.std.specs.Prelude.{◌≡◌, [], Some, None, IfOk, true};
 ghost use Rattle.std.specs.Option.{ForSome};
 ghost use Rattle.std.specs.Result.{result_err};
 ghost use Rattle.udp_runs.specs.Loopbacks.{nothing_asked, unbound_after, IsSealedOver, IsMadeBy};
