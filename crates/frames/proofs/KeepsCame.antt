@@ -6,7 +6,8 @@ use Rattle.udp_net.specs.Logs.{Log, Lists, receiving, answer_of, Answered}
 use Rattle.frames.specs.Arrivals.{Arrived, ArrivedPiece, GivenIn, PiecesCame}
 use Rattle.frames.specs.declared.opener.Opener.{Opener}
 use Rattle.frames.specs.declared.partial.Partial.{Partial}
-use Rattle.frames.specs.Openers.{AllArrived, AreParts, Stands, OpensTo, Gives}
+use Rattle.frames.specs.Openers.{AllArrived, AreParts, Stands, OpensTo}
+use Rattle.frames.specs.Rows.{Gives}
 use Rattle.frames.specs.Nets.{Grows, Keeps, GivesArrived}
 use Rattle.frames.proofs.Logs.{given-on, given-last, grows-listing}
 
@@ -61,7 +62,7 @@ module _ (o l : Log) (e : take (length o) l ≡ o) (key : List ℕ) (node : ℕ)
   parts-on (p ∷ partials) x = (pieces-on p.boot p.number (length p.pieces.items) 0 p.pieces.items x.0, parts-on partials x.1)
 
 stands-on : (o l : Log) (key : List ℕ) (opener : Opener) → take (length o) l ≡ o → Stands o key opener → Stands l key opener
-stands-on o l key opener e x = (parts-on o l e key opener.node opener.partials x.0, all-on o l e key opener.node opener.opened.items x.1)
+stands-on o l key opener e x = (parts-on o l e key opener.node opener.partials x.0, all-on o l e key opener.node opener.opened x.1)
 
 pub keeps-on : (old new : Option Log) (key : List ℕ) (opener : Opener) → Grows old new → Keeps old key opener → Keeps new key opener
 keeps-on old None key opener g x = tt
@@ -93,11 +94,11 @@ gives-rest l key node opened None buffer rest g x = subst (λ (xs : List (List �
 gives-rest l key node [] (Some n) buffer rest g x = absurd g
 gives-rest l key node (p ∷ opened) (Some n) buffer rest g x = subst (λ (xs : List (List ℕ)). AllArrived l key node xs) (sym g.0) x.1
 
-pub keeps-giving : (log : Option Log) (key : List ℕ) (opener after : Opener) (result : Option ℕ) (buffer : List ℕ) → Gives opener.opened.items result buffer after.opened.items
+pub keeps-giving : (log : Option Log) (key : List ℕ) (opener after : Opener) (result : Option ℕ) (buffer : List ℕ) → Gives opener.opened result buffer after.opened
     → after ≡ record opener { opened = after.opened } → Keeps log key opener → Keeps log key after
 keeps-giving None key opener after result buffer g same x = tt
 keeps-giving (Some l) key opener after result buffer g same x =
-    subst (λ (y : Opener). Stands l key y) (sym same) (x.0, gives-rest l key opener.node opener.opened.items result buffer after.opened.items g x.1)
+    subst (λ (y : Opener). Stands l key y) (sym same) (x.0, gives-rest l key opener.node opener.opened result buffer after.opened g x.1)
 
 by-length : (l : Log) (key : List ℕ) (node : ℕ) (p given : List ℕ) (b : Bool) → given ≡ cond b p [] → Arrived (GivenIn l) key node p → (given ≡ []) ⊎ Arrived (GivenIn l) key node given
 by-length l key node p given true e x = inr (subst (λ (y : List ℕ). Arrived (GivenIn l) key node y) (sym e) x)
@@ -108,8 +109,8 @@ given-came : (l : Log) (key : List ℕ) (node : ℕ) (opened : List (List ℕ)) 
 given-came l key node [] n buffer rest g x = absurd g
 given-came l key node (p ∷ opened) n buffer rest g x = by-length l key node p (take n buffer) (nat_le (length p) (length buffer)) g.1 x.0
 
-pub gives-came : (log : Option Log) (key : List ℕ) (opener : Opener) (result : Option ℕ) (buffer : List ℕ) (rest : List (List ℕ)) → Gives opener.opened.items result buffer rest
+pub gives-came : (log : Option Log) (key : List ℕ) (opener : Opener) (result : Option ℕ) (buffer : List ℕ) (rest : List (List ℕ)) → Gives opener.opened result buffer rest
     → Keeps log key opener → GivesArrived log key opener.node result buffer
 gives-came log key opener None buffer rest g x = tt
 gives-came None key opener (Some n) buffer rest g x = tt
-gives-came (Some l) key opener (Some n) buffer rest g x = given-came l key opener.node opener.opened.items n buffer rest g x.1
+gives-came (Some l) key opener (Some n) buffer rest g x = given-came l key opener.node opener.opened n buffer rest g x.1

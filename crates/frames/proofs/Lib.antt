@@ -6,6 +6,7 @@ pub mod Opened
 pub mod PiecesCome
 pub mod ReadAsCarried
 pub mod ReadAsPut
+pub mod Rows
 pub mod SendsCarried
 pub mod Shared
 pub mod StayTaken

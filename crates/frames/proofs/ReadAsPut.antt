@@ -7,7 +7,7 @@ use Rattle.sha2.proofs.Facts256.{length-sha256}
 use Rattle.hmac.specs.Hmac.{hmac_sha256, inner_pad, outer_pad}
 use Rattle.sha2.specs.Sha256.{sha256}
 use Rattle.frames.specs.declared.head.Head.{Head}
-use Rattle.frames.specs.Frames.{packed, packed_behind, shared_front, IsShort, sealed, tag_of, head_bytes, Opens}
+use Rattle.frames.specs.Frames.{packed, packed_behind, shared_front, IsShort, sealed, tag_of, head_bytes}
 use Rattle.frames.proofs.Shared.{shared-most, shared-same}
 
 -- two bytes spell a length

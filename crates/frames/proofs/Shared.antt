@@ -1,14 +1,16 @@
 -- What packets share that stand one behind another.
-use Rattle.std.proofs.Common.{◌≡◌, ◌≢◌, ◌<◌, ◌≤◌, ◌+◌, ◌-◌, ◌⊎◌, ℕ, zero, suc, Bool, true, false, cond, not, ◌%◌, nat_eq, nat_le, nat_lt, eqb-true, List, [], ◌∷◌, ◌++◌, length, take, drop, get_or, slice_get, None, Some, refl, sym, ap, subst, ◌∙◌, arith}
+use Rattle.std.proofs.Common.{◌≡◌, ◌<◌, ◌≤◌, ◌+◌, ◌-◌, ◌⊎◌, ℕ, zero, suc, Bool, true, false, cond, not, ◌%◌, min, nat_eq, nat_le, nat_lt, eqb-true, List, [], ◌∷◌, ◌++◌, length, take, drop, get_or, slice_get, None, Some, refl, sym, ap, ◌∙◌, inl, inr, arith}
 use Rattle.std.specs.Prelude.{Result, Ok, Err, IfOk}
+use Rattle.std.proofs.lemmas.Bool.{cases_lt}
 use Rattle.std.proofs.lemmas.Bool.Decides.{nat_tests}
 use Rattle.std.proofs.Math.ListN.{drop_of_length-le}
-use Rattle.std.proofs.Math.Seq.{drop-append_seam, drop-cons}
-use Rattle.std.proofs.lemmas.List.{append-nil, append_assoc, length-append, length-drop, length-take}
+use Rattle.std.proofs.Math.Seq.{drop-append_seam, drop-cons, drop-drop}
+use Rattle.std.proofs.lemmas.List.{append-nil, append_assoc, length-append, length-drop, length-take, take-append-drop}
 use Rattle.std.proofs.lemmas.Option.{same_Some}
 use Rattle.big_endian.specs.Spelled.{IsBytes}
-use Rattle.big_endian.proofs.Bytes.{IsBytes-drop, IsBytes-take, wide2}
-use Rattle.byteorder.specs.Endian.{big_bytes}
+use Rattle.big_endian.proofs.Bytes.{IsBytes-drop, IsBytes-take, wide2, wide8}
+use Rattle.byteorder.specs.Endian.{big_bytes, big_number}
+use Rattle.byteorder.specs.Numbers.{big_from-take}
 use Rattle.frames.specs.Frames.{bytes_behind, entry_bytes, last_behind, packed, packed_behind, shared_front, shared_within, IsRead, StandsFirst}
 
 same-number : (n : ℕ) → nat_eq n n ≡ true
@@ -90,6 +92,42 @@ shares-more k n one other below first second same =
     (ap (nat_eq (get_or one k 0)) (sym same) ∙ same-number (get_or one k 0))
     ∙ ap (λ (m : ℕ). suc (shared_within (n - (k + 1)) (drop m one) (drop m other))) next
 
+-- what both begin with
+shared-common : (front : List ℕ) (n : ℕ) (one other : List ℕ) → shared_within (length front + n) (front ++ one) (front ++ other) ≡ length front + shared_within n one other
+shared-common [] n one other =
+    let e : 0 + n ≡ n = omega arith in
+    ap (λ (m : ℕ). shared_within m one other) e ∙ omega arith
+shared-common (x ∷ front) n one other =
+    let e : suc (length front) + n ≡ suc (length front + n) = omega arith in
+    ap (λ (m : ℕ). shared_within m (x ∷ (front ++ one)) (x ∷ (front ++ other))) e
+    ∙ ap (λ (b : Bool). cond b (suc (shared_within (length front + n) (front ++ one) (front ++ other))) 0) (same-number x)
+    ∙ ap suc (shared-common front n one other) ∙ omega arith
+
+-- eight bytes that spell the same number are the same
+same-eight : (one other : List ℕ) → 8 ≤ length one → 8 ≤ length other → IsBytes one → IsBytes other → big_number 8 one ≡ big_number 8 other → take 8 one ≡ take 8 other
+same-eight one other first second fits also same =
+    sym (wide8.back (take 8 one) (length-take 8 one ∙ omega arith) (IsBytes-take 8 one fits))
+    ∙ ap (big_bytes 8) (big_from-take 0 8 8 one (omega arith) ∙ same ∙ sym (big_from-take 0 8 8 other (omega arith)))
+    ∙ wide8.back (take 8 other) (length-take 8 other ∙ omega arith) (IsBytes-take 8 other also)
+
+-- eight more
+pub shares-eight : (k n : ℕ) (one other : List ℕ) → k + 8 ≤ n → k + 8 ≤ length one → k + 8 ≤ length other → IsBytes one → IsBytes other
+    → big_number 8 (drop k one) ≡ big_number 8 (drop k other)
+    → shared_within (n - k) (drop k one) (drop k other) ≡ 8 + shared_within (n - (k + 8)) (drop (k + 8) one) (drop (k + 8) other)
+shares-eight k n one other below first second fits also same =
+    let front : List ℕ = take 8 (drop k one) in
+    let long : length front ≡ 8 = length-take 8 (drop k one) ∙ omega (arith, length-drop k one) in
+    let alike : front ≡ take 8 (drop k other) =
+    same-eight (drop k one) (drop k other) (omega (arith, length-drop k one)) (omega (arith, length-drop k other)) (IsBytes-drop k one fits) (IsBytes-drop k other also) same in
+    let left : n - k ≡ length front + (n - (k + 8)) = omega (arith, long) in
+    let here : drop k one ≡ front ++ drop (k + 8) one = sym (take-append-drop 8 (drop k one)) ∙ ap (λ (l : List ℕ). front ++ l) (drop-drop 8 k one) in
+    let there : drop k other ≡ front ++ drop (k + 8) other =
+    sym (take-append-drop 8 (drop k other)) ∙ ap (λ (l : List ℕ). l ++ drop 8 (drop k other)) (sym alike) ∙ ap (λ (l : List ℕ). front ++ l) (drop-drop 8 k other) in
+    ap (λ (m : ℕ). shared_within m (drop k one) (drop k other)) left ∙ ap (λ (l : List ℕ). shared_within (length front + (n - (k + 8))) l (drop k other)) here
+    ∙ ap (λ (l : List ℕ). shared_within (length front + (n - (k + 8))) (front ++ drop (k + 8) one) l) there
+    ∙ shared-common front (n - (k + 8)) (drop (k + 8) one) (drop (k + 8) other)
+    ∙ ap (λ (m : ℕ). m + shared_within (n - (k + 8)) (drop (k + 8) one) (drop (k + 8) other)) long
+
 shared-nothing : (n : ℕ) (other : List ℕ) → shared_within n [] other ≡ 0
 shared-nothing zero other = refl
 shared-nothing (suc n) other = refl
@@ -116,6 +154,25 @@ they-differ k n one other first second is =
     ap (λ (l : List ℕ). shared_within n l (drop k other)) (drop-cons one k 0 first)
     ∙ ap (λ (l : List ℕ). shared_within n (get_or one k 0 ∷ drop (suc k) one) l) (drop-cons other k 0 second)
     ∙ differs n (get_or one k 0) (get_or other k 0) (drop (suc k) one) (drop (suc k) other) is
+
+-- or that is as many as may be
+pub shares-at-most : (k n : ℕ) (one other : List ℕ) → (n ≤ k) ⊎ ((length one ≤ k) ⊎ (length other ≤ k)) → shared_within (n - k) (drop k one) (drop k other) ≡ 0
+shares-at-most k n one other (inl le) =
+    let none : n - k ≡ 0 = omega arith in
+    ap (λ (m : ℕ). shared_within m (drop k one) (drop k other)) none
+shares-at-most k n one other (inr (inl le)) = first-ends k (n - k) one other le
+shares-at-most k n one other (inr (inr le)) = second-ends k (n - k) one other le
+
+pub reached : (k one other : ℕ) → min (min 255 one) other ≤ k → (255 ≤ k) ⊎ ((one ≤ k) ⊎ (other ≤ k))
+reached k one other le =
+    elim (cases_lt k 255) [
+      | inr most ↦ inl most
+      | inl below ↦
+          elim (cases_lt k one) [
+            | inr first ↦ inr (inl first)
+            | inl within ↦ inr (inr (omega arith))
+          ]
+    ]
 
 -- ---- packets behind one another
 

@@ -1,4 +1,5 @@
 pub mod Frames
+pub mod Rows
 pub mod Windows
 pub mod Taken
 pub mod Sendings

@@ -1,5 +1,5 @@
 -- What is known of long packets of which some pieces came, and of what was opened.
-use Rattle.std.specs.Prelude.{◌≡◌, ℕ, List, [], ◌∷◌, length, take, nat_le, Option, None, Some, if◌then◌else◌}
+use Rattle.std.specs.Prelude.{◌≡◌, ℕ, List, length}
 use Rattle.std.specs.List.{AllByRecursion}
 use Rattle.udp_net.specs.Logs.{Log}
 use Rattle.frames.specs.declared.opener.Opener.{Opener}
@@ -33,17 +33,11 @@ AllArrived l key node opened = AllByRecursion (Arrived (GivenIn l) key node) ope
 
 -- all that is kept came, by a net's list
 abbrev pub Stands : Log → List ℕ → Opener → Type 0
-Stands l key o = AreParts l key o.node o.partials × AllArrived l key o.node o.opened.items
+Stands l key o = AreParts l key o.node o.partials × AllArrived l key o.node o.opened
 
 -- a frame was opened: by a list in which it came all that is kept came, if it did before
 abbrev pub OpensTo : List ℕ → List ℕ → Opener → Opener → Type 0
 OpensTo key frame old new = (l : Log) → GivenIn l frame → Stands l key old → Stands l key new
-
--- the first packet that was opened is given; one that is longer than the buffer is given as an empty one
-abbrev pub Gives : List (List ℕ) → Option ℕ → List ℕ → List (List ℕ) → Type 0
-Gives old None buffer new = (old ≡ []) × (new ≡ [])
-Gives [] (Some n) buffer new = ⊥
-Gives (p ∷ rest) (Some n) buffer new = (new ≡ rest) × (take n buffer ≡ (if nat_le (length p) (length buffer) then p else []))
 
 -- a frame is opened whose counter was not taken before of its boot id, and is taken then
 pub record OpensOnce (key frame : List ℕ) (old new : Opener) : Type 0 where

@@ -1,15 +1,40 @@
 //! Packets as the content of a frame.
 
-ghost use Rattle.std.specs.Prelude.{◌≡◌, ◌≤◌, ◌<◌, ◌+◌, ◌++◌, ◌^◌, ℕ, List, true, length, take, vec_len, vec_capacity, IfOk, IfSome};
-ghost use Rattle.std.specs.List.{AllByRecursion};
-ghost use Rattle.frames.specs.Frames.{entry_bytes, packed_behind, shared_front, IsRead, IsShort, StandsFirst};
+ghost use Rattle.std.specs.Prelude.{◌≡◌, ◌≤◌, ◌<◌, ◌+◌, ◌-◌, ◌++◌, ◌^◌, ℕ, List, true, length, take, drop, vec_len, vec_capacity, IfOk, IfSome};
+ghost use Rattle.byteorder.specs.Endian.{big_number};
+ghost use Rattle.frames.specs.Frames.{bytes_behind, shared_front, shared_within, IsRead, IsShort, StandsFirst};
 
+use crate::row::Row;
 use crate::{MOST_SHARED, WHOLE};
 use big_endian::{put, put_u8, put_u16};
 use byteorder::{BigEndian, ByteOrder};
-use std::alloc::{AllocError, Global};
-use std::collections::VecDeque;
-use trace_props::Bytes;
+use std::alloc::AllocError;
+
+// The number that the eight bytes from a place on spell.
+fn eight_at(text: &[u8], place: usize) -> u64
+    requires { place + 8 ≤ length text.now }
+    ensures { result ≡ big_number 8 (drop place text.now) }
+{
+    let (_, rest) = text.split_at(place);
+    BigEndian::read_u64(rest)
+}
+
+// How many bytes two texts have in common at the front, counted by eight, where both have so many.
+fn shared_groups(last: &[u8], packet: &[u8], most: usize) -> usize
+    requires most { most ≤ 255 }
+    requires first { most ≤ length last.now }
+    requires second { most ≤ length packet.now }
+    ensures most { result ≤ most }
+    ensures shares { shared_front last.now packet.now ≡ result + shared_within (255 - result) (drop result last.now) (drop result packet.now) }
+{
+    for group in 0..most / 8 {
+        let place = 8 * group;
+        if eight_at(last, place) != eight_at(packet, place) {
+            return place;
+        }
+    }
+    8 * (most / 8)
+}
 
 // How many bytes a packet has in common with the one before it, at the front.
 pub(crate) fn shared_front(last: &[u8], packet: &[u8]) -> usize
@@ -17,40 +42,28 @@ pub(crate) fn shared_front(last: &[u8], packet: &[u8]) -> usize
     ensures most { result ≤ 255 }
     ensures within { result ≤ length packet.now }
 {
-    for place in 0..MOST_SHARED {
-        if place >= last.len() || place >= packet.len() || last[place] != packet[place] {
+    let most = MOST_SHARED.min(last.len()).min(packet.len());
+    for place in shared_groups(last, packet, most)..most {
+        if last[place] != packet[place] {
             return place;
         }
     }
-    MOST_SHARED
+    most
 }
 
-// Appends a packet behind one: how many bytes it has in common with that, how many others it has, and these.
-fn put_packet(last: &[u8], packet: &[u8], out: &mut Vec<u8>)
+// Appends a packet behind one with which it has so many bytes in common: how many these are, how many others it has, and these.
+pub(crate) fn put_packet(shared: usize, packet: &[u8], out: &mut Vec<u8>)
+    requires most { shared ≤ 255 }
+    requires within { shared ≤ length packet.now }
     requires short { IsShort packet.now }
-    requires room { vec_len out.old + length (entry_bytes last.now packet.now) ≤ vec_capacity out.old }
-    ensures items { out.new.items ≡ out.old.items ++ entry_bytes last.now packet.now }
+    requires room { vec_len out.old + (length packet.now - shared + 3) ≤ vec_capacity out.old }
+    ensures items { out.new.items ≡ out.old.items ++ bytes_behind shared packet.now }
     ensures room { vec_capacity out.old ≤ vec_capacity out.new }
 {
-    let shared = shared_front(last, packet);
     let (_, others) = packet.split_at(shared);
     put_u8(shared as u8, out);
     put_u16(others.len() as u16, out);
     put(others, out);
-}
-
-// Appends packets behind one.
-pub(crate) fn put_packets(last: &[u8], packets: &[Bytes], out: &mut Vec<u8>)
-    requires short { AllByRecursion IsShort packets.now }
-    requires room { vec_len out.old + length (packed_behind last.now packets.now) ≤ vec_capacity out.old }
-    ensures items { out.new.items ≡ out.old.items ++ packed_behind last.now packets.now }
-    ensures room { vec_capacity out.old ≤ vec_capacity out.new }
-{
-    let Some((first, rest)) = packets.split_first() else {
-        return;
-    };
-    put_packet(last, first.as_slice(), out);
-    put_packets(first.as_slice(), rest, out);
 }
 
 // How many bytes the first packet of a content shares with the one before it, and how many others it has, where these stand there whole.
@@ -90,12 +103,11 @@ fn shares_no_more(last: &[u8], shared: usize, others: &[u8]) -> bool
 // Puts the packets of a content that stand behind one there behind others, and answers whether it has packets to its end; some of them where it has not. The one before is the last of
 // them then.
 pub(crate) fn read_packets(
-    alloc: Global,
     last: &mut Vec<u8>,
     content: &[u8],
-    packets: &mut VecDeque<Bytes>,
+    packets: &mut Row,
 ) -> Result<bool, AllocError>
-    ensures { IfOk result (λ good. good ≡ true → IsRead last.old.items packets.old.items content.now packets.new.items) }
+    ensures { IfOk result (λ good. good ≡ true → IsRead last.old.items packets.old content.now packets.new) }
 {
     if content.is_empty() {
         return Ok(true);
@@ -110,6 +122,6 @@ pub(crate) fn read_packets(
     }
     last.truncate(shared);
     last.extend_from_slice(others)?;
-    packets.push_back(Bytes::from_slice(alloc, last.as_slice())?)?;
-    read_packets(alloc, last, rest, packets)
+    packets.push(last.as_slice())?;
+    read_packets(last, rest, packets)
 }

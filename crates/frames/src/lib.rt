@@ -10,6 +10,7 @@ mod opener;
 mod outlet;
 mod partial;
 mod peers;
+mod row;
 mod seal;
 mod window;
 

@@ -4,7 +4,8 @@ ghost use Rattle.std.specs.Prelude.{◌≡◌, ◌≤◌, ℕ, List, length, tru
 ghost use Rattle.udp_net.specs.Logs.{Log};
 ghost use Rattle.frames.specs.Arrivals.{GivenIn};
 ghost use Rattle.frames.specs.Frames.{Opens};
-ghost use Rattle.frames.specs.Openers.{Gives, OpensOnce, OpensTo, Stands};
+ghost use Rattle.frames.specs.Openers.{OpensOnce, OpensTo, Stands};
+ghost use Rattle.frames.specs.Rows.{Gives};
 ghost use Rattle.frames.specs.Taken.{StayTaken};
 ghost use Rattle.frames.specs.declared.head.Head.{Head as HeadValue};
 ghost use Rattle.frames.specs.declared.head.Kind.TheVariants.{Packets, Piece};
@@ -14,21 +15,21 @@ use crate::content::read_packets;
 use crate::head::Kind;
 use crate::partial::{Partials, piece_of};
 use crate::peers::Peers;
+use crate::row::Row;
 use crate::seal::open;
 use address::Node;
 use hmac::Key;
 use std::alloc::{AllocError, Global};
-use std::collections::VecDeque;
-use trace_props::Bytes;
 
 /// The frames that came for a node: who sent them, the long packets of which some pieces came, and the packets that were opened and not given yet.
 #[derive(Drop)]
 pub(crate) struct Opener {
-    alloc: Global,
     node: Node,
     peers: Peers,
     partials: Partials,
-    opened: VecDeque<Bytes>,
+    opened: Row,
+    // The last packet that was read of a content.
+    last: Vec<u8>,
 }
 
 impl Opener {
@@ -38,11 +39,11 @@ impl Opener {
         ensures node { result.node ≡ node }
     {
         Opener {
-            alloc,
             node,
             peers: Peers::new(alloc),
             partials: Partials::new(alloc),
-            opened: VecDeque::new(alloc),
+            opened: Row::new(alloc),
+            last: Vec::new(alloc),
         }
     }
 
@@ -53,13 +54,15 @@ impl Opener {
         ensures node { self.new.node ≡ self.old.node }
         ensures peers { self.new.peers ≡ self.old.peers }
     {
-        let mut packets = VecDeque::new(self.alloc);
-        let mut last = Vec::new(self.alloc);
-        if !read_packets(self.alloc, &mut last, content, &mut packets)? {
-            return Ok(false);
+        self.opened.clear();
+        self.last.clear();
+        match read_packets(&mut self.last, content, &mut self.opened) {
+            Ok(true) => Ok(true),
+            refused => {
+                self.opened.clear();
+                refused
+            }
         }
-        self.opened = packets;
-        Ok(true)
     }
 
     // Opens a content that is a piece; answers whether it is one.
@@ -73,7 +76,7 @@ impl Opener {
             return Ok(false);
         };
         if let Some(packet) = self.partials.take(boot, &piece)? {
-            self.opened.push_back(packet)?;
+            self.opened.push(packet.as_slice())?;
         }
         Ok(true)
     }
@@ -105,15 +108,9 @@ impl Opener {
     /// Gives the first packet that was opened, where the buffer has room for it; one that is longer is lost.
     pub(crate) fn give(&mut self, buffer: &mut [u8]) -> Option<usize>
         ensures within { IfSome result (λ n. n ≤ length buffer.new) }
-        ensures gives { Gives self.old.opened.items result buffer.new self.new.opened.items }
+        ensures gives { Gives self.old.opened result buffer.new self.new.opened }
         ensures others { self.new ≡ record self.old { opened = self.new.opened } }
     {
-        let packet = self.opened.pop_front()?;
-        let bytes = packet.as_slice();
-        if buffer.len() < bytes.len() {
-            return Some(0);
-        }
-        buffer[..bytes.len()].copy_from_slice(bytes);
-        Some(bytes.len())
+        self.opened.give(buffer)
     }
 }

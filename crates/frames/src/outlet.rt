@@ -2,7 +2,7 @@
 
 ghost use Rattle.std.specs.Prelude.{◌≡◌, ◌≤◌, ◌<◌, ◌+◌, ◌-◌, ◌*◌, ◌++◌, ◌∷◌, ℕ, List, [], length, take, drop, min, vec_len, vec_capacity, true, OnOk, OnErr, IfOk};
 ghost use Rattle.udp_net.specs.Logs.{Lists, offering};
-ghost use Rattle.frames.specs.Frames.{sealed, packed, last_behind, head_bytes};
+ghost use Rattle.frames.specs.Frames.{sealed, packed, head_bytes};
 ghost use Rattle.frames.specs.declared.head.Kind.TheVariants.{Packets, Piece as PieceKind};
 ghost use Rattle.frames.specs.Partials.{piece_bytes};
 ghost use Rattle.frames.specs.Arrivals.{StandsIn};
@@ -12,18 +12,19 @@ ghost use Rattle.frames.specs.Sendings.{Adds, AreLongs, AreOf, IsFrameOf, IsLong
 ghost use Rattle.frames.specs.Longs.{IsNumbered, number_for};
 ghost use Rattle.frames.specs.Outlets.{counter_behind, head_for, has_place, flushing, opening_for, waiting_after};
 
-use crate::content::{put_packets, shared_front};
+use crate::content::{put_packet, shared_front};
 use crate::head::{Head, Kind, put_head};
 use crate::longs::Longs;
 use crate::partial::put_piece;
+use crate::row::Row;
 use crate::seal::seal;
 use crate::{BOOT, CONTENT, FRAME, PIECE, WHOLE};
 use address::Node;
+use big_endian::put;
 use hmac::Key;
 use limits::DATAGRAM;
 use std::alloc::{AllocError, Global};
 use std::marker::Model;
-use trace_props::Bytes;
 use udp_net::Net;
 
 /// With what a process seals its frames: its key, and the boot id of its start.
@@ -39,9 +40,9 @@ pub(crate) struct Outlet {
     node: Node,
     frames: u64,
     longs: Longs,
-    waiting: Vec<Bytes>,
-    // How many bytes they have in a frame.
-    size: usize,
+    waiting: Row,
+    // What they are in a frame.
+    content: Vec<u8>,
 }
 
 impl Model for Outlet {
@@ -56,9 +57,9 @@ impl Model for Outlet {
 
     ghost Value = { OutletModel };
 
-    ghost view = { λ o. record { node = o.node; frames = o.frames; longs = o.longs; waiting = o.waiting.items } };
+    ghost view = { λ o. record { node = o.node; frames = o.frames; longs = o.longs; waiting = o.waiting } };
 
-    ghost invariant = { λ o. AllByRecursion IsShort o.waiting.items × (o.size ≡ length (packed o.waiting.items)) × (o.size ≤ 1356) };
+    ghost invariant = { λ o. AllByRecursion IsShort o.waiting × (o.content.items ≡ packed o.waiting) × (length o.content.items ≤ 1356) };
 }
 
 // The piece of a packet that has an index.
@@ -92,8 +93,8 @@ impl Outlet {
             node,
             frames: 0,
             longs: Longs::new(alloc),
-            waiting: Vec::new(alloc),
-            size: 0,
+            waiting: Row::new(alloc),
+            content: Vec::new(alloc),
         }
     }
 
@@ -141,7 +142,7 @@ impl Outlet {
     {
         let mut body = Vec::with_capacity(alloc, FRAME)?;
         put_head(&self.head(Kind::Packets, seal), &mut body);
-        put_packets(&[], self.waiting.as_slice(), &mut body);
+        put(self.content.as_slice(), &mut body);
         Ok(body)
     }
 
@@ -168,7 +169,7 @@ impl Outlet {
         }
         let body = self.body(alloc, seal)?;
         self.waiting.clear();
-        self.size = 0;
+        self.content.clear();
         self.offer(seal, net, body);
         Ok(())
     }
@@ -177,21 +178,11 @@ impl Outlet {
     fn has_place(&self, packet: &[u8]) -> bool
         ensures { result ≡ has_place packet.now self.now }
     {
-        packet.len() + 3 <= CONTENT - self.size
-    }
-
-    // The last of the packets that wait; nothing, if none does.
-    fn last(&self) -> &[u8]
-        ensures { result.now ≡ last_behind [] self.now.waiting }
-    {
-        match self.waiting.last() {
-            Some(bytes) => bytes.as_slice(),
-            None => &[],
-        }
+        packet.len() + 3 <= CONTENT - self.content.len()
     }
 
     // A packet waits behind the others. It has a place in the next frame.
-    fn wait(&mut self, alloc: Global, packet: &[u8]) -> Result<(), AllocError>
+    fn wait(&mut self, packet: &[u8]) -> Result<(), AllocError>
         requires { has_place packet.now self.old ≡ true }
         ensures ok { OnOk result (self.new ≡ record self.old { waiting = self.old.waiting ++ packet.now ∷ [] }) }
         ensures node { self.new.node ≡ self.old.node }
@@ -199,10 +190,10 @@ impl Outlet {
         ensures err { OnErr result (self.new ≡ self.old) }
         ensures of { (sent : List (List ℕ)) → AreOf sent self.old.waiting → StandsIn sent packet.now → AreOf sent self.new.waiting }
     {
-        let shared = shared_front(self.last(), packet);
-        let bytes = Bytes::from_slice(alloc, packet)?;
-        self.waiting.push(bytes)?;
-        self.size += packet.len() - shared + 3;
+        let shared = shared_front(self.waiting.last(), packet);
+        self.content.reserve(packet.len() - shared + 3)?;
+        self.waiting.push(packet)?;
+        put_packet(shared, packet, &mut self.content);
         Ok(())
     }
 
@@ -234,7 +225,7 @@ impl Outlet {
         if !self.has_place(packet) {
             self.flush(alloc, seal, net)?;
         }
-        self.wait(alloc, packet)
+        self.wait(packet)
     }
 
     // The body of the frame of a piece.

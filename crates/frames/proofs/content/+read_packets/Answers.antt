@@ -1,4 +1,4 @@
-use Rattle.std.proofs.Common.{◌≡◌, ◌≤◌, ◌++◌, ◌∷◌, [], ℕ, List, true, length, take, drop, ap, arith, refl, subst, sym, ◌∙◌, rules}
+use Rattle.std.proofs.Common.{◌≡◌, ◌≤◌, ◌++◌, ◌∷◌, [], ℕ, List, length, take, drop, ap, arith, refl, subst, sym, ◌∙◌}
 use Rattle.std.proofs.lemmas.List.{take-append-drop}
 use Rattle.byteorder.specs.Endian.{big_bytes}
 use Rattle.frames.specs.Frames.{IsRead, shared_front}
@@ -22,17 +22,16 @@ returns t c =
     ∙ ap (λ (n : ℕ). big_bytes 1 shared ++ (big_bytes 2 n ++ drop 3 c.args.content.now)) (sym c.split_at-2.ensures.front_len)
     ∙ ap (λ (l : List ℕ). big_bytes 1 shared ++ (big_bytes 2 (length others) ++ l)) joined in
     let is : packet ≡ take shared last ++ others = c.in_ok-extend_from_slice.ensures.items ∙ ap (λ (l : List ℕ). l ++ others) c.truncate.ensures.items in
-    let pushed : c.push_back.new.self.items ≡ c.args.packets.now.items ++ (take shared last ++ others) ∷ [] =
-    c.in_ok-push_back.ensures.items
-    ∙ ap (λ (p : List ℕ). c.args.packets.now.items ++ p ∷ []) (c.in_ok-from_slice.ensures ∙ c.as_slice-2.ensures.value ∙ is) in
+    let pushed : c.push.new.self ≡ c.args.packets.now ++ (take shared last ++ others) ∷ [] =
+    c.in_ok-push.ensures.ok ∙ ap (λ (p : List ℕ). c.args.packets.now ++ p ∷ []) (c.as_slice-2.ensures.value ∙ is) in
     let last_is = c.as_slice.ensures.value in
     let good = c.if-not-shares_no_more.ensures in
     let within : shared ≤ length last = subst (λ (l : List ℕ). shared ≤ length l) last_is (good.within refl) in
     let most : shared_front last (take shared last ++ others) ≡ shared = subst (λ (l : List ℕ). shared_front l (take shared l ++ others) ≡ shared) last_is (good.most refl) in
-    on-good c.read_packets.result (IsRead packet c.push_back.new.self.items rest c.read_packets.new.packets.items)
-    (IsRead last c.args.packets.now.items c.args.content.now c.read_packets.new.packets.items)
+    on-good c.read_packets.result (IsRead packet c.push.new.self rest c.read_packets.new.packets)
+    (IsRead last c.args.packets.now c.args.content.now c.read_packets.new.packets)
     (λ read.
-    reads-more last c.args.packets.now.items c.push_back.new.self.items c.read_packets.new.packets.items shared others rest c.args.content.now c.in-Some.ensures.most.0 within
+    reads-more last c.args.packets.now c.push.new.self c.read_packets.new.packets shared others rest c.args.content.now c.in-Some.ensures.most.0 within
     (omega (arith, c.split_at-2.ensures.front_len, c.in-Some.ensures.most.1)) most pushed content
-    (subst (λ (l : List ℕ). IsRead l c.push_back.new.self.items rest c.read_packets.new.packets.items) is read))
+    (subst (λ (l : List ℕ). IsRead l c.push.new.self rest c.read_packets.new.packets) is read))
     c.read_packets.ensures

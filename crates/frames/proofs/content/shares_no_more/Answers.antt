@@ -1,4 +1,4 @@
-use Rattle.std.proofs.Common.{◌≡◌, ℕ, nat_eq, not, length, get_or, ap, arith, sym, ◌∙◌, rules}
+use Rattle.std.proofs.Common.{ℕ, nat_eq, not, get_or, ap, arith, sym, ◌∙◌}
 use Rattle.frames.proofs.Shared.{Differs, Ends, Full, Over, at-any, first-at, is-false, none-first, shared-is}
 use Rattle.frames.proofs.content.shares_no_more.Goals as goal
 

@@ -8,4 +8,4 @@ invariant_of-self g c =
 pub returns-clause-arrived : goal.returns-clause-arrived
 returns-clause-arrived g c =
     rw (← c.self.view_is)
-    (gives-came (g.N.Net.log c.self.inside.inner) c.self.inside.seal.key c.self.inside.opener c.give.result c.give.new.buffer c.give.new.self.opened.items c.give.ensures.gives c.self.invariant)
+    (gives-came (g.N.Net.log c.self.inside.inner) c.self.inside.seal.key c.self.inside.opener c.give.result c.give.new.buffer c.give.new.self.opened c.give.ensures.gives c.self.invariant)

@@ -8,12 +8,12 @@ use Rattle.frames.proofs.outlet.Outlet.flush.Goals as goal
 
 pub returns-clause-sends : goal.returns-clause-sends
 returns-clause-sends g c = λ long sent of.
-    let o : OutletModel = record { node = c.self.inside.node; frames = c.self.inside.frames; longs = c.self.inside.longs; waiting = c.self.inside.waiting.items } in
+    let o : OutletModel = record { node = c.self.inside.node; frames = c.self.inside.frames; longs = c.self.inside.longs; waiting = c.self.inside.waiting } in
     let is : o ≡ c.args.self.now = c.self.view_is in (
       flush-adds c.args.seal.now long sent o (g.N.Net.log c.args.net.now) (g.N.Net.log c.offer.new.net) c.in_ok-body.body.items
           (subst (λ (x : OutletModel). c.in_ok-body.body.items ≡ head_bytes (head_for Packets x c.args.seal.now) ++ packed x.waiting) (sym is) c.in_ok-body.ensures.items)
           c.self.invariant.0 (subst (λ (x : OutletModel). AreOf sent x.waiting) (sym is) of) c.offer.ensures.lists,
-      subst (AreOf sent) (sym (c.offer.ensures.waiting ∙ c.clear.ensures.items)) tt,
+      subst (AreOf sent) (sym (c.offer.ensures.waiting ∙ c.clear.ensures)) tt,
     )
 
 pub returns-clause-longs : goal.returns-clause-longs
