@@ -10,8 +10,8 @@ use Rattle.agreement.proofs.KeepBySteps
 use Rattle.world_step.specs.declared.node_state.NodeState.{NodeState}
 use Rattle.world_step.specs.Worlds.{WorldModel}
 use Rattle.settling.specs.declared.rounds.Round.{Round}
-use Rattle.settling.specs.Settles.{EndsSettling}
-use Rattle.settling.specs.LowProposals.{promised_past, furthest, beyond, beyond_all, raised_at, asked_at, asked_past, round_at, overtaking_at, Raises, RaisesShort, RaisesTwice, RaisesTwiceShort, RaisesIf, Overtakes, OvertakesShort}
+use Rattle.settling.specs.Settles.{Settles, SettlesShort, EndsSettling}
+use Rattle.settling.specs.LowProposals.{promised_past, furthest, beyond, beyond_all, raised_at, asked_at, asked_past, round_at, overtaking_at, Raises, RaisesShort, RaisesTwice, RaisesTwiceShort, RaisesIf, Overtakes, OvertakesAndSettles, OvertakesShort}
 use Rattle.settling.specs.LowProposals.RaisesTwiceShort.{InFirst, InSecond}
 use Rattle.settling.specs.LowProposals.OvertakesShort.{AtFirst, AtSecond, AtSettling}
 use Rattle.settling.proofs.RoundEnds
@@ -114,3 +114,23 @@ module _ {S : Type 0} (meaning : Meaning S) (laws : KeepBySteps.Laws meaning) (o
         AtFirst new (subst (λ (o : Option Address). IsSomeAnd o (λ q. RaisesShort meaning n q old new)) (sym s.asked) (subst (λ (q : Address). RaisesShort meaning n q old new) said.0 short))
     played-short _ (InSecond raised new one short) =
         AtSecond raised new (first-if raised one) (subst (λ (o : Option Address). IsSomeAnd o (λ q. RaisesShort meaning n q raised new)) (second-so raised one) short)
+
+-- ---- from what the code found
+
+module _ {S : Type 0} (meaning : Meaning S) (laws : KeepBySteps.Laws meaning) (old : WorldModel S) (n : ℕ) (v : View) (first : Address) (second : Option Address) (keeps : Keeps meaning laws old)
+    (found : Some v ≡ overtaking_at old.node_states n) (known : ForSome (round_at old.node_states n) (λ one. (first ≡ one.asked) × (second ≡ asked_past old.node_states one.raised))) where
+  there : {P : Type 0} → P → IsSomeAnd (overtaking_at old.node_states n) (λ u. P)
+  there {P} p = subst (λ (o : Option View). IsSomeAnd o (λ u. P)) found p
+
+  -- a round failed
+  pub rounds-stop : (new : WorldModel S) → RaisesTwiceShort meaning n first second old new → IsSomeAnd (overtaking_at old.node_states n) (λ u. OvertakesShort meaning n old new)
+  rounds-stop new x = there (played-short meaning laws old n v keeps (sym found) first second known new x)
+
+  module _ (raised new : WorldModel S) (rounds : RaisesTwice meaning n first second old raised) where
+    -- the settling did
+    pub settling-stops : SettlesShort meaning n raised new → IsSomeAnd (overtaking_at old.node_states n) (λ u. OvertakesShort meaning n old new)
+    settling-stops x = there (AtSettling raised new (played meaning laws old n v keeps (sym found) first second known raised rounds) x)
+
+    -- all are played
+    pub overtaken : Settles meaning n raised new → ForSome (overtaking_at old.node_states n) (λ u. OvertakesAndSettles meaning n old new)
+    overtaken x = λ u at. record { raised = raised; overtakes = played meaning laws old n v keeps (sym found) first second known raised rounds; settles = x }

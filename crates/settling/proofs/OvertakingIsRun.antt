@@ -1,5 +1,5 @@
 -- Rounds and the settling behind them are a run of events, of all of their steps or of the first few.
-use Rattle.std.proofs.Common.{◌≡◌, ℕ, Option, Some, None, length, sym, subst}
+use Rattle.std.proofs.Common.{◌≡◌, ℕ, Option, Some, None, length, refl, sym, subst}
 use Rattle.std.specs.Prelude.{MatchOption}
 use Rattle.std.specs.Option.{IsSomeAnd}
 use Rattle.address.specs.Ids.{Address}
@@ -9,7 +9,8 @@ use Rattle.world_step.specs.Pools.{first_for}
 use Rattle.world_step.specs.Worlds.{WorldModel, IsLonger}
 use Rattle.world_plays.specs.Plays.{Plays, Fails}
 use Rattle.world_plays.proofs.PlaysRun.{Ran, none-yet, stepped, failed, ran-longer}
-use Rattle.settling.specs.LowProposals.{asked_at, Raises, RaisesShort, RaisesIf, Overtakes, OvertakesAndSettles, OvertakesShort}
+use Rattle.settling.specs.LowProposals.{asked_at, Raises, RaisesShort, RaisesTwice, RaisesTwiceShort, Overtakes, OvertakesAndSettles, OvertakesShort}
+use Rattle.settling.specs.LowProposals.RaisesTwiceShort.{InSecond}
 use Rattle.settling.specs.LowProposals.RaisesShort.{AtTick, AtFlush, AtBehind}
 use Rattle.settling.specs.LowProposals.OvertakesShort.{AtFirst, AtSecond, AtSettling}
 use Rattle.settling.proofs.SettlingIsRun
@@ -60,3 +61,30 @@ module _ {S : Type 0} (meaning : Meaning S) (n : ℕ) (old : WorldModel S) where
       ran-longer meaning old new (short-if-ran meaning old n (asked_at raised.node_states n) raised new (if-ran meaning old n (asked_at old.node_states n) old raised (none-yet meaning old) first) short)
   short-longer _ (AtSettling raised new rounds short) =
       ran-longer meaning old new (SettlingIsRun.short-ran meaning old n raised new (rounds-ran meaning old n old raised (none-yet meaning old) rounds) short)
+
+-- ---- from what the code did
+
+module _ {S : Type 0} (meaning : Meaning S) (n : ℕ) (q : Address) (old announced : WorldModel S) (ticks : Plays meaning old (Tick n) announced) (number : Option ℕ)
+    (is : number ≡ first_for q (length old.history.pool) announced.history.pool) where
+  pub at-flush : (new : WorldModel S) → IsSomeAnd number (λ k. Fails meaning announced (Deliver k) new) → RaisesShort meaning n q old new
+  at-flush new fails = AtFlush announced new ticks (subst (λ (o : Option ℕ). IsSomeAnd o (λ k. Fails meaning announced (Deliver k) new)) is fails)
+
+  module _ (answered : WorldModel S) (hands : MatchOption number (answered ≡ announced) (λ k. Plays meaning announced (Deliver k) answered)) (last : ℕ) (so : last ≡ length answered.history.pool) where
+    flush : MatchOption (first_for q (length old.history.pool) announced.history.pool) (answered ≡ announced) (λ k. Plays meaning announced (Deliver k) answered)
+    flush = subst (λ (o : Option ℕ). MatchOption o (answered ≡ announced) (λ k. Plays meaning announced (Deliver k) answered)) is hands
+
+    pub at-behind : (new : WorldModel S) → Fails meaning answered (Deliver last) new → RaisesShort meaning n q old new
+    at-behind new fails = AtBehind announced answered new ticks flush (subst (λ (k : ℕ). Fails meaning answered (Deliver k) new) so fails)
+
+    pub all-of-it : (new : WorldModel S) → Plays meaning answered (Deliver last) new → Raises meaning n q old new
+    all-of-it new plays = record { announced = announced; answered = answered; ticks = ticks; flush = flush; behind = subst (λ (k : ℕ). Plays meaning answered (Deliver k) new) so plays }
+
+module _ {S : Type 0} (meaning : Meaning S) (n : ℕ) (first : Address) (second : Option Address) (old raised : WorldModel S) (one : Raises meaning n first old raised) where
+  pub alone : second ≡ None → RaisesTwice meaning n first second old raised
+  alone none = record { raised = raised; one = one; other = subst (λ (o : Option Address). MatchOption o (raised ≡ raised) (λ q. Raises meaning n q raised raised)) (sym none) refl }
+
+  pub once-more : (new : WorldModel S) (q : Address) → second ≡ Some q → Raises meaning n q raised new → RaisesTwice meaning n first second old new
+  once-more new q some x = record { raised = raised; one = one; other = subst (λ (o : Option Address). MatchOption o (new ≡ raised) (λ p. Raises meaning n p raised new)) (sym some) x }
+
+  pub once-short : (new : WorldModel S) (q : Address) → second ≡ Some q → RaisesShort meaning n q raised new → RaisesTwiceShort meaning n first second old new
+  once-short new q some x = InSecond raised new one (subst (λ (o : Option Address). IsSomeAnd o (λ p. RaisesShort meaning n p raised new)) (sym some) x)

@@ -10,4 +10,4 @@ mod rounds;
 pub use followers::{begun, is_settling};
 pub use installs::{awaited, awaits_install};
 pub use law::{lone_views_meet, low_proposals_rise, views_complete, views_settle};
-pub use rounds::{Round, Rounds, overtaking, round};
+pub use rounds::{Round, Rounds, overtaking, round_at};

@@ -165,7 +165,7 @@ fn round_of<R: Receiver>(
 /// The round of the own flush of the member at a node: it asks, of its candidates who have not reported, the one that has promised furthest past the flush's
 /// proposal, and raises the proposal past that. `None` where there is nobody to ask, and where the counters are used up. An error for want of memory changes
 /// nothing.
-pub fn round<R: Receiver>(
+pub fn round_at<R: Receiver>(
     node_states: &BTreeMap<Node, NodeState<R>>,
     node: Node,
 ) -> Result<Option<Round>, AllocError>
@@ -243,7 +243,7 @@ pub fn overtaking<R: Receiver>(
     ensures view { IfOk result (λ x. option_map (λ r. r.view) x ≡ overtaking_at (node_states_in (get nat_cmp node_states.now)) node) }
     ensures asks { IfOk result (λ x. ForSome x (λ r. ForSome (round_at (node_states_in (get nat_cmp node_states.now)) node) (λ one. (r.first ≡ one.asked) × (r.second ≡ asked_past (node_states_in (get nat_cmp node_states.now)) one.raised)))) }
 {
-    match round(node_states, node)? {
+    match round_at(node_states, node)? {
         None => Ok(None),
         Some(round) => Ok(rounds_after(node_states, &round)),
     }
