@@ -411,7 +411,7 @@ module _ {S : Type 0} (meaning : Meaning S) where
   flushing-comes (suc k) m l here x few room =
       let o = awaited m l x.flush here x.flushes in
       let fewer = suspecting-fewer o.who l.notes (candidate-noted m.address l x o) in
-      Suspects k m o.who
+      Suspects k m l o.who here.runs (listed-suspectable m l x.view x.flush o here x.current x.flushes)
       (after-due k m l x.view o.who here x.current (listed-suspectable m l x.view x.flush o here x.current x.flushes) o.apart
       (others-more m.address o.who x.view.members l.notes.suspects x.others)
       (broken-due m.address o.who l x.view x.flush x.flushes (here.kept.flushing x.flush x.flushes).waiting o.stands)
@@ -452,7 +452,7 @@ module _ {S : Type 0} (meaning : Meaning S) where
           → is_due (core_at m.address (record l { notes = suspecting q l.notes })) (suspecting q l.notes) v ≡ true → ComesAlone meaning (suc k) m
       suspects q apart there due =
           let s = suspecting-noted q l.notes in
-          Suspects k m q
+          Suspects k m l q here.runs (suspectable m.address q l v view apart there)
           (after-due k m l v q here view (suspectable m.address q l v view apart there) apart (others-more m.address q v.members l.notes.suspects all) due (omega (arith, s, few)) room (flushing-comes k))
 
       in-view : (q : Address) → stands_in q v.members ≡ true → has_member q l ≡ true
@@ -507,7 +507,7 @@ module _ {S : Type 0} (meaning : Meaning S) where
 
   more-comes : (k : ℕ) (m : MemberModel S) → ComesAlone meaning k m → ComesAlone meaning (suc k) m
   more-comes _ _ (Stands count m s) = Stands (suc count) m s
-  more-comes _ _ (Suspects count m q next) = Suspects (suc count) m q (λ out new h. more-comes count new (next out new h))
+  more-comes _ _ (Suspects count m l q runs may next) = Suspects (suc count) m l q runs may (λ out new h. more-comes count new (next out new h))
 
   pub members-come : (left : List Address) (k : ℕ) (m : MemberModel S) (l : MemberState S) (v : View) → Here m l → Sound l → view_in l.view_state ≡ Some v
       → Left m.address v.members l.notes.suspects left → ((q : Address) → stands_in q left ≡ true → stands_in q v.members ≡ true) → noted l.notes ≤ k
@@ -534,7 +534,7 @@ module _ {S : Type 0} (meaning : Meaning S) where
           (λ q there. within q (or_right (same_address q x) (stands_in q left) there)) few (omega (arith, room))))
       by false apart later =
           subst (λ n. ComesAlone meaning n m) (omega arith)
-          (Suspects total m x (λ out new h. next new (suspected m l x here (suspectable m.address x l v view apart (inl there)) out new h)))
+          (Suspects total m l x here.runs (suspectable m.address x l v view apart (inl there)) (λ out new h. next new (suspected m l x here (suspectable m.address x l v view apart (inl there)) out new h)))
         where
           there : has_member x l ≡ true
           there = ap (λ (o : Option View). option_map_or (λ w. stands_in x w.members) o false) view ∙ within x (or_left (same_address x x) (stands_in x left) (same_address-refl x))

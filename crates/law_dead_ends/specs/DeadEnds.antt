@@ -11,6 +11,7 @@ use Rattle.step_output.specs.declared.output.Output.{Output}
 use Rattle.membership.specs.declared.member_state.MemberState.{MemberState}
 use Rattle.membership.specs.MemberStates.{view_in}
 use Rattle.member.specs.declared.input.Input.TheVariants.{Suspect}
+use Rattle.member_views.specs.Views.{is_suspectable}
 use Rattle.member.specs.Members.{MemberModel}
 use Rattle.member.specs.Handling.{Handled}
 use Rattle.deployment.specs.Deployments.{Deployment, IsPlayed}
@@ -24,10 +25,11 @@ pub record StandsAlone {S : Type 0} (m : MemberModel S) : Type 0 where
   pub alone : others_of m.address view.members ≡ []
   pub unblocked : state.promise.is_installed ≡ true
 
--- by at most so many suspicions, each chosen as it then stands, it comes to stand alone, whatever a call makes of it that takes one
+-- by at most so many suspicions it comes to stand alone, whatever a call makes of it that takes one; each is of another, in its view or in the list that it promised, and is
+-- chosen as the member then stands
 pub data ComesAlone {S : Type 0} (meaning : Meaning S) : ℕ → MemberModel S → Type 0 where
   Stands : (count : ℕ) (m : MemberModel S) → StandsAlone m → ComesAlone meaning count m
-  Suspects : (count : ℕ) (m : MemberModel S) (q : Address) → ((out : Output) (new : MemberModel S) → Handled meaning m (Suspect q) (Ok out) new → ComesAlone meaning count new)
+  Suspects : (count : ℕ) (m : MemberModel S) (l : MemberState S) (q : Address) → m.member_state ≡ Some l → is_suspectable m.address q l ≡ true → ((out : Output) (new : MemberModel S) → Handled meaning m (Suspect q) (Ok out) new → ComesAlone meaning count new)
       → ComesAlone meaning (suc count) m
 
 -- how many are enough: one for each member of its view, one for each address that it noted for its next view, and one more

@@ -78,7 +78,9 @@ fn is_on_a_lane(lanes: &[Lane], node: Node) -> bool
 
 impl<N: Net> SievedNet<N> {
     /// A net over another one, for the group and the nodes of the settings.
-    pub fn new(alloc: Global, inner: N, settings: &Settings) -> Result<SievedNet<N>, AllocError> {
+    pub fn new(alloc: Global, inner: N, settings: &Settings) -> Result<SievedNet<N>, AllocError>
+        ensures { IfOk result (λ net. net.inner ≡ inner) }
+    {
         Ok(SievedNet {
             inner,
             lanes: lanes_to(alloc, settings.nodes(), &Hosts::local(alloc))?,

@@ -113,7 +113,10 @@ impl SocketNet {
         settings: &Settings,
         hosts: &Hosts,
         node: Node,
-    ) -> Result<SocketNet, BindError> {
+    ) -> Result<SocketNet, BindError>
+        ensures listed { IfOk result (λ net. net.is_open ≡ false) }
+        ensures sieved { IfOk result (λ net. net.is_bare ≡ false) }
+    {
         let port = settings.port(node).ok_or(BindError::Config)?;
         let lanes = lanes_to(alloc, settings.nodes(), hosts)?;
         let gate = Gate::new(alloc, settings)?;
@@ -138,7 +141,10 @@ impl SocketNet {
         alloc: Global,
         network: &R,
         other: RawFd,
-    ) -> std::io::Result<()> {
+    ) -> std::io::Result<()>
+        ensures open { self.new.is_open ≡ self.old.is_open }
+        ensures bare { self.new.is_bare ≡ self.old.is_bare }
+    {
         self.waiter = Some(Waiter::new(alloc, network, self.socket.descriptor(), other)?);
         Ok(())
     }
@@ -146,16 +152,14 @@ impl SocketNet {
     /// From now on the datagrams of a node that the settings list are taken wherever they come from, as where addresses are translated on the way
     /// (docs/PROTOCOL.md, "What a net drops").
     pub fn hear_from_anywhere(&mut self)
-        ensures failed { self.new.failures ≡ self.old.failures }
-        ensures unsent { self.new.socket.unsent ≡ self.old.socket.unsent }
+        ensures { self.new ≡ record self.old { is_open = true } }
     {
         self.is_open = true;
     }
 
     /// From now on it gives each datagram as it came that comes from where some node is reached, whatever it is, and holds nothing back: a net above it does that, as one over frames.
     pub fn give_all(&mut self)
-        ensures failed { self.new.failures ≡ self.old.failures }
-        ensures unsent { self.new.socket.unsent ≡ self.old.socket.unsent }
+        ensures { self.new ≡ record self.old { is_bare = true } }
     {
         self.is_bare = true;
     }

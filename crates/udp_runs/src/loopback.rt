@@ -1,7 +1,7 @@
 ghost use Rattle.std.specs.Prelude.{◌≡◌, [], Some, None, IfOk};
 ghost use Rattle.std.specs.Option.{ForSome};
 ghost use Rattle.std.specs.Result.{result_err};
-ghost use Rattle.udp_runs.specs.Loopbacks.{nothing_asked, unbound_after};
+ghost use Rattle.udp_runs.specs.Loopbacks.{nothing_asked, unbound_after, IsSealedOver, IsMadeBy};
 
 use crate::{Machine, Tally};
 use address::{Address, Node};
@@ -38,7 +38,9 @@ impl<'a, R> Model for Loopback<'a, R> {
 
     ghost Value = { LoopbackModel };
 
-    ghost view = { λ l. record { is_unbound = l.is_unbound; told = l.tally } };
+    ghost use Rattle.std.specs.Option.{option_copied};
+
+    ghost view = { λ l. record { is_unbound = l.is_unbound; told = l.tally; is_open = l.is_open; key = option_copied l.key; other = l.other } };
 }
 
 impl<'a, R> Loopback<'a, R> {
@@ -66,21 +68,21 @@ impl<'a, R> Loopback<'a, R> {
 
     /// From now on the nets that it makes take a node's datagrams wherever they come from, as where addresses are translated on the way.
     pub fn hear_from_anywhere(&mut self)
-        ensures { self.new ≡ self.old }
+        ensures { self.new ≡ record self.old { is_open = true } }
     {
         self.is_open = true;
     }
 
     /// From now on the nets that it makes seal their datagrams with a key of the group, of any length, and take none that is not sealed with it.
     pub fn seal_with(&mut self, key: &'a [u8])
-        ensures { self.new ≡ self.old }
+        ensures { self.new ≡ record self.old { key = Some key.now } }
     {
         self.key = Some(key);
     }
 
     /// From now on the waits of the nets that it makes end too when this descriptor is readable.
     pub fn also_wait_for(&mut self, other: RawFd)
-        ensures { self.new ≡ self.old }
+        ensures { self.new ≡ record self.old { other = Some other } }
     {
         self.other = Some(other);
     }
@@ -108,7 +110,9 @@ fn sealed<R: RandomSource>(
     node: Node,
     socket: SocketNet,
     key: &[u8],
-) -> Result<SievedNet<FramedNet<SocketNet>>, BindError> {
+) -> Result<SievedNet<FramedNet<SocketNet>>, BindError>
+    ensures { IfOk result (IsSealedOver socket.is_open key.now) }
+{
     let mut boot = [0; BOOT];
     if runtime.fill_bytes(&mut boot).is_err() {
         return Err(BindError::Bind);
@@ -121,7 +125,9 @@ fn sealed<R: RandomSource>(
 
 impl<'a, R: std::net::Net + RandomSource> Loopback<'a, R> {
     // The net of a node, over a socket of its own.
-    fn bind(&self, node: Node) -> Result<NodeNet, BindError> {
+    fn bind(&self, node: Node) -> Result<NodeNet, BindError>
+        ensures { IfOk result (IsMadeBy self.now) }
+    {
         let mut socket = SocketNet::bind(
             self.alloc,
             self.runtime,
@@ -150,6 +156,7 @@ impl<'a, R: std::net::Net + RandomSource + Clock> Machine for Loopback<'a, R> {
 
     fn net(&mut self, node: Node) -> Result<NodeNet, BindError>
         ensures fresh { IfOk result (λ net. ForSome (⟦<NodeNet as Net>⟧.log net) (λ l. l ≡ [])) }
+        ensures made { IfOk result (IsMadeBy self.old) }
         ensures after { self.new ≡ record self.old { is_unbound = unbound_after self.old.is_unbound (result_err result) } }
     {
         match self.bind(node) {
