@@ -1,6 +1,6 @@
 //! The rounds that raise a proposal that is too low: whom each asks, and the view that can complete after them.
 
-ghost use Rattle.std.specs.Prelude.{◌≡◌, ◌×◌, Some, nat_lt, IfOk, if◌then◌else◌};
+ghost use Rattle.std.specs.Prelude.{◌≡◌, Some, None, false, nat_lt, IfOk, if◌then◌else◌};
 ghost use Rattle.std.specs.Option.{ForSome, option_map, option_map_or, option_and_then};
 ghost use Rattle.std.specs.Ordering.{nat_cmp};
 ghost use Rattle.std.specs.BTreeMap.{get};
