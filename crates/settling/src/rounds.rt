@@ -193,22 +193,22 @@ fn beyond(counter: u64, proposal: &Roster) -> Option<Roster>
 }
 
 /// The same past the promise of the one that has promised furthest.
-fn beyond_furthest(furthest: Option<(Address, u64)>, proposal: &Roster) -> Option<Roster>
-    ensures { result ≡ option_map_or (λ x. beyond x.1 proposal.now) furthest (Some proposal.now) }
+fn beyond_furthest(furthest: &Option<(Address, u64)>, proposal: &Roster) -> Option<Roster>
+    ensures { result ≡ option_map_or (λ x. beyond x.1 proposal.now) furthest.now (Some proposal.now) }
 {
     match furthest {
         None => Some(proposal.copied()),
-        Some((_, counter)) => beyond(counter, proposal),
+        Some((_, counter)) => beyond(*counter, proposal),
     }
 }
 
 /// The address of this.
-fn address_of(furthest: Option<(Address, u64)>) -> Option<Address>
-    ensures { result ≡ option_map (λ x. x.0) furthest }
+fn address_of(furthest: &Option<(Address, u64)>) -> Option<Address>
+    ensures { result ≡ option_map (λ x. x.0) furthest.now }
 {
     match furthest {
         None => None,
-        Some((address, _)) => Some(address),
+        Some((address, _)) => Some(*address),
     }
 }
 
@@ -221,11 +221,11 @@ fn rounds_after<R: Receiver>(
     ensures asks { ForSome result (λ x. (x.first ≡ round.now.asked) × (x.second ≡ asked_past (node_states_in (get nat_cmp node_states.now)) round.now.raised)) }
 {
     let furthest = furthest(node_states, &round.raised);
-    let view = beyond_furthest(furthest, &round.raised)?;
+    let view = beyond_furthest(&furthest, &round.raised)?;
     if all_follow(node_states, &view) {
         Some(Rounds {
             first: round.asked,
-            second: address_of(furthest),
+            second: address_of(&furthest),
             view,
         })
     } else {
