@@ -18,7 +18,7 @@ use Rattle.member.specs.Members.{MemberModel}
 use Rattle.world_step.specs.declared.node_state.NodeState.{NodeState}
 use Rattle.world_step.specs.declared.node_state.NodeState.TheVariants.{Running}
 use Rattle.settling.specs.declared.rounds.Round.{Round}
-use Rattle.settling.specs.LowProposals.{promised_past, anew_with, raised, raised_in, furthest, asked_of, asked_in, round_in}
+use Rattle.settling.specs.LowProposals.{promised_past, anew_with, raised, raised_in, furthest, asked_of, asked_in, asked_at, raised_at, round_in, round_at, beyond_all, followed_by_all, overtaking_at}
 use Rattle.settling.proofs.RoundRaises.{when-there}
 use Rattle.settling.proofs.TwoRounds.{furthest-is}
 
@@ -195,3 +195,22 @@ module _ {S : Type 0} (at : ℕ → NodeState S) (m : MemberModel S) where
       pub somebody : (q : Address) (k : ℕ) → furthest (told_of p) u.members ≡ Some (q, k) → (o : Option View) → anew k ≡ o → round_in at (Running m) ≡ option_map (round q) o
       somebody q k top o e =
           whole ∙ ap (option_and_then (λ (y : Address × ℕ). option_map (round y.0) (anew_past m.address x.member_state y.1))) top ∙ ap (option_map (round q)) (sym (anew-is k) ∙ e)
+
+-- what a round raises the proposal to
+pub raised-by : {S : Type 0} (at : ℕ → NodeState S) (n : ℕ) → option_map (λ (r : Round). r.raised) (round_at at n) ≡ option_and_then (raised_at at n) (asked_at at n)
+raised-by at n = by (asked_at at n)
+  where
+    at-raised : (q : Address) (o : Option View) → option_map (λ (r : Round). r.raised) (option_map (round q) o) ≡ o
+    at-raised q None = refl
+    at-raised q (Some w) = refl
+
+    by : (o : Option Address) → option_map (λ (r : Round). r.raised) (option_and_then (λ q. option_map (round q) (raised_at at n q)) o) ≡ option_and_then (raised_at at n) o
+    by None = refl
+    by (Some q) = at-raised q (raised_at at n q)
+
+-- the view after two rounds, and whom they ask, as the code finds them
+pub view-by : {S : Type 0} (at : ℕ → NodeState S) (n : ℕ) (r : Round) (o : Option View) → Some r ≡ round_at at n → o ≡ option_and_then (followed_by_all at) (beyond_all at r.raised) → o ≡ overtaking_at at n
+view-by at n r o found is = is ∙ ap (λ (x : Option View). option_and_then (followed_by_all at) (option_and_then (beyond_all at) x)) (ap (option_map (λ (d : Round). d.raised)) found ∙ raised-by at n)
+
+pub none-by : {S : Type 0} (at : ℕ → NodeState S) (n : ℕ) → None ≡ round_at at n → None ≡ overtaking_at at n
+none-by at n found = ap (λ (x : Option View). option_and_then (followed_by_all at) (option_and_then (beyond_all at) x)) (ap (option_map (λ (d : Round). d.raised)) found ∙ raised-by at n)

@@ -153,12 +153,15 @@ fn round_of<R: Receiver>(
         return Ok(None);
     };
     let list = candidates.members().as_slice();
-    let Some((asked, counter)) = furthest_awaited(node_states, member, &proposal, list) else {
+    let Some(most) = furthest_awaited(node_states, member, &proposal, list) else {
         return Ok(None);
     };
-    match member.anew_past(counter)? {
+    match member.anew_past(most.1)? {
         None => Ok(None),
-        Some(raised) => Ok(Some(Round { asked, raised })),
+        Some(raised) => Ok(Some(Round {
+            asked: most.0,
+            raised,
+        })),
     }
 }
 
