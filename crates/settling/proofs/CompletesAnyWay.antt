@@ -107,7 +107,7 @@ module _ {S : Type 0} (meaning : Meaning S) where
         (λ e z. FactOfSettled.settled meaning laws old new n v keeps e z) (λ none e z. FactOfBrought.settled meaning laws old new n v keeps e z))
         (λ none e y. TwoRounds.overtakes-settle meaning laws old y.raised new n v keeps e y.overtakes y.settles)
 
-    few : ℕ → Type 0
+    abbrev few : ℕ → Type 0
     few most = length new.history.events ≤ length old.history.events + most
 
     pub brief : Completes meaning n v old new → length new.history.events ≤ length old.history.events + most_events old.node_states n

@@ -1,6 +1,6 @@
 -- Two rounds and a settling that end in an error: one of the list has crashed for want of memory, or a step was not begun, and all of the list run. And the
 -- rounds that are known before are these.
-use Rattle.std.proofs.Common.{◌≡◌, ℕ, Option, Some, None, refl, sym, ap, ◌∙◌, subst}
+use Rattle.std.proofs.Common.{◌≡◌, ℕ, true, Option, Some, None, refl, sym, ap, ◌∙◌, subst}
 use Rattle.std.specs.Prelude.{MatchOption}
 use Rattle.std.specs.Option.{ForSome, IsSomeAnd, option_map, option_map_or, option_and_then}
 use Rattle.address.specs.Ids.{Address}
