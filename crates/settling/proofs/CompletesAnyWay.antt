@@ -10,7 +10,7 @@ use Rattle.world_step.specs.Worlds.{WorldModel, IsLonger}
 use Rattle.settling.specs.Settles.{settling_at, Settles, SettlesShort, IsSettled, EndsSettling}
 use Rattle.settling.specs.LostInstalls.{awaited_at, BringsAll, BringsShort}
 use Rattle.settling.specs.LowProposals.{overtaking_at, OvertakesAndSettles, OvertakesShort}
-use Rattle.settling.specs.Completing.{ready_at, completing_at, most_events, CompletesReady, Completes, ReadyShort, CompletesShort, IsUntried}
+use Rattle.settling.specs.Completing.{ready_at, completing_at, most_events, Completes, CompletesShort, IsUntried}
 use Rattle.settling.proofs.BringingEnds
 use Rattle.settling.proofs.BringingIsRun
 use Rattle.settling.proofs.BroughtBriefly

@@ -1,5 +1,5 @@
 -- What the code looks for is a round: it asks the candidates that the member's next proposal is for, and raises the proposal past the promise of one of them.
-use Rattle.std.proofs.Common.{◌≡◌, ◌≤◌, ◌+◌, ℕ, max, Bool, true, false, cond, Option, Some, None, List, is_some, nat_lt, refl, sym, ap, ◌∙◌, subst, arith}
+use Rattle.std.proofs.Common.{◌≡◌, ◌+◌, ℕ, max, Bool, true, false, Option, Some, None, List, is_some, nat_lt, refl, sym, ap, ◌∙◌, arith}
 use Rattle.std.specs.Prelude.{if◌then◌else◌}
 use Rattle.std.specs.Option.{option_map, option_map_or, option_and_then}
 use Rattle.std.proofs.lemmas.Bool.{cond-true}
@@ -18,7 +18,7 @@ use Rattle.member.specs.Members.{MemberModel}
 use Rattle.world_step.specs.declared.node_state.NodeState.{NodeState}
 use Rattle.world_step.specs.declared.node_state.NodeState.TheVariants.{Running}
 use Rattle.settling.specs.declared.rounds.Round.{Round}
-use Rattle.settling.specs.LowProposals.{promised_past, anew_with, raised, raised_in, furthest, asked_of, asked_in, asked_at, raised_at, round_in, round_at, beyond_all, followed_by_all, overtaking_at}
+use Rattle.settling.specs.LowProposals.{promised_past, anew_with, raised, furthest, asked_of, asked_at, raised_at, round_in, round_at, beyond_all, followed_by_all, overtaking_at}
 use Rattle.settling.proofs.RoundRaises.{when-there}
 use Rattle.settling.proofs.TwoRounds.{furthest-is}
 

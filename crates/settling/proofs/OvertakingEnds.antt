@@ -9,7 +9,6 @@ use Rattle.state_transfer.specs.Meanings.{Meaning}
 use Rattle.agreement.proofs.KeepBySteps
 use Rattle.world_step.specs.declared.node_state.NodeState.{NodeState}
 use Rattle.world_step.specs.Worlds.{WorldModel}
-use Rattle.settling.specs.declared.rounds.Round.{Round}
 use Rattle.settling.specs.Settles.{Settles, SettlesShort, EndsSettling}
 use Rattle.settling.specs.LowProposals.{promised_past, furthest, beyond, beyond_all, raised_at, asked_at, asked_past, round_at, overtaking_at, Raises, RaisesShort, RaisesTwice, RaisesTwiceShort, RaisesIf, Overtakes, OvertakesAndSettles, OvertakesShort}
 use Rattle.settling.specs.LowProposals.RaisesTwiceShort.{InFirst, InSecond}

@@ -1,5 +1,5 @@
 -- A round that ends in an error: the creator or the one that was asked has crashed for want of memory, or a step was not begun, and all who stood stand still.
-use Rattle.std.proofs.Common.{◌≡◌, ℕ, Bool, true, false, Option, List, length, nat_eq, inl, inr, sym, ap, ◌∙◌, subst}
+use Rattle.std.proofs.Common.{◌≡◌, ℕ, true, false, Option, length, nat_eq, inl, inr, sym, ap, ◌∙◌, subst}
 use Rattle.std.specs.Prelude.{MatchOption}
 use Rattle.std.specs.List.{list_all}
 use Rattle.std.specs.Option.{IsSomeAnd}

@@ -1,10 +1,9 @@
-use Rattle.std.proofs.Common.{◌≡◌, sym, ap, ◌∙◌, subst}
+use Rattle.std.proofs.Common.{◌≡◌, sym, ◌∙◌, subst}
 use Rattle.std.proofs.lemmas.Option.{same_Some}
 use Rattle.std.specs.Ordering.{nat_cmp}
 use Rattle.std.specs.BTreeMap.{get}
 use Rattle.world_step.specs.NodeStates.{node_states_in}
 use Rattle.settling.specs.declared.rounds.Round.{Round}
-use Rattle.settling.specs.declared.rounds.Rounds.{Rounds}
 use Rattle.settling.specs.LowProposals.{asked_past}
 use Rattle.settling.proofs.FactOfRounds.{view-by, none-by}
 use Rattle.settling.proofs.rounds.overtaking.Goals as goal
