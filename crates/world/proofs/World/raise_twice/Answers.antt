@@ -17,13 +17,13 @@ returns-in-None-clause-ok g c =
 -- the second fails
 pub returns-in-Some-clause-err : goal.returns-in-Some-clause-err
 returns-in-Some-clause-err g c =
-    on-err-map c.raise-2.result _ _
-    (once-short g.R.Receiver.meaning c.args.node c.args.rounds.now.first c.args.rounds.now.second (shown c.args.self.now) (shown c.raise.new.self) c.in_ok-raise.ensures.ok (shown c.raise-2.new.self) c.in-Some.asked c.in-Some.is)
-    c.raise-2.ensures.err
+    on-err-map c.raise-in-Some.result _ _
+    (once-short g.R.Receiver.meaning c.args.node c.args.rounds.now.first c.args.rounds.now.second (shown c.args.self.now) (shown c.raise.new.self) c.in_ok-raise.ensures.ok (shown c.raise-in-Some.new.self) c.in-Some.asked c.in-Some.is)
+    c.raise-in-Some.ensures.err
 
 -- both are played
 pub returns-in-Some-clause-ok : goal.returns-in-Some-clause-ok
 returns-in-Some-clause-ok g c =
-    on-ok-map c.raise-2.result _ _
-    (once-more g.R.Receiver.meaning c.args.node c.args.rounds.now.first c.args.rounds.now.second (shown c.args.self.now) (shown c.raise.new.self) c.in_ok-raise.ensures.ok (shown c.raise-2.new.self) c.in-Some.asked c.in-Some.is)
-    c.raise-2.ensures.ok
+    on-ok-map c.raise-in-Some.result _ _
+    (once-more g.R.Receiver.meaning c.args.node c.args.rounds.now.first c.args.rounds.now.second (shown c.args.self.now) (shown c.raise.new.self) c.in_ok-raise.ensures.ok (shown c.raise-in-Some.new.self) c.in-Some.asked c.in-Some.is)
+    c.raise-in-Some.ensures.ok
