@@ -1,7 +1,5 @@
--- A run of events after which the changes of view complete that can, node by node; and what is printed of it.
-use Rattle.std.proofs.Common.{◌≡◌, ℕ, ◌+◌, ◌≤◌, suc, Bool, true, false, List, ◌++◌, length, take, drop, Option, Some, None, Result, Ok, Err, OnOk, is_ok, refl, sym, ap, ◌∙◌, subst, arith, take_all}
-use Rattle.std.specs.Prelude.{IfOk, MatchOption, is_some}
-use Rattle.std.specs.Option.{ForSome}
+-- A run of events after which the changes of view complete that can; and what is printed of it.
+use Rattle.std.proofs.Common.{◌≡◌, ℕ, Bool, true, false, List, ◌++◌, length, take, drop, Option, Some, None, Result, Ok, Err, OnOk, is_ok, sym, ap, ◌∙◌, subst}
 use Rattle.std.proofs.lemmas.List.{take-append-drop}
 use Rattle.state_transfer.specs.Meanings.{Meaning}
 use Rattle.trace_props.specs.Places.{IsBeginningOf}
@@ -9,8 +7,6 @@ use Rattle.trace_props.proofs.FactOfPlaces.{IsBeginningOf-same, IsBeginningOf-gr
 use Rattle.world_model.specs.declared.WorldEvent.{WorldEvent}
 use Rattle.world_model.specs.Histories.{History}
 use Rattle.world_step.specs.Worlds.{WorldModel, no_world, IsLonger, Runs as WorldRuns}
-use Rattle.settling.specs.Settles.{IsSettled}
-use Rattle.settling.specs.LostInstalls.{completing_at, Completes}
 use Rattle.script_reader.specs.declared.script.Script.{Script}
 use Rattle.vsync_text.specs.Runs.{lines_of_run}
 use Rattle.limits.specs.declared.TheConstants.{GREATEST_NODE}
@@ -18,8 +14,7 @@ use Rattle.endings.specs.declared.status.Status.{Status}
 use Rattle.endings.specs.declared.status.Status.TheVariants.{Memory}
 use Rattle.endings.specs.Outcomes.{Ends, IsLinesText, Written, memory_line}
 use Rattle.endings.specs.Outcomes.IsLinesText.{Printed, Unprinted}
-use Rattle.commands.specs.Settled.{KeepsRules, SettlesAt, SettlesTo, RunsAndSettles, RunsInPart, padded, IsSettledText}
-use Rattle.commands.specs.Settled.SettlesTo.{Nowhere, More}
+use Rattle.commands.specs.Settled.{KeepsRules, RunsAndSettles, RunsInPart, padded, IsSettledText}
 use Rattle.commands.specs.Settled.IsSettledText.{All, Part}
 use Rattle.endings.proofs.FactOfTexts.{written-as}
 
@@ -41,16 +36,6 @@ pub longer-same : (a : History) → IsLonger a a
 longer-same a = record { events = IsBeginningOf-same a.events; replies = IsBeginningOf-same a.replies; pool = IsBeginningOf-same a.pool; trace = IsBeginningOf-same a.trace }
 
 module _ {S : Type 0} (meaning : Meaning S) where
-  -- ---- at one node
-
-  pub settled-by : (b : Bool) (old new : WorldModel S) (node n : ℕ) → node ≡ n → b ≡ is_some (completing_at old.node_states node) → (b ≡ false → new ≡ old)
-      → ForSome (completing_at old.node_states node) (λ v. Completes meaning node v old new) → ForSome (completing_at old.node_states node) (λ v. IsSettled v new.history.trace) → SettlesAt meaning n old new
-  settled-by b old new node n is answer nothing plays settled = subst (λ (k : ℕ). SettlesAt meaning k old new) is (by (completing_at old.node_states node) refl)
-    where
-      by : (o : Option _) → completing_at old.node_states node ≡ o → MatchOption o (new ≡ old) (λ v. Completes meaning node v old new × IsSettled v new.history.trace)
-      by None e = nothing (answer ∙ ap is_some e)
-      by (Some v) e = (plays v e, settled v e)
-
   -- ---- a script's run
 
   -- what is printed of it, all of it or a beginning, is a text of it

@@ -1,5 +1,5 @@
 -- What a script's run comes to in which the changes of view complete that can, and what is printed of it.
-use Rattle.std.specs.Prelude.{◌≡◌, ℕ, ◌+◌, ◌-◌, zero, suc, List, ◌++◌, length, take, replicate, Option, MatchOption}
+use Rattle.std.specs.Prelude.{ℕ, ◌+◌, ◌-◌, zero, suc, List, ◌++◌, length, take, replicate, Option}
 use Rattle.std.specs.List.{concat}
 use Rattle.state_transfer.specs.Meanings.{Meaning}
 use Rattle.trace_props.specs.Places.{EachPlace}
@@ -8,8 +8,7 @@ use Rattle.replicas.specs.Replicas.{ReplicasAgree}
 use Rattle.world_model.specs.Faithful.{IsFaithful}
 use Rattle.world_model.specs.declared.WorldEvent.{WorldEvent}
 use Rattle.world_step.specs.Worlds.{WorldModel, no_world, IsLonger, Runs as WorldRuns}
-use Rattle.settling.specs.Settles.{IsSettled}
-use Rattle.settling.specs.LostInstalls.{completing_at, Completes}
+use Rattle.world.specs.Settled.{SettlesAt}
 use Rattle.script_reader.specs.declared.script.Script.{Script}
 use Rattle.script_reader.specs.Script.{as_written}
 use Rattle.vsync_text.specs.Runs.{lines_of_run, text_of_run}
@@ -26,14 +25,10 @@ pub record KeepsRules {S : Type 0} (meaning : Meaning S) (w : WorldModel S) : Ty
   pub agreeing : EachPlace (ReplicasAgree meaning) w.history.trace
 
 module _ {S : Type 0} (meaning : Meaning S) where
-  -- the change of view of the member at a node completes, if it can: all of the view's members are in it then; else nothing is done
-  abbrev pub SettlesAt : ℕ → WorldModel S → WorldModel S → Type 0
-  SettlesAt n old new = MatchOption (completing_at old.node_states n) (new ≡ old) (λ v. Completes meaning n v old new × IsSettled v new.history.trace)
-
   -- so at each node from 1 on, one after another
   pub data SettlesTo (from : WorldModel S) : ℕ → WorldModel S → Type 0 where
     Nowhere : SettlesTo from zero from
-    More : (n : ℕ) (mid new : WorldModel S) → SettlesTo from n mid → SettlesAt (n + 1) mid new → SettlesTo from (suc n) new
+    More : (n : ℕ) (mid new : WorldModel S) → SettlesTo from n mid → SettlesAt meaning (n + 1) mid new → SettlesTo from (suc n) new
 
   -- some events, and then at each node
   pub record RunsAndSettles (old : WorldModel S) (events : List WorldEvent) (new : WorldModel S) : Type 0 where

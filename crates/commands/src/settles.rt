@@ -3,7 +3,8 @@
 ghost use Rattle.std.specs.Prelude.{◌≡◌, ◌≤◌, length, IfOk, OnOk, OnErr};
 ghost use Rattle.world_step.specs.Worlds.{shown, IsLonger};
 ghost use Rattle.endings.specs.Outcomes.{Written};
-ghost use Rattle.commands.specs.Settled.{KeepsRules, SettlesAt, RunsAndSettles, RunsInPart, padded, IsSettledText, SettlesScript};
+ghost use Rattle.world.specs.Settled.{SettlesAt};
+ghost use Rattle.commands.specs.Settled.{KeepsRules, RunsAndSettles, RunsInPart, padded, IsSettledText, SettlesScript};
 
 use crate::scripts::{print_run, script_from};
 use address::Node;

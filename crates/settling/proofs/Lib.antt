@@ -18,8 +18,12 @@ pub mod BringingEnds
 pub mod SettlingIsRun
 pub mod BringingIsRun
 pub mod LoneViewsMeet
-pub mod CompletesEither
 pub mod FirstPackets
 pub mod RoundRaises
 pub mod TwoRounds
 pub mod RoundsAreEnough
+pub mod RoundEnds
+pub mod OvertakingEnds
+pub mod OvertakingIsRun
+pub mod FactOfRounds
+pub mod CompletesAnyWay

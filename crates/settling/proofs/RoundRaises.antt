@@ -31,7 +31,7 @@ use Rattle.step_output.specs.Outputs.{Grows}
 use Rattle.step_output.specs.Steps.{who}
 use Rattle.membership.specs.InSteps.{InStep, in_step}
 use Rattle.membership.specs.declared.member_state.MemberState.{MemberState}
-use Rattle.membership.specs.MemberStates.{core_of as core_at, view_in, is_connected, is_complete, begun_with, report_in, anew_proposal, IsFlushing}
+use Rattle.membership.specs.MemberStates.{core_of as core_at, view_in, is_connected, is_complete, begun_with, report_in, anew_proposal, anew_past, IsFlushing}
 use Rattle.membership.specs.Changes.{StaysAs, FinishesAndProposes}
 use Rattle.member.specs.Members.{MemberModel}
 use Rattle.member_views.specs.Views.{OnFlush, OnBehind}
@@ -51,7 +51,7 @@ use Rattle.world_plays.proofs.PoolPackets.{bytes_as, IsSound, put-out, put-next,
 use Rattle.world_plays.proofs.Standing
 use Rattle.world_plays.proofs.Standing.{Stands}
 use Rattle.settling.specs.Settles.{would_follow}
-use Rattle.settling.specs.LowProposals.{told, past_in, promised_past, anew_past, raised, raised_in, raised_at, Raises, flush_in, IsRaised}
+use Rattle.settling.specs.LowProposals.{told, past_in, promised_past, anew_with, raised, raised_in, raised_at, Raises, flush_in, IsRaised}
 use Rattle.settling.proofs.FactOfReports.{awaited_by}
 use Rattle.settling.proofs.FactOfRules
 use Rattle.settling.proofs.FactOfSettled
@@ -221,8 +221,8 @@ module _ {S : Type 0} (meaning : Meaning S) (laws : KeepBySteps.Laws meaning) wh
       at-flush : (m : MemberModel S) (l : MemberState S) (f : FlushModel) → w.node_states n ≡ Running m → m.member_state ≡ Some l → l.flush ≡ Some f → raised w.node_states m.address l q f ≡ Some v → Low w n q v
       at-flush m l f there state runs e =
           let x = when-there (is_awaited q f) _ v e in
-          option_and_then_some (anew_past m.address l q) (promised_past (proposed f) q (w.node_states q.node)) v x.1
-          (λ k past more. option_and_then_some (λ u. if stands_in q u.members then Some u else None) (anew_proposal m.address (record l { notes = having_heard k l.notes })) v more
+          option_and_then_some (anew_with m.address l q) (promised_past (proposed f) q (w.node_states q.node)) v x.1
+          (λ k past more. option_and_then_some (λ u. if stands_in q u.members then Some u else None) (anew_past m.address l k) v more
           (λ u anew tested.
           let y = cond_some (stands_in q u.members) u v tested in
           record {
@@ -384,7 +384,7 @@ module _ {S : Type 0} (meaning : Meaning S) (laws : KeepBySteps.Laws meaning) wh
     pub keeps : Keeps meaning laws new
 
   -- who awaits a report is another than the one whose flush it is
-  awaited-other : (c q : Address) (f : FlushModel) → has_reported c f.reports ≡ true → is_awaited q f ≡ true → same_address q c ≡ false
+  pub awaited-other : (c q : Address) (f : FlushModel) → has_reported c f.reports ≡ true → is_awaited q f ≡ true → same_address q c ≡ false
   awaited-other c q f own awaited = by (same_address q c) refl
     where
       by : (b : Bool) → same_address q c ≡ b → b ≡ false

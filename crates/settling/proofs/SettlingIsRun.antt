@@ -8,29 +8,30 @@ use Rattle.world_plays.proofs.PlaysRun.{Ran, none-yet, stepped, failed, delivere
 use Rattle.settling.specs.Settles.{begun_in, Settles, SettlesShort}
 use Rattle.settling.specs.Settles.SettlesShort.{AtTick, AtFlush, AtReport, AtInstall}
 
+module _ {S : Type 0} (meaning : Meaning S) (from : WorldModel S) where
+  pub settles-ran : (n : ℕ) (old new : WorldModel S) → Ran meaning from old → Settles meaning n old new → Ran meaning from new
+  settles-ran n old new r x =
+      let announced = stepped meaning from old x.announced _ r x.ticks.step in
+      let reported = delivered meaning from _ _ x.announced x.reported announced x.flushes in
+      let instructed = delivered meaning from _ _ x.reported x.instructed reported x.reports in
+      delivered meaning from _ _ x.instructed new instructed x.installs
+
+  pub short-ran : (n : ℕ) (old new : WorldModel S) → Ran meaning from old → SettlesShort meaning n old new → Ran meaning from new
+  short-ran n old _ r (AtTick new fails) = failed meaning from old new _ r fails
+  short-ran n old _ r (AtFlush announced new ticks breaks) = broken meaning from _ _ announced new (stepped meaning from old announced _ r ticks.step) breaks
+  short-ran n old _ r (AtReport announced reported new ticks flushes breaks) =
+      broken meaning from _ _ reported new (delivered meaning from _ _ announced reported (stepped meaning from old announced _ r ticks.step) flushes) breaks
+  short-ran n old _ r (AtInstall announced reported instructed new ticks flushes reports breaks) =
+      broken meaning from _ _ instructed new
+      (delivered meaning from _ _ reported instructed (delivered meaning from _ _ announced reported (stepped meaning from old announced _ r ticks.step) flushes) reports) breaks
+
 module _ {S : Type 0} (meaning : Meaning S) where
-  settles-ran : (n : ℕ) (old new : WorldModel S) → Settles meaning n old new → Ran meaning old new
-  settles-ran n old new x =
-      let announced = stepped meaning old old x.announced _ (none-yet meaning old) x.ticks.step in
-      let reported = delivered meaning old _ _ x.announced x.reported announced x.flushes in
-      let instructed = delivered meaning old _ _ x.reported x.instructed reported x.reports in
-      delivered meaning old _ _ x.instructed new instructed x.installs
-
-  short-ran : (n : ℕ) (old new : WorldModel S) → SettlesShort meaning n old new → Ran meaning old new
-  short-ran n old _ (AtTick new fails) = failed meaning old old new _ (none-yet meaning old) fails
-  short-ran n old _ (AtFlush announced new ticks breaks) = broken meaning old _ _ announced new (stepped meaning old old announced _ (none-yet meaning old) ticks.step) breaks
-  short-ran n old _ (AtReport announced reported new ticks flushes breaks) =
-      broken meaning old _ _ reported new (delivered meaning old _ _ announced reported (stepped meaning old old announced _ (none-yet meaning old) ticks.step) flushes) breaks
-  short-ran n old _ (AtInstall announced reported instructed new ticks flushes reports breaks) =
-      broken meaning old _ _ instructed new
-      (delivered meaning old _ _ reported instructed (delivered meaning old _ _ announced reported (stepped meaning old old announced _ (none-yet meaning old) ticks.step) flushes) reports) breaks
-
   -- so what was there is the beginning of what is there
   pub settles-longer : (n : ℕ) (old new : WorldModel S) → Settles meaning n old new → IsLonger old.history new.history
-  settles-longer n old new x = ran-longer meaning old new (settles-ran n old new x)
+  settles-longer n old new x = ran-longer meaning old new (settles-ran meaning old n old new (none-yet meaning old) x)
 
   pub short-longer : (n : ℕ) (old new : WorldModel S) → SettlesShort meaning n old new → IsLonger old.history new.history
-  short-longer n old new x = ran-longer meaning old new (short-ran n old new x)
+  short-longer n old new x = ran-longer meaning old new (short-ran meaning old n old new (none-yet meaning old) x)
 
 -- ---- from what the code did
 

@@ -106,7 +106,7 @@ own-accepts w me listed = rw (listed, cmp-self w.id.counter, cmp-self w.id.creat
 
 -- ---- a proposal past a counter
 
-beyond-is : (k : ℕ) (w u : View) → beyond k w ≡ Some u → (max w.id.counter k < GREATEST_NUMBER) × (record { id = record { counter = max w.id.counter k + 1; creator = w.id.creator }; members = w.members } ≡ u)
+pub beyond-is : (k : ℕ) (w u : View) → beyond k w ≡ Some u → (max w.id.counter k < GREATEST_NUMBER) × (record { id = record { counter = max w.id.counter k + 1; creator = w.id.creator }; members = w.members } ≡ u)
 beyond-is k w u e =
     let x = cond_some (nat_lt (max w.id.counter k) GREATEST_NUMBER) (record { id = record { counter = max w.id.counter k + 1; creator = w.id.creator }; members = w.members }) u e in
     (lt-from (max w.id.counter k) GREATEST_NUMBER x.0, x.1)
@@ -274,7 +274,7 @@ module _ {S : Type 0} (meaning : Meaning S) (laws : KeepBySteps.Laws meaning) wh
     pub last : beyond_all w.node_states first ≡ Some v
     pub all : list_all (λ p. would_follow v p (w.node_states p.node)) v.members ≡ true
 
-  sees : (w : WorldModel S) (n : ℕ) (v : View) → overtaking_at w.node_states n ≡ Some v → Sees w n v
+  pub sees : (w : WorldModel S) (n : ℕ) (v : View) → overtaking_at w.node_states n ≡ Some v → Sees w n v
   sees w n v e =
       let at = w.node_states in
       option_and_then_some (followed_by_all at) (option_and_then (beyond_all at) (option_and_then (raised_at at n) (asked_at at n))) v e

@@ -2,3 +2,4 @@ pub mod Settles
 pub mod Meets
 pub mod LostInstalls
 pub mod LowProposals
+pub mod Completing

@@ -1,7 +1,7 @@
--- INSTALLs that were lost: the creator of a view is in it, and members of it await it still. Whom this is about, which events bring them in, and what these come to.
-use Rattle.std.specs.Prelude.{◌≡◌, ◌≤◌, ℕ, ◌+◌, Bool, true, false, ◌&&◌, ◌||◌, List, [], ◌∷◌, ◌++◌, length, take, slice_get, is_some, Option, None, Some, MatchBool, if◌then◌else◌}
+-- INSTALLs that were lost: the creator of a view is in it, and members of it await it still. Whom this is about, and which events bring them in.
+use Rattle.std.specs.Prelude.{◌≡◌, ℕ, Bool, true, false, ◌&&◌, ◌||◌, List, [], ◌∷◌, ◌++◌, length, take, slice_get, Option, None, Some, MatchBool, if◌then◌else◌}
 use Rattle.std.specs.List.{list_all, list_any}
-use Rattle.std.specs.Option.{option_eq, option_map_or, option_and_then, option_or}
+use Rattle.std.specs.Option.{option_eq, option_map_or, option_and_then}
 use Rattle.address.specs.Ids.{Address, same_address, same_view_id}
 use Rattle.view.specs.Members.{View}
 use Rattle.state_transfer.specs.Meanings.{Meaning}
@@ -10,9 +10,9 @@ use Rattle.membership.specs.MemberStates.{view_in, is_sent_to}
 use Rattle.world_model.specs.declared.WorldEvent.TheVariants.{Deliver, Tick}
 use Rattle.world_step.specs.declared.node_state.NodeState.{NodeState}
 use Rattle.world_step.specs.declared.node_state.NodeState.TheVariants.{Vacant, Ended, Running}
-use Rattle.world_step.specs.Worlds.{WorldModel, IsReached}
+use Rattle.world_step.specs.Worlds.{WorldModel}
 use Rattle.world_plays.specs.Plays.{Plays, Fails, DeliversPast, BreaksPast}
-use Rattle.settling.specs.Settles.{would_follow, settling_at, Settles, SettlesShort, IsSettled, EndsSettling}
+use Rattle.settling.specs.Settles.{would_follow}
 
 -- ---- whom it is about
 
@@ -79,33 +79,3 @@ module _ {S : Type 0} (meaning : Meaning S) where
     pub before : BringsAll n v old (take place v.members) mid
     pub awaits : awaits_install mid.node_states n v last ≡ true
     pub short : BringsInShort last mid new
-
--- ---- a change of view completes, in either way
-
--- the view that the member at a node can complete: by a flush of its own, or by INSTALLs that were lost
-abbrev pub completing_at : {S : Type 0} → (ℕ → NodeState S) → ℕ → Option View
-completing_at at n = option_or (settling_at at n) (awaited_at at n)
-
-module _ {S : Type 0} (meaning : Meaning S) where
-  abbrev pub Completes : ℕ → View → WorldModel S → WorldModel S → Type 0
-  Completes n v old new = MatchBool (is_some (settling_at old.node_states n)) (Settles meaning n old new) (BringsAll meaning n v old v.members new)
-
-  abbrev pub CompletesShort : ℕ → View → WorldModel S → WorldModel S → Type 0
-  CompletesShort n v old new = MatchBool (is_some (settling_at old.node_states n)) (SettlesShort meaning n old new) (BringsShort meaning n v old new)
-
--- ---- the laws
-
--- in every world, where the others of a view can be brought in, they are
-abbrev pub ViewsComplete : {S : Type 0} → Meaning S → Type 0
-ViewsComplete {S} meaning = (old new : WorldModel S) (node : ℕ) (v : View) → IsReached meaning old → completing_at old.node_states node ≡ Some v → Completes meaning node v old new
-    → IsSettled v new.history.trace
-
--- by so few events
-abbrev pub CompletesBriefly : {S : Type 0} → Meaning S → Type 0
-CompletesBriefly {S} meaning = (old new : WorldModel S) (node : ℕ) (v : View) → IsReached meaning old → completing_at old.node_states node ≡ Some v → Completes meaning node v old new
-    → length new.history.events ≤ length old.history.events + 526
-
--- and an error leaves all of the view running, or one of them has crashed
-abbrev pub CompletionsEnd : {S : Type 0} → Meaning S → Type 0
-CompletionsEnd {S} meaning = (old new : WorldModel S) (node : ℕ) (v : View) → IsReached meaning old → completing_at old.node_states node ≡ Some v → CompletesShort meaning node v old new
-    → EndsSettling v new

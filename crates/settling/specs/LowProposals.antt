@@ -1,54 +1,42 @@
 -- A proposal that is too low: one of its list has promised a greater one. Whom this is about, which events raise the proposal, and what these come to.
 use Rattle.std.specs.Prelude.{◌≡◌, ◌≤◌, ◌<◌, ℕ, ◌+◌, ◌&&◌, Bool, true, false, List, fold, length, max, nat_lt, is_some, Option, None, Some, MatchOption, if◌then◌else◌}
 use Rattle.std.specs.List.{list_all}
-use Rattle.std.specs.Option.{ForSome, option_map, option_map_or, option_and_then}
+use Rattle.std.specs.Option.{ForSome, IsSomeAnd, option_map, option_map_or, option_and_then}
 use Rattle.address.specs.Ids.{Address, same_address}
 use Rattle.view.specs.Members.{View, stands_in}
 use Rattle.limits.specs.declared.TheConstants.{GREATEST_NUMBER}
 use Rattle.state_transfer.specs.Meanings.{Meaning}
-use Rattle.next_view.specs.Notes.{having_heard}
 use Rattle.next_view.specs.Candidates.{candidates}
 use Rattle.flush.specs.Flushes.{FlushModel, has_reported, is_awaited}
-use Rattle.view_install.specs.Promises.{offered}
-use Rattle.view_install.specs.declared.promise.OfferAnswer.{OfferAnswer}
-use Rattle.view_install.specs.declared.promise.OfferAnswer.TheVariants.{Accept, Behind, Ignore}
 use Rattle.acts.specs.Acts.{proposed}
 use Rattle.membership.specs.declared.member_state.MemberState.{MemberState}
-use Rattle.membership.specs.MemberStates.{is_connected, view_in, anew_proposal}
+use Rattle.membership.specs.MemberStates.{is_connected, view_in, anew_past}
+pub use Rattle.member.specs.Proposals.{told, past_in}
 use Rattle.world_model.specs.declared.WorldEvent.TheVariants.{Deliver, Tick}
 use Rattle.world_step.specs.declared.node_state.NodeState.{NodeState}
 use Rattle.world_step.specs.declared.node_state.NodeState.TheVariants.{Vacant, Ended, Running}
 use Rattle.world_step.specs.Pools.{first_for}
 use Rattle.world_step.specs.Turns.{OthersStand}
 use Rattle.world_step.specs.Worlds.{WorldModel, IsReached}
-use Rattle.world_plays.specs.Plays.{Plays}
-use Rattle.settling.specs.Settles.{would_follow, settling_at, Settles, IsSettled}
+use Rattle.world_plays.specs.Plays.{Plays, Fails}
+use Rattle.settling.specs.declared.rounds.Round.{Round}
+use Rattle.settling.specs.Settles.{would_follow, settling_at, Settles, SettlesShort, IsSettled, EndsSettling}
 
 -- ---- whom it is about
 
--- the counter that the answer to a proposal tells, if it is behind
-abbrev pub told : OfferAnswer → Option ℕ
-told Accept = None
-told (Behind counter) = Some counter
-told Ignore = None
-
--- the counter of the greater proposal that a member has promised, with which it answers this one if it is connected
-abbrev pub past_in : {S : Type 0} → View → MemberState S → Option ℕ
-past_in v l = if is_connected l then told (offered v l.promise) else None
-
--- the same of the member of an address, if it runs there
+-- the counter of the greater proposal that the member of an address has promised, if it runs there: with that it answers this one
 abbrev pub promised_past : {S : Type 0} → View → Address → NodeState S → Option ℕ
 promised_past v q Vacant = None
 promised_past v q (Ended p) = None
 promised_past v q (Running m) = if same_address m.address q then option_and_then (past_in v) m.member_state else None
 
 -- what a member proposes when it begins its own flush anew past a counter, if an address is a candidate still; none where the counters are used up
-abbrev pub anew_past : {S : Type 0} → Address → MemberState S → Address → ℕ → Option View
-anew_past me l q counter = option_and_then (λ w. if stands_in q w.members then Some w else None) (anew_proposal me (record l { notes = having_heard counter l.notes }))
+abbrev pub anew_with : {S : Type 0} → Address → MemberState S → Address → ℕ → Option View
+anew_with me l q counter = option_and_then (λ w. if stands_in q w.members then Some w else None) (anew_past me l counter)
 
 -- the same past what an address has promised, if that one did not report, and has promised a greater proposal than that of the flush
 abbrev pub raised : {S : Type 0} → (ℕ → NodeState S) → Address → MemberState S → Address → FlushModel → Option View
-raised at me l q f = if is_awaited q f then option_and_then (anew_past me l q) (promised_past (proposed f) q (at q.node)) else None
+raised at me l q f = if is_awaited q f then option_and_then (anew_with me l q) (promised_past (proposed f) q (at q.node)) else None
 
 abbrev pub raised_in : {S : Type 0} → (ℕ → NodeState S) → Address → NodeState S → Option View
 raised_in at q Vacant = None
@@ -69,6 +57,26 @@ module _ {S : Type 0} (meaning : Meaning S) where
     pub ticks : Plays meaning old (Tick node) announced
     pub flush : MatchOption (first_for q (length old.history.pool) announced.history.pool) (answered ≡ announced) (λ k. Plays meaning announced (Deliver k) answered)
     pub behind : Plays meaning answered (Deliver (length answered.history.pool)) new
+
+  -- a round that ends in an error: the steps before it are carried out
+  pub data RaisesShort (node : ℕ) (q : Address) (old : WorldModel S) : WorldModel S → Type 0 where
+    AtTick : (new : WorldModel S) → Fails meaning old (Tick node) new → RaisesShort node q old new
+    AtFlush : (announced new : WorldModel S) → Plays meaning old (Tick node) announced
+        → IsSomeAnd (first_for q (length old.history.pool) announced.history.pool) (λ k. Fails meaning announced (Deliver k) new) → RaisesShort node q old new
+    AtBehind : (announced answered new : WorldModel S) → Plays meaning old (Tick node) announced
+        → MatchOption (first_for q (length old.history.pool) announced.history.pool) (answered ≡ announced) (λ k. Plays meaning announced (Deliver k) answered)
+        → Fails meaning answered (Deliver (length answered.history.pool)) new → RaisesShort node q old new
+
+  -- one round, and a second if there is one more to ask
+  pub record RaisesTwice (node : ℕ) (first : Address) (second : Option Address) (old new : WorldModel S) : Type 0 where
+    pub raised : WorldModel S
+    pub one : Raises node first old raised
+    pub other : MatchOption second (new ≡ raised) (λ q. Raises node q raised new)
+
+  -- these, ended in an error
+  pub data RaisesTwiceShort (node : ℕ) (first : Address) (second : Option Address) (old : WorldModel S) : WorldModel S → Type 0 where
+    InFirst : (new : WorldModel S) → RaisesShort node first old new → RaisesTwiceShort node first second old new
+    InSecond : (raised new : WorldModel S) → Raises node first old raised → IsSomeAnd second (λ q. RaisesShort node q raised new) → RaisesTwiceShort node first second old new
 
 -- ---- what it comes to
 
@@ -117,6 +125,17 @@ asked_in at (Running m) = option_and_then (λ l. option_and_then (λ f. option_a
 abbrev pub asked_at : {S : Type 0} → (ℕ → NodeState S) → ℕ → Option Address
 asked_at at n = asked_in at (at n)
 
+-- a round there: whom it asks, and what the member proposes after it
+abbrev pub round_in : {S : Type 0} → (ℕ → NodeState S) → NodeState S → Option Round
+round_in at s = option_and_then (λ q. option_map (λ w. record { asked = q; raised = w }) (raised_in at q s)) (asked_in at s)
+
+abbrev pub round_at : {S : Type 0} → (ℕ → NodeState S) → ℕ → Option Round
+round_at at n = round_in at (at n)
+
+-- whom a second round asks: of all to whom the first proposes the one that has promised furthest past that
+abbrev pub asked_past : {S : Type 0} → (ℕ → NodeState S) → View → Option Address
+asked_past at w = option_map (λ x. x.0) (furthest (λ q. promised_past w q (at q.node)) w.members)
+
 -- a proposal past a counter; none where the counters are used up
 abbrev pub beyond : ℕ → View → Option View
 beyond k w = if nat_lt (max w.id.counter k) GREATEST_NUMBER then Some (record { id = record { counter = max w.id.counter k + 1; creator = w.id.creator }; members = w.members }) else None
@@ -144,6 +163,18 @@ module _ {S : Type 0} (meaning : Meaning S) where
     pub first : RaisesIf node old raised
     pub second : RaisesIf node raised new
 
+  -- these, and a settling
+  pub record OvertakesAndSettles (node : ℕ) (old new : WorldModel S) : Type 0 where
+    pub raised : WorldModel S
+    pub overtakes : Overtakes node old raised
+    pub settles : Settles meaning node raised new
+
+  -- these, ended in an error
+  pub data OvertakesShort (node : ℕ) (old : WorldModel S) : WorldModel S → Type 0 where
+    AtFirst : (new : WorldModel S) → IsSomeAnd (asked_at old.node_states node) (λ q. RaisesShort meaning node q old new) → OvertakesShort node old new
+    AtSecond : (raised new : WorldModel S) → RaisesIf node old raised → IsSomeAnd (asked_at raised.node_states node) (λ q. RaisesShort meaning node q raised new) → OvertakesShort node old new
+    AtSettling : (raised new : WorldModel S) → Overtakes node old raised → SettlesShort meaning node raised new → OvertakesShort node old new
+
 -- ---- the laws of two rounds
 
 -- in every world, two rounds make a flush that is behind one that all of its list would follow
@@ -160,6 +191,10 @@ OvertakingsSettle {S} meaning = (old mid new : WorldModel S) (node : ℕ) (v : V
 abbrev pub OvertakesBriefly : {S : Type 0} → Meaning S → Type 0
 OvertakesBriefly {S} meaning = (old mid new : WorldModel S) (node : ℕ) (v : View) → IsReached meaning old → overtaking_at old.node_states node ≡ Some v → Overtakes meaning node old mid → Settles meaning node mid new
     → length new.history.events ≤ length old.history.events + 532
+
+-- and an error leaves all of the list running, or one of them has crashed
+abbrev pub OvertakingsEnd : {S : Type 0} → Meaning S → Type 0
+OvertakingsEnd {S} meaning = (old new : WorldModel S) (node : ℕ) (v : View) → IsReached meaning old → overtaking_at old.node_states node ≡ Some v → OvertakesShort meaning node old new → EndsSettling v new
 
 -- ---- when two rounds are enough
 

@@ -38,7 +38,10 @@ pub(crate) fn follows<R: Receiver>(
 }
 
 /// Whether all of a proposal's list would follow.
-fn all_follow<R: Receiver>(node_states: &BTreeMap<Node, NodeState<R>>, proposal: &Roster) -> bool
+pub(crate) fn all_follow<R: Receiver>(
+    node_states: &BTreeMap<Node, NodeState<R>>,
+    proposal: &Roster,
+) -> bool
     ensures { result ≡ list_all (λ q. would_follow proposal.now q (node_states_in (get nat_cmp node_states.now) q.node)) proposal.now.members }
 {
     proposal

@@ -1,7 +1,7 @@
 ghost use Rattle.settling.specs.Settles.{ViewsSettle, SettlesBriefly, SettlingsEnd};
-ghost use Rattle.settling.specs.LostInstalls.{ViewsComplete, CompletesBriefly, CompletionsEnd};
+ghost use Rattle.settling.specs.Completing.{ViewsComplete, CompletesBriefly, CompletionsEnd};
 ghost use Rattle.settling.specs.Meets.{LoneViewsMeet, LoneViewsJoin};
-ghost use Rattle.settling.specs.LowProposals.{ProposalsRise, ProposalsOvertake, OvertakingsSettle, OvertakesBriefly, RoundsAreEnough};
+ghost use Rattle.settling.specs.LowProposals.{ProposalsRise, ProposalsOvertake, OvertakingsSettle, OvertakesBriefly, OvertakingsEnd, RoundsAreEnough};
 
 use state_transfer::Receiver;
 
@@ -16,11 +16,16 @@ pub fn views_settle<R: Receiver>()
     ensures ends { SettlingsEnd R.meaning }
 {}
 
-/// The law of changes of view. In every world that comes of any events: where a settling completes a view (`views_settle`), or the member that runs at a node
-/// keeps INSTALLs of its view and each of the view is in it or was sent one and would follow it still, then after a settling, or for each of the latter a tick
-/// of it, a delivery of its REPORT, and of each STATE and INSTALL that come of that, with no growth refused to a member, all of the view run and it is their
-/// current view; and these are at most 526 events. Where a growth is refused, one of the view has crashed, or a step was not begun and all of them run. For
-/// every receiver that keeps the laws. It does nothing.
+/// The law of changes of view. In every world that comes of any events a view completes in one of three ways, the first that can be.
+///
+/// - A settling completes it (`views_settle`).
+/// - The member that runs at a node keeps INSTALLs of it, and each of the view is in it or was sent one and would follow it still: for each of the latter a tick
+///   of it, a delivery of its REPORT, and of each STATE and INSTALL that come of that.
+/// - Two rounds at most raise a proposal that is too low (`low_proposals_rise`), and then a settling.
+///
+/// After these steps, with no growth refused to a member, all of the view run and it is their current view; and they are at most 526 events, six more with
+/// rounds. Where a growth is refused, one of the view has crashed, or a step was not begun and all of them run. For every receiver that keeps the laws. It does
+/// nothing.
 pub fn views_complete<R: Receiver>()
     ensures completes { ViewsComplete R.meaning }
     ensures brief { CompletesBriefly R.meaning }
@@ -40,12 +45,14 @@ pub fn lone_views_meet<R: Receiver>()
 /// after a tick of the member, and a delivery of the FLUSH for that address and of the BEHIND that answers it, the flush is one for the member's candidates
 /// with a counter past that promise, nobody else has reported for it, and nobody else has changed (`rise`). Two such rounds, the second with the one of the
 /// list that has promised furthest, raise the proposal past all promises: then the change can complete (`overtake`), a settling completes it (`settle`), and
-/// these are at most 532 events (`brief`). They are enough where all candidates run at their addresses, and are joining or in a view, and a counter is left past
-/// all that they have promised (`enough`). For every receiver that keeps the laws. It does nothing.
+/// these are at most 532 events (`brief`). Where a growth is refused, one of the list has crashed, or a step was not begun and all of them run (`ends`). Two
+/// rounds are enough where all candidates run at their addresses, and are joining or in a view, and a counter is left past all that they have promised
+/// (`enough`). For every receiver that keeps the laws. It does nothing.
 pub fn low_proposals_rise<R: Receiver>()
     ensures rise { ProposalsRise R.meaning }
     ensures overtake { ProposalsOvertake R.meaning }
     ensures settle { OvertakingsSettle R.meaning }
     ensures brief { OvertakesBriefly R.meaning }
+    ensures ends { OvertakingsEnd R.meaning }
     ensures enough { RoundsAreEnough R.meaning }
 {}

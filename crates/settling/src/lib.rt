@@ -5,7 +5,9 @@
 mod followers;
 mod installs;
 mod law;
+mod rounds;
 
 pub use followers::{begun, is_settling};
 pub use installs::{awaited, awaits_install};
 pub use law::{lone_views_meet, low_proposals_rise, views_complete, views_settle};
+pub use rounds::{Round, Rounds, overtaking, round_at};

@@ -104,7 +104,7 @@ fn pair_at<R: Receiver>(node_states: &BTreeMap<Node, NodeState<R>>, node: Node) 
 
 impl<R: Receiver> World<R> {
     /// Delivers the packet of a number, if there is one.
-    fn hand(&mut self, number: Option<u64>) -> Result<(), AllocError>
+    pub(crate) fn hand(&mut self, number: Option<u64>) -> Result<(), AllocError>
         ensures ok { OnOk result (Hands R.meaning number (shown self.old) (shown self.new)) }
         ensures err { OnErr result (IsSomeAnd number (λ k. Fails R.meaning (shown self.old) (Deliver k) (shown self.new))) }
     {

@@ -1,5 +1,5 @@
-//! Random worlds: a change of view that can complete does, one that cannot is left alone, rounds raise a proposal that is too low, and suspicions bring each
-//! member into a view of itself alone.
+//! Random worlds: a change of view that can complete does, also by rounds that raise its proposal; one that cannot is left alone; and suspicions bring each member
+//! into a view of itself alone.
 
 use address::{Address, Node, ViewId};
 use chat_log::ChatLog;
@@ -208,21 +208,12 @@ fn is_behind(packet: Option<&Bytes>) -> bool {
     }
 }
 
-/// A tick of the member at a node, and the deliveries of what it sends by that, up to the first that is answered with a BEHIND, and of that. Whether one is.
-fn rises(world: &mut World<ChatLog>, at: Node) -> bool {
-    let known = world.packets().len();
-    if world.run(&[WorldEvent::Tick(at)]).is_err() {
-        return false;
-    }
-    for index in known..world.packets().len() {
-        let before = world.packets().len();
-        let number = (index as u64).wrapping_add(1);
-        if world.run(&[WorldEvent::Deliver(number)]).is_err() {
-            return false;
-        }
-        let last = world.packets().len();
-        if last > before && is_behind(world.packets().last()) {
-            return world.run(&[WorldEvent::Deliver(last as u64)]).is_ok();
+/// Whether a BEHIND is among the packets past so many.
+fn has_behind(world: &World<ChatLog>, past: usize) -> bool {
+    let packets = world.packets();
+    for index in past..packets.len() {
+        if is_behind(packets.get(index)) {
+            return true;
         }
     }
     false
@@ -235,7 +226,7 @@ enum Outcome {
     Settled,
     /// The member was in the view, and so are the others now.
     Entered,
-    /// Its proposal was too low, and completed after at most two rounds.
+    /// Its proposal was too low, and completed by rounds.
     Raised,
     /// It cannot complete, and nothing was done.
     Rested,
@@ -243,24 +234,8 @@ enum Outcome {
     Wrong,
 }
 
-/// Two rounds at most, by hand, and then a settling. Where nobody is behind, nothing more is tried.
-fn settle_by_rounds(world: &mut World<ChatLog>, at: Node) -> Outcome {
-    if !rises(world, at) {
-        return Outcome::Rested;
-    }
-    let _ = rises(world, at);
-    match world.settle(at) {
-        Ok(true) if are_together(world, at) => Outcome::Raised,
-        Ok(false) => Outcome::Rested,
-        _ => Outcome::Wrong,
-    }
-}
-
-/// What comes where a settling does nothing: the same events by hand complete nothing either, and rounds may.
+/// What comes where a settling does nothing: the same events by hand complete nothing either.
 fn settle_by_hand(world: &mut World<ChatLog>, at: Node) -> Outcome {
-    if world.events().len() % 3 == 0 {
-        return settle_by_rounds(world, at);
-    }
     if comes_by_either(world, at) {
         Outcome::Wrong
     } else {
@@ -268,13 +243,15 @@ fn settle_by_hand(world: &mut World<ChatLog>, at: Node) -> Outcome {
     }
 }
 
-/// Settles at a node.
+/// Settles at a node. Rounds are known by the BEHIND that answers the one who is asked: else a settling brings none.
 fn settle(world: &mut World<ChatLog>, at: Node) -> Outcome {
     let carried = world.events().len();
     let views = made(world, at);
+    let known = world.packets().len();
     match world.settle(at) {
         Ok(true) if !are_together(world, at) => Outcome::Wrong,
         Ok(true) if made(world, at) == views => Outcome::Entered,
+        Ok(true) if has_behind(world, known) => Outcome::Raised,
         Ok(true) => Outcome::Settled,
         Ok(false) if world.events().len() == carried => settle_by_hand(world, at),
         _ => Outcome::Wrong,
@@ -412,7 +389,7 @@ fn changes_settle_and_members_come_to_stand_alone(rt: HostRuntime) {
             }
         }
     }
-    assert!(rt; tally.settled > 100, "many changes settled");
+    assert!(rt; tally.settled > 80, "many changes settled");
     assert!(rt; tally.entered > 5, "INSTALLs that were lost came again");
     assert!(rt; tally.raised > 2, "some that were too low were raised");
     assert!(rt; tally.rested > 1000, "more did not");

@@ -1,4 +1,4 @@
-//! A change of view that completes: a proposal whose FLUSH or REPORT was lost, of a joiner, one that was too low, and where it cannot.
+//! A change of view that completes: a proposal whose FLUSH or REPORT was lost, of a joiner, one that is too low; and where it cannot.
 
 use address::{Address, Node};
 use chat_log::ChatLog;
@@ -111,31 +111,9 @@ fn too_low(alloc: Global, more: &[WorldEvent]) -> Option<World<ChatLog>> {
 }
 
 #[test]
-fn a_view_does_not_settle_that_one_has_promised_past(rt: HostRuntime) {
+fn a_proposal_that_is_too_low_is_raised(rt: HostRuntime) {
     let mut world = too_low(rt.alloc(), &[]).expect(&rt, "the events are done");
     let carried = world.events().len();
-    assert!(rt; world.settle(node(1)) == Ok(false), "2.1 would not follow");
-    assert!(rt; world.events().len() == carried, "nothing is done");
-    assert!(rt;
-        world.settle(node(2)) == Ok(true),
-        "2.1 and 3.1 come together"
-    );
-    assert!(rt;
-        entered(&world, node(2)) == 1 && entered(&world, node(3)) == 1,
-        "both are in the view"
-    );
-    assert!(rt; world.settle(node(1)) == Ok(false), "2.1 has gone past it");
-}
-
-#[test]
-fn a_round_raises_a_proposal_that_is_too_low(rt: HostRuntime) {
-    // A tick of 1.1 sends the FLUSH again, packet 5; packet 6 is the BEHIND of 2.1.
-    let round = [
-        WorldEvent::Tick(node(1)),
-        WorldEvent::Deliver(5),
-        WorldEvent::Deliver(6),
-    ];
-    let mut world = too_low(rt.alloc(), &round).expect(&rt, "the events are done");
     low_proposals_rise::<ChatLog>();
     assert!(rt;
         world.settle(node(1)) == Ok(true),
@@ -146,4 +124,50 @@ fn a_round_raises_a_proposal_that_is_too_low(rt: HostRuntime) {
         "both are in the view"
     );
     assert!(rt; entered(&world, node(3)) == 0, "3.1 is not");
+    assert!(rt;
+        world.events().len() == carried.wrapping_add(7),
+        "a tick, a FLUSH and a BEHIND, and then a tick, a FLUSH, a REPORT and an INSTALL"
+    );
+}
+
+#[test]
+fn who_has_promised_more_completes_its_own(rt: HostRuntime) {
+    let mut world = too_low(rt.alloc(), &[]).expect(&rt, "the events are done");
+    assert!(rt;
+        world.settle(node(2)) == Ok(true),
+        "2.1 and 3.1 come together"
+    );
+    assert!(rt;
+        entered(&world, node(2)) == 1 && entered(&world, node(3)) == 1,
+        "both are in the view"
+    );
+}
+
+#[test]
+fn a_round_by_hand_is_no_other(rt: HostRuntime) {
+    // A tick of 1.1 sends the FLUSH again, packet 5; packet 6 is the BEHIND of 2.1.
+    let round = [
+        WorldEvent::Tick(node(1)),
+        WorldEvent::Deliver(5),
+        WorldEvent::Deliver(6),
+    ];
+    let mut world = too_low(rt.alloc(), &round).expect(&rt, "the events are done");
+    let carried = world.events().len();
+    assert!(rt;
+        world.settle(node(1)) == Ok(true),
+        "the change of 1.1 completes"
+    );
+    assert!(rt;
+        world.events().len() == carried.wrapping_add(4),
+        "a tick, a FLUSH, a REPORT and an INSTALL"
+    );
+}
+
+#[test]
+fn a_proposal_is_not_raised_for_one_who_crashed(rt: HostRuntime) {
+    let more = [WorldEvent::Crash(node(2))];
+    let mut world = too_low(rt.alloc(), &more).expect(&rt, "the events are done");
+    let carried = world.events().len();
+    assert!(rt; world.settle(node(1)) == Ok(false), "2.1 does not run");
+    assert!(rt; world.events().len() == carried, "nothing is done");
 }

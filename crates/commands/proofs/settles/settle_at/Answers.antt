@@ -1,6 +1,6 @@
 use Rattle.std.proofs.Common.{Ok, ap, ◌∙◌, rules}
 use Rattle.world_step.specs.Worlds.{shown}
-use Rattle.commands.proofs.SettledRuns.{settled-by}
+use Rattle.world.proofs.SettlingIsTold.{settled-by}
 use Rattle.commands.proofs.settles.settle_at.Goals as goal
 
 pub returns-in_ok-settle-in-Some-clause-ok : goal.returns-in_ok-settle-in-Some-clause-ok

@@ -3,6 +3,7 @@ use Rattle.world_step.proofs.KeepOfWorlds.{reached-keeps}
 use Rattle.settling.proofs.RoundRaises.{raises}
 use Rattle.settling.proofs.TwoRounds.{overtakes, overtakes-settle, overtakes-brief}
 use Rattle.settling.proofs.RoundsAreEnough.{enough}
+use Rattle.settling.proofs.OvertakingEnds.{ends}
 use Rattle.settling.proofs.law.low_proposals_rise.Goals as goal
 
 pub returns-clause-rise : goal.returns-clause-rise
@@ -24,6 +25,11 @@ pub returns-clause-brief : goal.returns-clause-brief
 returns-clause-brief g c = λ old mid new n v reached.
     let laws : KeepBySteps.Laws g.R.Receiver.meaning = record { opens = g.met.R.Receiver.opens; applies = g.met.R.Receiver.applies; decodes = g.met.R.Receiver.decodes; reads_back = g.met.R.Receiver.reads_back } in
     overtakes-brief g.R.Receiver.meaning laws old mid new n v (reached-keeps g.R.Receiver.meaning laws old reached)
+
+pub returns-clause-ends : goal.returns-clause-ends
+returns-clause-ends g c = λ old new n v reached at short.
+    let laws : KeepBySteps.Laws g.R.Receiver.meaning = record { opens = g.met.R.Receiver.opens; applies = g.met.R.Receiver.applies; decodes = g.met.R.Receiver.decodes; reads_back = g.met.R.Receiver.reads_back } in
+    ends g.R.Receiver.meaning laws old n v (reached-keeps g.R.Receiver.meaning laws old reached) at new short
 
 pub returns-clause-enough : goal.returns-clause-enough
 returns-clause-enough g c = λ w n reached.

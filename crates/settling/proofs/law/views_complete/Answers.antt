@@ -1,6 +1,6 @@
 use Rattle.agreement.proofs.KeepBySteps
 use Rattle.world_step.proofs.KeepOfWorlds.{reached-keeps}
-use Rattle.settling.proofs.CompletesEither.{settled, brief, ends}
+use Rattle.settling.proofs.CompletesAnyWay.{settled, brief, ends}
 use Rattle.settling.proofs.law.views_complete.Goals as goal
 
 pub returns-clause-completes : goal.returns-clause-completes

@@ -2,8 +2,8 @@ use Rattle.std.proofs.Common.{length, sym, ap, subst, arith}
 use Rattle.world_step.specs.Worlds.{WorldModel, WorldValue, IsReached, IsLonger, shown}
 use Rattle.world_step.specs.Worlds.Runs.{Still}
 use Rattle.world_step.proofs.FactOfRuns.{runs-longer}
-use Rattle.settling.specs.LostInstalls.{completing_at}
-use Rattle.settling.proofs.CompletesEither.{completes-longer, short-longer}
+use Rattle.settling.specs.Completing.{completing_at, IsUntried}
+use Rattle.settling.proofs.CompletesAnyWay.{completes-longer, short-longer}
 use Rattle.world.proofs.SettlingIsTold.{then-of, else-of, well-by, any-by}
 use Rattle.world.proofs.World.settle.Goals as goal
 
@@ -22,13 +22,14 @@ returns-clause-brief g c =
 -- it ended in an error
 pub returns-clause-ends : goal.returns-clause-ends
 returns-clause-ends g c =
-    else-of c.complete-completed.result (completing_at (shown c.args.self.now).node_states c.args.node) _ _ c.complete-completed.ensures.stops
+    else-of c.complete-completed.result (completing_at (shown c.args.self.now).node_states c.args.node) _ _ _ c.complete-completed.ensures.stops
     (λ v there x. c.views_complete.ensures.ends (shown c.args.self.now) (shown c.complete-completed.new.self) c.args.node v (subst (λ (w : WorldValue _). IsReached g.R.Receiver.meaning (shown w)) c.self.view_is c.self.invariant) there x)
 
 -- in each case what was there is the beginning of what is there
 pub returns-clause-longer : goal.returns-clause-longer
 returns-clause-longer g c =
-    any-by c.complete-completed.result (completing_at (shown c.args.self.now).node_states c.args.node) _ _ _ c.complete-completed.ensures.answer c.complete-completed.ensures.plays c.complete-completed.ensures.stops
+    any-by c.complete-completed.result (completing_at (shown c.args.self.now).node_states c.args.node) _ _ _ _ c.complete-completed.ensures.answer c.complete-completed.ensures.plays c.complete-completed.ensures.stops
     (λ none. subst (λ (w : WorldModel _). IsLonger c.args.self.now.history w.history) (sym (c.complete-completed.ensures.nothing none)) (runs-longer g.R.Receiver.meaning (shown c.args.self.now) (shown c.args.self.now) _ Still))
+    (λ (u : IsUntried c.args.node (shown c.args.self.now) (shown c.complete-completed.new.self)). subst (λ (w : WorldModel _). IsLonger c.args.self.now.history w.history) (sym u.same) (runs-longer g.R.Receiver.meaning (shown c.args.self.now) (shown c.args.self.now) _ Still))
     (λ v there x. completes-longer g.R.Receiver.meaning c.args.node v (shown c.args.self.now) (shown c.complete-completed.new.self) x)
     (λ v there x. short-longer g.R.Receiver.meaning c.args.node v (shown c.args.self.now) (shown c.complete-completed.new.self) x)
