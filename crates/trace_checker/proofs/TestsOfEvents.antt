@@ -48,6 +48,16 @@ order-none t (Installed i) e = asks-nothing tt
 order-none t (Left q) e = asks-nothing tt
 order-none t (Crashed q) e = asks-nothing tt
 
+-- what sends a message may keep the order
+pub order-sent : (t : List Event) (h : Event) (s : Sending) → Some s ≡ sending_of h → Decides true (MayOrder t h)
+order-sent t (Started q) s e = asks-nothing tt
+order-sent t (Sent x) s e = asks-nothing tt
+order-sent t (Delivered d) s e = absurd (none-some s (sym e))
+order-sent t (Blocked q) s e = asks-nothing tt
+order-sent t (Installed i) s e = asks-nothing tt
+order-sent t (Left q) s e = asks-nothing tt
+order-sent t (Crashed q) s e = asks-nothing tt
+
 -- what installs nothing may meet
 pub meet-none : (t : List Event) (h : Event) → None ≡ install_of h → Decides true (MayMeet t h)
 meet-none t (Started q) e = asks-nothing tt

@@ -169,9 +169,9 @@ order-decides t d =
     (message-decides (slice_get (delivered_in d.view.creator d.view t) (length (delivered_in d.member d.view t))) d.message)
 
 -- where the member is not the first one, the test asks what that one delivered
-pub order-else : (t : List Event) (d : Delivery) (a b : Address) (e r : Bool) → a ≡ d.view.creator → b ≡ d.view.creator → e ≡ same_address d.member a → e ≡ false
-    → r ≡ is_message (slice_get (delivered_in b d.view t) (length (delivered_in d.member d.view t))) d.message
+pub order-else : (t : List Event) (d : Delivery) (a : Address) (e r : Bool) → a ≡ d.view.creator → e ≡ same_address d.member a → e ≡ false
+    → r ≡ is_message (slice_get (delivered_in a d.view t) (length (delivered_in d.member d.view t))) d.message
     → r ≡ (same_address d.member d.view.creator || is_message (slice_get (delivered_in d.view.creator d.view t) (length (delivered_in d.member d.view t))) d.message)
-order-else t d a b e r first too test apart is =
-    is ∙ ap (λ x. is_message (slice_get (delivered_in x d.view t) (length (delivered_in d.member d.view t))) d.message) too
+order-else t d a e r first test apart is =
+    is ∙ ap (λ x. is_message (slice_get (delivered_in x d.view t) (length (delivered_in d.member d.view t))) d.message) first
     ∙ ap (λ x. x || is_message (slice_get (delivered_in d.view.creator d.view t) (length (delivered_in d.member d.view t))) d.message) (sym apart ∙ test ∙ ap (same_address d.member) first)

@@ -91,6 +91,12 @@ KnowsDelivered m t = (s : MemberInView) → delivered_kept (m s) ≡ delivered_i
 abbrev pub KnowsLast : (MemberInView → Option InView) → List Event → Type 0
 KnowsLast m t = (s : MemberInView) (q : Address) → last_kept (m s) q ≡ length (own q (delivered_in s.member s.view t))
 
+-- what is kept of a member in a view says what the trace says of it
+pub record Says (kept : Option InView) (member : Address) (view : ViewId) (t : List Event) : Type 0 where
+  pub sent : sent_kept kept ≡ sent_in member view t
+  pub delivered : delivered_kept kept ≡ delivered_in member view t
+  pub last : (q : Address) → last_kept kept q ≡ length (own q (delivered_in member view t))
+
 -- REGISTERS
 
 abbrev pub KnowsEntries : (MemberInView → Option (Bor Install)) → List Event → Type 0

@@ -7,7 +7,7 @@ ghost use Rattle.trace_props.specs.Agreeing.{MayMeet, MayKnow, MayHandBack};
 ghost use Rattle.trace_props.specs.Verdicts.{May, MayEach, rules_before};
 
 use super::agree::{may_know, may_meet};
-use super::messages::{may_deliver, may_order, may_send};
+use super::messages::{may_deliver, may_send};
 use super::placed::may_stand;
 use super::rest::may_hand_back;
 use super::views::may_rise;
@@ -29,24 +29,17 @@ fn keeps_views(past: &Past, event: &Event) -> bool
     }
 }
 
-fn keeps_messages(past: &Past, event: &Event) -> bool
-    ensures { Decides result (MayCarry past.now event.now) }
+// Whether a message that is sent or delivered is its sender's next, and whether one that is delivered keeps the one order.
+fn keeps_messages(past: &Past, event: &Event) -> (bool, bool)
+    ensures messages { Decides result.0 (MayCarry past.now event.now) }
+    ensures order { Decides result.1 (MayOrder past.now event.now) }
 {
     match sending_in(event) {
-        Some(sending) => may_send(past, sending),
+        Some(sending) => (may_send(past, sending), true),
         None => match delivery_in(event) {
-            None => true,
+            None => (true, true),
             Some(delivery) => may_deliver(past, delivery),
         },
-    }
-}
-
-fn keeps_order(past: &Past, event: &Event) -> bool
-    ensures { Decides result (MayOrder past.now event.now) }
-{
-    match delivery_in(event) {
-        None => true,
-        Some(delivery) => may_order(past, delivery),
     }
 }
 
@@ -89,10 +82,11 @@ pub fn broken_rule(past: &Past, event: &Event) -> Option<Rule>
     if !keeps_views(past, event) {
         return Some(Rule::RisingViews);
     }
-    if !keeps_messages(past, event) {
+    let (are_sound, are_ordered) = keeps_messages(past, event);
+    if !are_sound {
         return Some(Rule::SoundMessages);
     }
-    if !keeps_order(past, event) {
+    if !are_ordered {
         return Some(Rule::OneOrder);
     }
     if !keeps_next(past, event) {

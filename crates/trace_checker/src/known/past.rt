@@ -3,9 +3,9 @@ ghost use Rattle.std.specs.Option.{option_copied};
 ghost use Rattle.trace_props.specs.Observed.{sent_in, delivered_in, own, entry_of, first_install};
 ghost use Rattle.trace_props.specs.Agreeing.{first_from};
 ghost use Rattle.trace_props.specs.Following.{MayCarry};
-ghost use Rattle.trace_checker.specs.Known.{standing_of};
+ghost use Rattle.trace_checker.specs.Known.{Says, standing_of};
 
-use super::in_views;
+use super::in_views::{self, InView};
 use super::keys::{MemberInView, ViewChange};
 use super::standing::{self, Standing};
 use super::tables::{self, Tables};
@@ -52,6 +52,13 @@ impl<'a> Past<'a> {
         standing::how_stands(&self.tables.standings, member)
     }
 
+    /// What is kept of a member in a view.
+    pub fn in_view(&self, member: Address, view: ViewId) -> Option<&InView<'a>>
+        ensures { Says (option_copied result) member view self.now }
+    {
+        self.tables.in_view(member, view)
+    }
+
     /// How many messages a member sent in a view.
     pub fn sent_count(&self, member: Address, view: ViewId) -> usize
         ensures { result ≡ length (sent_in member view self.now) }
@@ -71,13 +78,6 @@ impl<'a> Past<'a> {
         ensures { result ≡ length (delivered_in member view self.now) }
     {
         in_views::delivered_count(self.tables.in_view(member, view))
-    }
-
-    /// A message that a member delivered in a view, by its index from 0.
-    pub fn delivered_at(&self, member: Address, view: ViewId, index: usize) -> Option<&'a Message>
-        ensures { option_copied result ≡ slice_get (delivered_in member view self.now) index }
-    {
-        in_views::delivered_at(self.tables.in_view(member, view), index)
     }
 
     /// How many messages of a sender a member delivered in a view.
