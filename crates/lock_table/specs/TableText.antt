@@ -25,4 +25,4 @@ text_of_locks (e ∷ entries) = text_of_more (e ∷ entries)
 
 -- the line of a member whose table this is: `locks P LAST LOCK ..`, with its line feed
 abbrev pub table_line : Address → Table → List ℕ
-table_line member s = line_with (codes "entries") (field (text_of_address member) ++ field (text_of_token s.last) ++ text_of_locks s.entries)
+table_line member s = line_with (codes "locks") (field (text_of_address member) ++ field (text_of_token s.last) ++ text_of_locks s.entries)

@@ -69,7 +69,7 @@ pub(crate) fn put_table_line(
     ensures text { OnOk result (out.new.items ≡ out.old.items ++ table_line member.now (table_of last.now entries.now)) }
     ensures kept { GoesOnFrom out.old.items out.new.items }
 {
-    put(out, b"entries")?;
+    put(out, b"locks")?;
     put_address(out, b' ', member)?;
     put_token_text(out, b' ', last)?;
     put_locks(out, entries)?;
