@@ -6,3 +6,4 @@ pub mod TestsOfViewChanges
 pub mod KeepStates
 pub mod FactOfEntryState
 pub mod TestsOfEvents
+pub mod KeepLasts

@@ -1,9 +1,8 @@
 -- What a checker keeps of the past: tables by member, view or both, and what each says of the trace so far.
-use Rattle.std.specs.Prelude.{◌≡◌, ℕ, Bool, true, false, ◌&&◌, Option, None, Some, List, [], map, length, unwrap_or}
+use Rattle.std.specs.Prelude.{◌≡◌, ℕ, Bool, true, false, ◌&&◌, Option, None, Some, List, [], map, length}
 use Rattle.std.specs.Option.{option_copied}
 use Rattle.std.specs.Borrow.{Bor}
-use Rattle.std.specs.BTreeMap.{get}
-use Rattle.address.specs.Ids.{Address, ViewId, address_cmp, same_address, same_view_id}
+use Rattle.address.specs.Ids.{Address, ViewId, same_address, same_view_id}
 use Rattle.trace_props.specs.declared.event.Event.{Event}
 use Rattle.trace_props.specs.declared.event.Event.TheVariants.{Started, Sent, Delivered, Blocked, Installed, Left, Crashed}
 use Rattle.trace_props.specs.declared.event.Numbered.{Numbered}
@@ -15,6 +14,7 @@ use Rattle.trace_checker.specs.declared.known.keys.MemberInView.{MemberInView}
 use Rattle.trace_checker.specs.declared.known.in_views.InView.{InView}
 use Rattle.trace_checker.specs.declared.known.keys.ViewChange.{ViewChange}
 use Rattle.trace_checker.specs.declared.known.standing.Standing.{Standing}
+use Rattle.trace_checker.specs.Lasts.{number_of}
 use Rattle.trace_props.specs.Observed.{has_started, has_ended, is_blocked, current_view, delivered_in, sent_in, own, entry_of, first_install}
 use Rattle.trace_props.specs.Agreeing.{first_from}
 
@@ -40,7 +40,7 @@ delivered_kept (Some k) = map (λ b. b.now) k.delivered.items
 -- the number of the last message of a sender that it delivered, 0 before the first
 abbrev pub last_kept : Option InView → Address → ℕ
 last_kept None q = 0
-last_kept (Some k) q = unwrap_or (get address_cmp k.lasts q) 0
+last_kept (Some k) q = number_of k.lasts.items q
 
 -- HOW MEMBERS STAND
 

@@ -1,4 +1,5 @@
 pub mod Keys
+pub mod Lasts
 pub mod Known
 pub mod Judged
 pub mod Copies

@@ -1,6 +1,7 @@
 //! What a checker keeps of the events so far.
 mod in_views;
 mod keys;
+mod lasts;
 mod notes;
 mod past;
 mod standing;

@@ -6,9 +6,10 @@ ghost use Rattle.trace_checker.specs.declared.known.keys.MemberInView.{MemberInV
 ghost use Rattle.trace_checker.specs.Known.{same_in_view, sent_kept, delivered_kept, last_kept};
 
 use super::keys::MemberInView;
+use super::lasts::{Last, keep_last, last_of};
 use address::Address;
 use std::alloc::{AllocError, Global};
-use std::collections::{BTreeMap, HashMap};
+use std::collections::HashMap;
 use trace_props::{Message, Numbered};
 
 /// What a member sent and delivered in a view, and the number of the last message of each sender that it delivered.
@@ -16,7 +17,7 @@ use trace_props::{Message, Numbered};
 pub struct InView<'a> {
     pub sent: Vec<&'a Numbered>,
     pub delivered: Vec<&'a Message>,
-    pub lasts: BTreeMap<Address, u64>,
+    pub lasts: Vec<Last>,
 }
 
 impl<'a> InView<'a> {
@@ -29,7 +30,7 @@ impl<'a> InView<'a> {
         InView {
             sent: Vec::new(alloc),
             delivered: Vec::new(alloc),
-            lasts: BTreeMap::new(alloc),
+            lasts: Vec::new(alloc),
         }
     }
 
@@ -49,7 +50,7 @@ impl<'a> InView<'a> {
         ensures delivered { OnOk result (delivered_kept (Some self.new) ≡ delivered_kept (Some self.old) ++ message.now ∷ []) }
         ensures last { OnOk result ((sender : Address) → last_kept (Some self.new) sender ≡ (if same_address message.now.sender sender then message.now.number else last_kept (Some self.old) sender)) }
     {
-        self.lasts.insert(message.sender, message.number)?;
+        keep_last(&mut self.lasts, message.sender, message.number)?;
         self.delivered.push(message)?;
         Ok(())
     }
@@ -101,10 +102,7 @@ pub fn last(in_view: Option<&InView>, sender: Address) -> u64
 {
     match in_view {
         None => 0,
-        Some(kept) => match kept.lasts.get(&sender) {
-            None => 0,
-            Some(number) => *number,
-        },
+        Some(kept) => last_of(kept.lasts.as_slice(), sender),
     }
 }
 
