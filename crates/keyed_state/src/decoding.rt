@@ -21,10 +21,7 @@ pub struct Contents<V> {
 }
 
 #[tactic(auto, unfolding(crate::specs::States::entry_at))]
-fn entry_from<V: Kept>(
-    alloc: Global,
-    from: &mut Reader<'_>,
-) -> Result<Option<Entry<V>>, AllocError>
+fn entry_from<V: Kept>(alloc: Global, from: &mut Reader<'_>) -> Result<Option<Entry<V>>, AllocError>
     ensures { IfOk result (λ e. IsReadOrNone (λ x. (x, from.new)) e (entry_at V.form from.old)) }
 {
     let Some(key) = key_from(from) else {
@@ -83,10 +80,7 @@ fn are_up_to<V: Kept>(last: Token, entries: &[Entry<V>]) -> bool
 /// The state that bytes are the encoding of; `None` where they are none's: something follows the last entry, they are more than `STATE`, the keys do not rise, or a token
 /// is above the last.
 #[tactic(auto, unfolding(crate::specs::States::state_decode))]
-pub fn contents_of<V: Kept>(
-    alloc: Global,
-    bytes: &[u8],
-) -> Result<Option<Contents<V>>, AllocError>
+pub fn contents_of<V: Kept>(alloc: Global, bytes: &[u8]) -> Result<Option<Contents<V>>, AllocError>
     ensures { IfOk result (λ read. IsReadOrNone (λ c. state_of c.last c.entries.items) read (state_decode V.form bytes.now)) }
 {
     let mut from = Reader::new(bytes);

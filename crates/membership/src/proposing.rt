@@ -139,11 +139,7 @@ impl<R: Receiver> MemberState<R> {
 
     /// What it would propose if it began its own flush anew past a counter, to its candidates: `None` without a flush of its own, and where the counters are used
     /// up. An error for want of memory changes nothing.
-    pub fn anew_past(
-        &self,
-        who: &Identity,
-        counter: u64,
-    ) -> Result<Option<Roster>, AllocError>
+    pub fn anew_past(&self, who: &Identity, counter: u64) -> Result<Option<Roster>, AllocError>
         requires member_state { IsMemberState (who_of who.now) self.now }
         ensures { IfOk result (λ w. w ≡ anew_past who.now.address self.now counter) }
     {
