@@ -1,5 +1,5 @@
 -- The laws of such states and of their encoding.
-use Rattle.std.proofs.Common.{◌≡◌, ℕ, ◌+◌, ◌≤◌, Bool, true, false, cond, eqb, leb, ◌&&◌, List, [], ◌∷◌, ◌++◌, length, Some, None, refl, sym, ap, subst, ◌∙◌, append_assoc, arith}
+use Rattle.std.proofs.Common.{◌≡◌, ℕ, ◌≤◌, Bool, true, cond, eqb, leb, ◌&&◌, List, [], ◌∷◌, ◌++◌, length, Some, None, refl, sym, ap, subst, ◌∙◌, append_assoc, arith}
 use Rattle.std.specs.List.{flat_map, AllByRecursion, sum_by}
 use Rattle.std.specs.Ordering.{match_ordering}
 use Rattle.std.specs.declared.cmp.Ordering.{Ordering}
@@ -14,7 +14,7 @@ use Rattle.limits.specs.declared.TheConstants.{STATE}
 use Rattle.reading.specs.Reading.{number_at, list_at, ◌>>=◌}
 use Rattle.reading.specs.PartLaws.{bind_some, some_is, joined, IsPart, IsWithin, number_part, list_takes, list_again}
 use Rattle.keyed_entries.specs.declared.Entry.{Entry}
-use Rattle.keyed_entries.specs.Entries.{key_cmp, entry_of, put, without, rises, Rises}
+use Rattle.keyed_entries.specs.Entries.{key_cmp, entry_of, put, without, rises}
 use Rattle.keyed_entries.specs.EntryLaws.{rises-found, rises-tested, all-put, all-without, rises-put, rises-without}
 use Rattle.keyed_entries.specs.Keys.{IsKey, key_bytes, key_at}
 use Rattle.keyed_entries.specs.KeyLaws.{key_takes, key_again}

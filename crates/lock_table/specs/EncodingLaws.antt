@@ -1,6 +1,6 @@
 -- What those who wait and a lock are read from is their spelling, and their spelling is read as them, whatever follows.
 use Rattle.std.proofs.lemmas.List.{length-append}
-use Rattle.std.proofs.Common.{◌≡◌, ℕ, ◌+◌, ◌*◌, ◌≤◌, List, [], ◌∷◌, ◌++◌, length, Some, refl, sym, ap, subst, ◌∙◌, append_assoc, arith}
+use Rattle.std.proofs.Common.{◌≡◌, ℕ, ◌*◌, ◌≤◌, List, [], ◌∷◌, ◌++◌, length, Some, refl, sym, ap, subst, ◌∙◌, append_assoc, arith}
 use Rattle.std.specs.List.{flat_map, AllByRecursion}
 use Rattle.byteorder.specs.Endian.{big_bytes}
 use Rattle.big_endian.proofs.Bytes.{wide4}
@@ -11,7 +11,7 @@ use Rattle.reading.specs.PartLaws.{bind_some, some_is, joined, IsPart, IsWithin,
 use Rattle.tokens.specs.Spelling.{token_bytes, token_at}
 use Rattle.tokens.specs.SpellingLaws.{token_part, length-token}
 use Rattle.keyed_state.specs.StateLaws.{FormLaws}
-use Rattle.lock_table.specs.Forms.{Lock, IsLock, IsShort, waiters_bytes, waiters_at, lock_bytes, lock_at, lock_form}
+use Rattle.lock_table.specs.Forms.{Lock, IsShort, waiters_bytes, waiters_at, lock_bytes, lock_at, lock_form}
 
 -- ---- those who wait
 

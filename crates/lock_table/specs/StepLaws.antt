@@ -10,7 +10,7 @@ use Rattle.address.specs.Ids.{Address, ViewId, IsAddress}
 use Rattle.view.specs.Members.{stands_in}
 use Rattle.limits.specs.declared.TheConstants.{STATE, GREATEST_NUMBER}
 use Rattle.keyed_entries.specs.declared.Entry.{Entry}
-use Rattle.keyed_entries.specs.Entries.{key_cmp, entry_of, value_of, put, without, Rises}
+use Rattle.keyed_entries.specs.Entries.{key_cmp, entry_of, value_of, put, Rises}
 use Rattle.keyed_entries.specs.EntryLaws.{IsBelowAll}
 use Rattle.keyed_entries.specs.Keys.{IsKey}
 use Rattle.tokens.specs.declared.token.Token.{Token}

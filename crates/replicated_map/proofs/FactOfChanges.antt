@@ -1,5 +1,5 @@
 -- What a replacement makes of a map, and which puts stay within the limits of its state.
-use Rattle.std.proofs.Common.{◌≡◌, ◌≢◌, ℕ, ◌+◌, Bool, true, false, List, [], ◌∷◌, length, cond, Option, Some, None, refl, sym, ap, subst, ◌∙◌}
+use Rattle.std.proofs.Common.{◌≡◌, ℕ, Bool, true, false, List, cond, Option, Some, None, refl, sym, ap, subst, ◌∙◌}
 use Rattle.std.proofs.lemmas.Option.{none-some, same_Some}
 use Rattle.std.proofs.lemmas.Map.Text.{is_eq-slice_cmp}
 use Rattle.std.proofs.lemmas.Slice.Eq.{bytes_eq-Decides}
@@ -7,10 +7,10 @@ use Rattle.address.specs.Ids.{ViewId}
 use Rattle.keyed_entries.specs.Entries.{value_of, put}
 use Rattle.keyed_entries.proofs.FactOfLookUps.{found-put}
 use Rattle.tokens.specs.declared.token.Token.{Token}
-use Rattle.tokens.specs.Tokens.{is_token, next_token}
+use Rattle.tokens.specs.Tokens.{next_token}
 use Rattle.tokens.specs.TokenLaws.{token-is, is-token}
 use Rattle.replicated_map.specs.declared.entries.Held.{Held}
-use Rattle.replicated_map.specs.Entries.{MapState, held, held_of, value_in, version_in, given, is_within, put_within, removed}
+use Rattle.replicated_map.specs.Entries.{MapState, held, held_of, value_in, version_in, given, put_within, removed}
 use Rattle.replicated_map.specs.Commands.{is_expected, has_version, map_apply, after_command}
 use Rattle.replicated_map.specs.Changes.{ReplacedIfExpected, KeptIfNotExpected, ReplacedOnce, ReplacedAtItsVersion, KeptAtAnotherVersion, RemovedAtItsVersion, NotRemovedAtAnother, PutIfItFits, PutIsKeptOut, ReplaceIsKeptOut, VersionIsKeptOut, NewKeyTakes, NewValueTakes, RemovalGives}
 use Rattle.replicated_map.proofs.FactOfEntries.{Entries, put-goes, put-stays, new-key, new-value, removal-size}

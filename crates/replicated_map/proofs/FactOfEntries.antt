@@ -1,25 +1,25 @@
 -- What a put and a removal make of a map and of the number of bytes that it is encoded in.
-use Rattle.std.proofs.Common.{◌≡◌, ℕ, ◌+◌, ◌-◌, ◌<◌, ◌≤◌, Bool, true, false, List, [], ◌∷◌, ◌&&◌, length, set, get_or, cond, leb, Option, None, Some, refl, sym, ap, subst, ◌∙◌, arith}
-use Rattle.std.specs.List.{slice_get, insert, remove, sum_by}
+use Rattle.std.proofs.Common.{◌≡◌, ℕ, ◌+◌, ◌-◌, ◌<◌, ◌≤◌, Bool, true, false, List, [], ◌∷◌, ◌&&◌, length, get_or, cond, leb, None, Some, refl, sym, ap, subst, ◌∙◌, arith}
+use Rattle.std.specs.List.{slice_get, remove, sum_by}
 use Rattle.std.specs.Ordering.{match_ordering, is_eq}
 use Rattle.std.specs.declared.cmp.Ordering.{Ordering}
 use Rattle.std.specs.declared.cmp.Ordering.TheVariants.{Less, Equal, Greater}
 use Rattle.std.proofs.lemmas.Option.{get_or_from_slice_get, none-some, same_Some}
 use Rattle.std.proofs.lemmas.Bool.{leb-true, le-leb, and_parts}
-use Rattle.std.proofs.lemmas.List.Sums.{sum_by-cons, sum_by-set, sum_by-insert, sum_by-remove}
+use Rattle.std.proofs.lemmas.List.Sums.{sum_by-cons, sum_by-remove}
 use Rattle.std.proofs.lemmas.Map.Text.{is_eq-slice_cmp}
 use Rattle.std.proofs.lemmas.Slice.Eq.{bytes_eq-Decides}
 use Rattle.address.specs.Ids.{ViewId}
 use Rattle.limits.specs.declared.TheConstants.{STATE, GREATEST_NUMBER}
 use Rattle.keyed_entries.specs.declared.Entry.{Entry}
 use Rattle.keyed_entries.specs.Keys.{IsKey}
-use Rattle.keyed_entries.specs.Entries.{key_cmp, entry_of, value_of, put, without, IsHeldAt, IsFreeAt}
+use Rattle.keyed_entries.specs.Entries.{key_cmp, entry_of, value_of, put, without, IsHeldAt}
 use Rattle.tokens.specs.declared.token.Token.{Token}
 use Rattle.tokens.specs.Tokens.{next_token, IsViewId}
 use Rattle.replicated_map.specs.declared.entries.Held.{Held}
 use Rattle.keyed_state.specs.States.{entry_size as size_in}
 use Rattle.replicated_map.specs.Values.{held_form}
-use Rattle.replicated_map.specs.Entries.{MapState, state_of, held, map_size, IsValue, IsMap, given, is_within, put_within, removed}
+use Rattle.replicated_map.specs.Entries.{MapState, state_of, held, map_size, IsValue, IsMap, given, is_within, put_within}
 use Rattle.replicated_map.specs.MapLaws.{given_is_map, removed_is_map}
 
 abbrev entry_size : Entry Held → ℕ

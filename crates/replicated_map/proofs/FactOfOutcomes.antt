@@ -3,8 +3,7 @@ use Rattle.std.proofs.Common.{◌≡◌, ◌≢◌, ℕ, Bool, true, false, List
 use Rattle.std.specs.Ordering.{match_ordering}
 use Rattle.std.specs.declared.cmp.Ordering.{Ordering}
 use Rattle.std.specs.declared.cmp.Ordering.TheVariants.{Less, Equal, Greater}
-use Rattle.address.specs.Ids.{Address, ViewId}
-use Rattle.keyed_entries.specs.declared.Entry.{Entry}
+use Rattle.address.specs.Ids.{ViewId}
 use Rattle.keyed_entries.specs.Entries.{key_cmp, value_of, without}
 use Rattle.tokens.specs.declared.token.Token.{Token}
 use Rattle.tokens.specs.Tokens.{next_token}
@@ -14,7 +13,7 @@ use Rattle.replicated_map.specs.declared.entries.Held.{Held}
 use Rattle.replicated_map.specs.declared.outcome.Outcome.{Outcome}
 use Rattle.replicated_map.specs.declared.outcome.Outcome.TheVariants.{Stored, Removed, Cleared, Full, Differs, Missing, NoCommand}
 use Rattle.replicated_map.specs.Entries.{MapState, state_of, held, held_of, value_in, version_in, given, is_within, put_within, removed, cleared}
-use Rattle.replicated_map.specs.Commands.{is_expected, has_version, command_of, carried_out, map_apply, after_command}
+use Rattle.replicated_map.specs.Commands.{is_expected, has_version, command_of, carried_out, after_command}
 use Rattle.replicated_map.specs.Outcomes.{put_outcome, remove_outcome, outcome_of, outcome_at, Asks, AsksPut, AsksReplace, AsksReplaceAt, StoredStands, ReplaceStands, VersionStands, RemovalStands, VersionRemovalStands, FullIsKeptOut, DifferentIsKept, OtherVersionIsKept, OtherVersionIsNotRemoved, MissingIsKept, ClearedStands, NoCommandIsKept}
 use Rattle.replicated_map.proofs.FactOfEntries.{Entries}
 use Rattle.replicated_map.proofs.FactOfChanges.{is-expected, expected-is, has-version, version-is, given-there}

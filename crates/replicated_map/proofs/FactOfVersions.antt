@@ -1,14 +1,14 @@
 -- Versions rise along the messages, and none comes back.
-use Rattle.std.proofs.Common.{◌≡◌, ◌≢◌, ◌⊎◌, inl, inr, ℕ, Bool, true, false, List, [], ◌∷◌, cond, Option, Some, None, fold, refl, sym, ap, subst, ◌∙◌}
+use Rattle.std.proofs.Common.{◌≡◌, ◌≢◌, ◌⊎◌, inl, inr, ℕ, Bool, true, false, List, [], ◌∷◌, cond, Option, Some, None, refl, sym, ap, subst, ◌∙◌}
 use Rattle.std.specs.List.{AllByRecursion}
-use Rattle.std.specs.Ordering.{match_ordering, is_eq, is_lt}
+use Rattle.std.specs.Ordering.{match_ordering, is_eq}
 use Rattle.std.specs.declared.cmp.Ordering.{Ordering}
 use Rattle.std.specs.declared.cmp.Ordering.TheVariants.{Less, Equal, Greater}
 use Rattle.std.proofs.lemmas.Option.{none-some, same_Some}
-use Rattle.address.specs.Ids.{ViewId, view_id_cmp}
+use Rattle.address.specs.Ids.{ViewId}
 use Rattle.trace_props.specs.declared.event.Message.{Message}
 use Rattle.keyed_entries.specs.declared.Entry.{Entry}
-use Rattle.keyed_entries.specs.Entries.{key_cmp, value_of, put, without}
+use Rattle.keyed_entries.specs.Entries.{key_cmp, value_of}
 use Rattle.keyed_entries.proofs.FactOfLookUps.{found-put, found-without}
 use Rattle.tokens.specs.declared.token.Token.{Token}
 use Rattle.tokens.specs.Tokens.{IsBelow, is_up_to, next_token}
@@ -16,7 +16,7 @@ use Rattle.tokens.specs.TokenLaws.{up-refl, up-trans, up-below, below-is-up, not
 use Rattle.replicated_map.specs.declared.command.Command.{Command}
 use Rattle.replicated_map.specs.declared.command.Command.TheVariants.{Put, Remove, Replace, Clear, ReplaceAt, RemoveAt}
 use Rattle.replicated_map.specs.declared.entries.Held.{Held}
-use Rattle.replicated_map.specs.Entries.{MapState, held, held_of, value_in, version_in, IsMap, given, is_within, put_within, removed, cleared}
+use Rattle.replicated_map.specs.Entries.{MapState, held, held_of, value_in, version_in, IsMap, given, is_within, put_within, removed}
 use Rattle.replicated_map.specs.Commands.{is_expected, has_version, command_of, carried_out, after_command}
 use Rattle.replicated_map.specs.CommandLaws.{command_is_spelled, carried_out_is_map}
 use Rattle.replicated_map.specs.Outcomes.{Asks, AsksPut, AsksReplace, AsksReplaceAt}

@@ -9,7 +9,7 @@ use Rattle.address.specs.Ids.{Address, ViewId, IsAddress}
 use Rattle.limits.specs.declared.TheConstants.{PAYLOAD}
 use Rattle.reading.specs.Reading.{number_at, ◌>>=◌}
 use Rattle.reading.specs.PartLaws.{bind_some, some_is, joined, IsPart, IsWithin, number_part}
-use Rattle.keyed_entries.specs.Keys.{IsKey, key_bytes, key_at}
+use Rattle.keyed_entries.specs.Keys.{key_bytes, key_at}
 use Rattle.keyed_entries.specs.KeyLaws.{key_takes, key_again}
 use Rattle.tokens.specs.declared.token.Token.{Token}
 use Rattle.tokens.specs.Spelling.{view_id_bytes, view_id_at, token_bytes, token_at}
@@ -20,7 +20,7 @@ use Rattle.replicated_map.specs.Entries.{MapState, IsMap, held_of, value_in, put
 use Rattle.replicated_map.specs.Values.{value_bytes, value_at}
 use Rattle.replicated_map.specs.Commands.{is_expected, has_version, carried_out, expected_bytes, pair_bytes, command_bytes, expected_at, pair_at, put_at, remove_at, replace_at, replace_version_at, remove_version_at, command_at, command_of, IsExpected, IsPair, IsCommand, after_command, map_apply}
 use Rattle.replicated_map.specs.EncodingLaws.{value_takes, value_again}
-use Rattle.replicated_map.specs.MapLaws.{nothing_is_map, cleared_is_map, put_is_map, removed_is_map}
+use Rattle.replicated_map.specs.MapLaws.{cleared_is_map, put_is_map, removed_is_map}
 
 -- ---- an expected value
 

@@ -1,10 +1,10 @@
 -- What a value, and what a key has, are read from is their spelling, and their spelling is read as them, whatever follows.
-use Rattle.std.proofs.Common.{◌≡◌, ℕ, ◌≤◌, List, ◌++◌, length, Some, refl, sym, ap, subst, ◌∙◌, append_assoc, arith}
+use Rattle.std.proofs.Common.{◌≡◌, ℕ, List, ◌++◌, length, Some, refl, sym, ap, subst, ◌∙◌, append_assoc, arith}
 use Rattle.std.proofs.lemmas.List.{length-append}
 use Rattle.byteorder.specs.Endian.{big_bytes}
 use Rattle.big_endian.proofs.Bytes.{wide2}
 use Rattle.reading.specs.Reading.{number_at, bytes_at, ◌>>=◌}
-use Rattle.reading.specs.PartLaws.{bind_some, some_is, joined, IsPart, bytes_takes, bytes_again, number_part}
+use Rattle.reading.specs.PartLaws.{bind_some, some_is, joined, bytes_takes, bytes_again, number_part}
 use Rattle.tokens.specs.Spelling.{token_bytes, token_at}
 use Rattle.tokens.specs.SpellingLaws.{token_part, length-token}
 use Rattle.keyed_state.specs.StateLaws.{FormLaws}

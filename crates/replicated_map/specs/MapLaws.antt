@@ -1,5 +1,5 @@
 -- The laws of the map as a receiver, and of its encoding.
-use Rattle.std.proofs.Common.{◌≡◌, ℕ, ◌≤◌, Bool, true, false, cond, leb, ◌&&◌, List, [], length, Some, refl, arith}
+use Rattle.std.proofs.Common.{◌≡◌, ℕ, ◌≤◌, Bool, true, false, cond, leb, List, length, Some, refl, arith}
 use Rattle.std.proofs.lemmas.Bool.{leb-true, and_parts}
 use Rattle.address.specs.Ids.{ViewId}
 use Rattle.limits.specs.declared.TheConstants.{STATE, GREATEST_NUMBER}

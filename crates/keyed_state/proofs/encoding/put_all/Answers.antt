@@ -1,4 +1,4 @@
-use Rattle.std.proofs.Common.{◌≤◌, length, rules, arith}
+use Rattle.std.proofs.Common.{◌≤◌, length, rules}
 use Rattle.keyed_state.specs.States.{state_of}
 use Rattle.keyed_state.specs.StateLaws.{count_of}
 use Rattle.keyed_state.proofs.encoding.put_all.Goals as goal

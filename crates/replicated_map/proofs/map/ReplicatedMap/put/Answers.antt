@@ -1,4 +1,4 @@
-use Rattle.std.proofs.Common.{◌≡◌, sym, ap, ◌∙◌}
+use Rattle.std.proofs.Common.{sym, ap, ◌∙◌}
 use Rattle.keyed_entries.specs.Keys.{IsKey}
 use Rattle.tokens.specs.Tokens.{next_token}
 use Rattle.replicated_map.specs.Entries.{MapState}

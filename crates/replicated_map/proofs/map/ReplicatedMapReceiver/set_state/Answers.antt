@@ -1,5 +1,5 @@
 use Rattle.std.proofs.Common.{◌≡◌, ◌≤◌, Some, sym, ap, subst, ◌∙◌, rules}
-use Rattle.replicated_map.specs.Entries.{MapState, state_of, map_size}
+use Rattle.replicated_map.specs.Entries.{state_of, map_size}
 use Rattle.replicated_map.specs.Encoding.{map_decode}
 use Rattle.limits.specs.declared.TheConstants.{STATE}
 use Rattle.replicated_map.specs.MapLaws.{decoded_is_map}
