@@ -1,15 +1,14 @@
 -- A run of events after which the changes of view complete that can; and what is printed of it.
-use Rattle.std.proofs.Common.{◌≡◌, ℕ, Bool, true, false, List, ◌++◌, length, take, drop, Option, Some, None, Result, Ok, Err, OnOk, is_ok, sym, ap, ◌∙◌, subst}
+use Rattle.std.proofs.Common.{◌≡◌, ℕ, Bool, true, false, List, ◌++◌, length, drop, Option, Result, Ok, Err, OnOk, is_ok, sym, ap, ◌∙◌, subst}
 use Rattle.std.proofs.lemmas.List.{take-append-drop}
 use Rattle.state_transfer.specs.Meanings.{Meaning}
 use Rattle.trace_props.specs.Places.{IsBeginningOf}
 use Rattle.trace_props.proofs.FactOfPlaces.{IsBeginningOf-same, IsBeginningOf-grow}
 use Rattle.world_model.specs.declared.WorldEvent.{WorldEvent}
 use Rattle.world_model.specs.Histories.{History}
-use Rattle.world_step.specs.Worlds.{WorldModel, no_world, IsLonger, Runs as WorldRuns}
+use Rattle.world_step.specs.Worlds.{WorldModel, no_world, IsLonger}
 use Rattle.script_reader.specs.declared.script.Script.{Script}
 use Rattle.vsync_text.specs.Runs.{lines_of_run}
-use Rattle.limits.specs.declared.TheConstants.{GREATEST_NODE}
 use Rattle.endings.specs.declared.status.Status.{Status}
 use Rattle.endings.specs.declared.status.Status.TheVariants.{Memory}
 use Rattle.endings.specs.Outcomes.{Ends, IsLinesText, Written, memory_line}
