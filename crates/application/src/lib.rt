@@ -9,10 +9,10 @@ ghost use Rattle.script_reader.specs.Texts.{IsReadUnlessRefused};
 ghost use Rattle.vsync_text.specs.TraceText.{GoesOnFrom};
 
 use address::{Address, ViewId};
+use owned_bytes::Bytes;
 use script_reader::{Payloads, Unheard};
 use state_transfer::Receiver;
 use std::alloc::{AllocError, Global};
-use trace_props::Bytes;
 use view::View;
 
 /// A receiver that the commands of `vsync` can run (docs/EMBEDDING.md, "A command of its own"): a `send` of a script says in words what its payload
@@ -48,7 +48,7 @@ pub trait Application: Receiver + Payloads {
         ensures { IfOk result (λ payload. payload ≡ first_said view.now) };
 
     /// Whether a member says again what a view handed back to it, in that view and before all else that it is to say: the same words, by `payload_in_view` of the view. A node
-    /// that finds its group does so for every receiver (docs/PROTOCOL.md, "Giving way").
+    /// that finds its group does so for every receiver (docs/RUNNER.md, "Giving way").
     fn says_again() -> bool
         ensures { result ≡ is_said_again };
 }

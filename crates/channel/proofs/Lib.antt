@@ -1,3 +1,3 @@
-mod FactOfQueues
-pub mod FactOfSteps
-mod FactOfConnects
+mod QueuesGiveFirst
+pub mod StepsOfChannels
+mod ConnectsStart

@@ -6,7 +6,7 @@ use Rattle.limits.specs.declared.refusal.Refusal.TheVariants.{NotConnected, Alre
 use Rattle.state_transfer.specs.Meanings.{Meaning}
 use Rattle.address.specs.Ids.{Address}
 use Rattle.wire_values.specs.Names.{is_group_name}
-use Rattle.acts.specs.Cores as cores
+use Rattle.law_acts.specs.Cores as cores
 use Rattle.membership.specs.MemberStates.{idle_member}
 use Rattle.step_output.specs.declared.output.Output.{Output}
 use Rattle.step_output.specs.Outputs.{Puts}

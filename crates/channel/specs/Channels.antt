@@ -4,7 +4,7 @@ use Rattle.std.specs.Option.{option_map, option_map_or, option_and_then}
 use Rattle.address.specs.Ids.{Address, ViewId}
 use Rattle.view.specs.Members.{View}
 use Rattle.trace_props.specs.declared.event.Event.{Event}
-use Rattle.acts.specs.Cores.{Core, id_of, is_frozen}
+use Rattle.law_acts.specs.Cores.{Core, id_of, is_frozen}
 use Rattle.step_output.specs.declared.output.Outgoing.{Outgoing}
 use Rattle.step_output.specs.Names.{same_name}
 use Rattle.member.specs.declared.error.Error.{Error}

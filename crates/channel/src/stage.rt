@@ -23,16 +23,18 @@ use wire_values::GroupName;
 fn handle<R: Receiver>(member: &mut Member<R>, input: &Input<'_>) -> Result<Output, Error>
     ensures { Handled R.meaning member.old input.now result member.new }
 {
-    // By its parts, since an enum that lends bytes is not passed on whole.
     match input {
-        Input::Create => member.handle(Input::Create),
-        Input::Join(contact) => member.handle(Input::Join(*contact)),
-        Input::Send(payload) => member.handle(Input::Send(payload)),
-        Input::Datagram(bytes) => member.handle(Input::Datagram(bytes)),
-        Input::Tick => member.handle(Input::Tick),
-        Input::Suspect(address) => member.handle(Input::Suspect(*address)),
-        Input::MergeHint(address) => member.handle(Input::MergeHint(*address)),
-        Input::Leave => member.handle(Input::Leave),
+        Input::Create => member.create(),
+        Input::Join(contact) => member.join(*contact),
+        Input::Send(payload) => member.send(payload),
+        Input::Datagram(bytes) => {
+            let taken = member.take(bytes)?;
+            Ok(taken.out)
+        }
+        Input::Tick => member.tick(),
+        Input::Suspect(address) => member.suspect(*address),
+        Input::MergeHint(address) => member.merge_hint(*address),
+        Input::Leave => member.leave(),
     }
 }
 

@@ -1,2 +1,2 @@
-mod FactOfHalves
-pub mod FactOfLinesLeft
+mod HalvesOfChats
+pub mod LinesNotPrinted

@@ -5,7 +5,7 @@ ghost use Rattle.chat_log.specs.declared.lines.Line.{Line as LineValue};
 use address::Address;
 use state_transfer::Receiver;
 
-/// A receiver whose state is the lines of a chat (docs/FORMATS.md, "The chat's lines").
+/// A receiver whose state is the lines of a chat (docs/RECEIVERS.md, "The chat's lines").
 pub trait Chat: Receiver {
     /// The lines of a state, the oldest first.
     ghost lines_of: { Self → List LineValue };

@@ -1,4 +1,4 @@
-//! The lines of chats as text (docs/FORMATS.md, "The chat's lines").
+//! The lines of chats as text (docs/RECEIVERS.md, "The chat's lines").
 
 ghost use Rattle.std.specs.Prelude.{◌≡◌, ◌++◌, ◌∷◌, OnOk, drop};
 ghost use Rattle.vsync_text.specs.TraceText.{GoesOnFrom};

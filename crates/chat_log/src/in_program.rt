@@ -4,9 +4,9 @@ use crate::chat_lines::put_chat;
 use crate::{ChatSize, LastLines};
 use address::{Address, ViewId};
 use application::Application;
+use owned_bytes::Bytes;
 use script_reader::{AsWritten, Payloads, Unheard};
 use std::alloc::{AllocError, Global};
-use trace_props::Bytes;
 use view::View;
 
 impl<L: ChatSize> Payloads for LastLines<L> {

@@ -1,5 +1,5 @@
 //! A replicated chat: its state is the last lines that were said, and all copies that were given the same have the
-//! same lines (docs/FORMATS.md, "The chat's state").
+//! same lines (docs/RECEIVERS.md, "The chat's state").
 #![tactic(auto)]
 
 mod chat;
@@ -18,8 +18,8 @@ pub use lines::Line;
 pub use log::{ChatLog, LastLines, LongChat};
 pub use size::{ChatSize, Long, Short};
 
-/// The most lines that a chat keeps (docs/FORMATS.md, "The chat's state").
+/// The most lines that a chat keeps (docs/RECEIVERS.md, "The chat's state").
 pub const LINES: usize = 24;
 
-/// The most lines that a long chat keeps (docs/FORMATS.md, "The chat's state").
+/// The most lines that a long chat keeps (docs/RECEIVERS.md, "The chat's state").
 pub const LONG_LINES: usize = 2_000;

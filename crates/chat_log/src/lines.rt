@@ -2,11 +2,11 @@ ghost use Rattle.std.specs.Prelude.{◌≡◌, ◌++◌, ◌∷◌, [], OnOk, On
 ghost use Rattle.chat_log.specs.Chat.{said};
 
 use address::Address;
+use owned_bytes::Bytes;
 use std::alloc::AllocError;
 use std::collections::VecDeque;
-use trace_props::Bytes;
 
-/// A line of the chat: who said it, and what, at most `PAYLOAD` bytes (docs/FORMATS.md, "The chat's state").
+/// A line of the chat: who said it, and what, at most `PAYLOAD` bytes (docs/RECEIVERS.md, "The chat's state").
 #[derive(Debug, Drop)]
 pub struct Line {
     /// Who said it.

@@ -20,11 +20,11 @@ use view::View;
 pub type ChatLog = LastLines<Short>;
 
 /// The long chat: the last 2,000 lines that were said (`LONG_LINES`). Its state has at most 1,040,002 bytes
-/// (docs/FORMATS.md, "The chat's state").
+/// (docs/RECEIVERS.md, "The chat's state").
 pub type LongChat = LastLines<Long>;
 
 /// A copy of a chat: the last lines that were said, at most as many as its size says, the oldest first. Contracts see it
-/// as that list (docs/FORMATS.md, "The chat's state").
+/// as that list (docs/RECEIVERS.md, "The chat's state").
 #[derive(Debug, Drop)]
 pub struct LastLines<L: ChatSize> {
     lines: VecDeque<Line>,

@@ -5,7 +5,7 @@ ghost use Rattle.chat_log.specs.declared.TheConstants as constants;
 
 use std::fmt::Debug;
 
-/// How many lines a chat keeps, and how wide their number is written (docs/FORMATS.md, "The chat's state"). The longest
+/// How many lines a chat keeps, and how wide their number is written (docs/RECEIVERS.md, "The chat's state"). The longest
 /// state of a chat of this size has at most `STATE` bytes (`limits`).
 pub trait ChatSize: Drop {
     /// The most lines that a chat keeps; their number fits into `WIDTH` bytes.

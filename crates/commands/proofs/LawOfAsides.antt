@@ -26,7 +26,7 @@ use Rattle.trace_drawing.specs.declared.aside.AsideKind.TheVariants.{HandedOver}
 use Rattle.trace_drawing.specs.Promises.{AreInOrder}
 use Rattle.commands.specs.Asides.{aside_at, refused_by, refused_at, refused_of, site_of, handed_over, put_out_number, put_out_behind, put_out_at, refused_between, put_out_between, asides_between, line_at, HasAsides}
 use Rattle.commands.specs.Asides.HasAsides.{Nothing, Next}
-use Rattle.commands.proofs.FactOfStateLines.{range-split}
+use Rattle.commands.proofs.StateLinesFollow.{range-split}
 
 -- LISTS IN ORDER
 

@@ -1,8 +1,8 @@
-pub mod FactOfRuns
+pub mod RunsPrint
 pub mod SettledRuns
-pub mod FactOfStateLines
-pub mod FactOfVerdicts
-pub mod FactOfDrawings
-pub mod FactOfProcesses
-pub mod FactOfAsides
+pub mod StateLinesFollow
+pub mod ChecksEnd
+pub mod DrawingsEnd
+pub mod ProcessesWrite
+pub mod AsidesGrow
 pub mod LawOfAsides

@@ -3,7 +3,7 @@ use Rattle.std.proofs.Common.{◌≡◌, ℕ, Bool, true, false, List, ◌++◌,
 use Rattle.std.proofs.lemmas.List.{take-append-drop}
 use Rattle.state_transfer.specs.Meanings.{Meaning}
 use Rattle.trace_props.specs.Places.{IsBeginningOf}
-use Rattle.trace_props.proofs.FactOfPlaces.{IsBeginningOf-same, IsBeginningOf-grow}
+use Rattle.trace_props.proofs.RulesAlongLists.{IsBeginningOf-same, IsBeginningOf-grow}
 use Rattle.world_model.specs.declared.WorldEvent.{WorldEvent}
 use Rattle.world_model.specs.Histories.{History}
 use Rattle.world_step.specs.Worlds.{WorldModel, no_world, IsLonger}
@@ -15,7 +15,7 @@ use Rattle.endings.specs.Outcomes.{Ends, IsLinesText, Written, memory_line}
 use Rattle.endings.specs.Outcomes.IsLinesText.{Printed, Unprinted}
 use Rattle.commands.specs.Settled.{KeepsRules, RunsAndSettles, RunsInPart, padded, IsSettledText}
 use Rattle.commands.specs.Settled.IsSettledText.{All, Part}
-use Rattle.endings.proofs.FactOfTexts.{written-as}
+use Rattle.endings.proofs.TextsFollow.{written-as}
 
 -- ---- longer histories
 

@@ -5,7 +5,7 @@ ghost use Rattle.std.specs.Option.{option_copied};
 ghost use Rattle.std.specs.List.{cons_option};
 ghost use Rattle.trace_props.specs.Places.{EachPlace};
 ghost use Rattle.trace_props.specs.Synchrony.{IsWellOrdered, IsVirtuallySynchronous};
-ghost use Rattle.replicas.specs.Replicas.{ReplicasAgree};
+ghost use Rattle.law_copies.specs.Replicas.{ReplicasAgree};
 ghost use Rattle.world_model.specs.Faithful.{IsFaithful};
 ghost use Rattle.world_model.specs.Packets.{destination_of};
 ghost use Rattle.world_step.specs.Worlds.{shown, no_world, WorldStep};
@@ -13,11 +13,11 @@ ghost use Rattle.commands.specs.Asides.{aside_at, refused_by, refused_at, refuse
 
 use address::{Address, Node};
 use limits::Refusal;
+use owned_bytes::Bytes;
 use state_transfer::Receiver;
 use std::alloc::{AllocError, Global};
 use std::slice;
 use trace_drawing::{Aside, AsideKind};
-use trace_props::Bytes;
 use wire::decode;
 use world::World;
 use world_model::{Answer, Reply, Target, WorldEvent};

@@ -55,7 +55,7 @@ fn judge<R: Receiver, W: Write>(alloc: Global, trace: &Trace, writer: &mut W) ->
 
 /// Checks the text of a trace from a reader, for receivers that are `R`, and writes to a writer whether it is virtually
 /// synchronous: `holds`, or `broken RULE PLACE` with the rule that breaks first and the length of the shortest beginning that breaks
-/// one; or the text's first fault (docs/FORMATS.md, "Checking a trace"). Answers the exit status.
+/// one; or the text's first fault (docs/CLI.md, "Checking a trace"). Answers the exit status.
 pub fn run_check<R: Receiver, I: Read, W: Write>(
     alloc: Global,
     reader: &mut I,

@@ -7,13 +7,14 @@ ghost use Rattle.commands.specs.Draws.{IsPictureText, IsRefusalText, IsDrawingTe
 
 use crate::asides::play_events;
 use endings::{Status, Unreadable, end_with, read_all};
+use owned_bytes::Bytes;
 use script_reader::{Fault, Script, Unread, read_script};
 use state_transfer::Receiver;
 use std::alloc::Global;
 use std::io::{Read, Write};
 use trace_checker::check;
 use trace_drawing::{Aside, draw};
-use trace_props::{Bytes, Event, Trace, Verdict};
+use trace_props::{Event, Trace, Verdict};
 use trace_reader::read_trace;
 use world::World;
 

@@ -54,7 +54,7 @@ fn told_of_trace(alloc: Global, text: &[u8]) -> Result<Vec<u8>, AllocError>
 }
 
 /// Reads the text of a process as `read_trace` reads that of a trace, but that the line of a member's state (`chat`, `map` or `locks`, an address, and more)
-/// is passed over, and counted (docs/FORMATS.md, "Texts of several processes").
+/// is passed over, and counted (docs/CLI.md, "Texts of several processes").
 ///
 /// # Errors
 ///

@@ -68,7 +68,7 @@ fn play_states<A: Application, W: Write>(alloc: Global, script: &Script, writer:
 }
 
 /// Runs a script from a reader in a world whose receivers are `A`, and writes to a writer the line of each member that runs then, by node: the
-/// chat's, the map's or the locks' (docs/FORMATS.md, "The chat's lines", "The map's lines", "The locks' lines"); or the script's first fault. What is
+/// chat's, the map's or the locks' (docs/RECEIVERS.md, "The chat's lines", "The map's lines", "The locks' lines"); or the script's first fault. What is
 /// printed are states of the trace, which agree wherever members have delivered as much of a view. Answers the exit status.
 ///
 /// Where memory is refused outside a member's step, it writes the lines so far and `# memory`; none, if the script was not run

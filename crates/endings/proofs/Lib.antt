@@ -1,1 +1,1 @@
-pub mod FactOfTexts
+pub mod TextsFollow

@@ -1,7 +1,7 @@
 ghost use Rattle.std.specs.Prelude.{◌≡◌};
 ghost use Rattle.endings.specs.Outcomes.{status_code};
 
-/// How a command ended (docs/FORMATS.md, "Exit statuses").
+/// How a command ended (docs/CLI.md, "Exit statuses").
 #[derive(Clone, Copy, Debug, PartialEq, Eq)]
 pub enum Status {
     /// 0: it is done.

@@ -13,7 +13,7 @@ use wire_values::WireError;
 /// What `vsync explain` explains. Each topic has a code: a number that calls answer and commands print, or a word that `vsync check` prints.
 #[derive(Clone, Copy, Debug, PartialEq, Eq)]
 pub enum Topic {
-    /// 1 to 9: a call or an input is refused (docs/FORMATS.md, "Refusals").
+    /// 1 to 9: a call or an input is refused (docs/CLI.md, "Refusals").
     Refusal(Refusal),
     /// 20 to 26: bytes are no packet (docs/WIRE.md).
     Packet(WireError),
@@ -29,7 +29,7 @@ pub enum Topic {
     Receive,
     /// D5 to D12: a trace breaks a rule (docs/GUARANTEES.md, "What check prints").
     Rule(Rule),
-    /// `unordered`: the texts of processes have no order (docs/FORMATS.md, "Texts of several processes").
+    /// `unordered`: the texts of processes have no order (docs/CLI.md, "Texts of several processes").
     Unordered,
 }
 

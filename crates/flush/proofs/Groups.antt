@@ -9,7 +9,7 @@ use Rattle.wire_values.specs.Values.{Report}
 use Rattle.wire_values.specs.Lists.{is_report}
 use Rattle.flush.specs.Flushes.{report_from, has_reported, comes_from, group}
 use Rattle.flush.specs.Covers.{EachReport, HasReporter, GroupsAreReported}
-use Rattle.flush.proofs.FactOfOwnedReports.{reporter-stands}
+use Rattle.flush.proofs.ReportsKept.{reporter-stands}
 use Rattle.address.proofs.SameIds.{same_address-refl, same_address-true}
 
 -- a report that stands behind another one is still the one that its address sent

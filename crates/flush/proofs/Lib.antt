@@ -1,6 +1,6 @@
 pub mod Covers
 pub mod Groups
-pub mod FactOfOwnedReports
+pub mod ReportsKept
 pub mod Reports
 pub mod CutItems
 pub mod FewItems

@@ -6,7 +6,7 @@ use Rattle.std.specs.Cmp.Lexicographic.{pointwise, same_text}
 use Rattle.std.proofs.lemmas.Bool.{eq-eqb, eqb-true}
 use Rattle.std.proofs.lemmas.List.{append-nil, append_cancel_left}
 use Rattle.std.proofs.lemmas.List.Elements.{filter_map-append}
-use Rattle.trace_props.proofs.FactOfPlaces.{slice_get-before, slice_get-last}
+use Rattle.trace_props.proofs.RulesAlongLists.{slice_get-before, slice_get-last}
 use Rattle.udp_net.specs.declared.error.Fault.{Fault}
 use Rattle.udp_net.specs.Logs.{Log, NetEvent, Answered, Offered, answer_of}
 use Rattle.frames.specs.declared.longs.Long.{Long}

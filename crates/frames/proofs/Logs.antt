@@ -7,7 +7,7 @@ use Rattle.udp_net.specs.Logs.{Log, NetEvent, Answered, Lists, listing, receivin
 use Rattle.udp_net.specs.declared.net.Received.TheVariants as received
 use Rattle.frames.specs.Nets.{Grows}
 use Rattle.frames.specs.Arrivals.{GivenIn}
-use Rattle.trace_props.proofs.FactOfPlaces.{slice_get-take, slice_get-last}
+use Rattle.trace_props.proofs.RulesAlongLists.{slice_get-take, slice_get-last}
 
 pub grows-none : (log : Option Log) → Grows log log
 grows-none None = tt

@@ -4,8 +4,8 @@ ghost use Rattle.std.specs.Prelude.{◌≡◌, ◌≤◌, ℕ, List, [], IfNone,
 ghost use Rattle.frames.specs.Longs.{AreKnown, HasNumber, IsNumbered, number_for, number_in};
 
 use crate::KEPT_LONGS;
+use owned_bytes::Bytes;
 use std::alloc::{AllocError, Global};
-use trace_props::Bytes;
 
 /// A long packet that went to a node, and its number.
 #[derive(Drop)]

@@ -10,10 +10,10 @@ ghost use Rattle.frames.specs.Openers.{AreParts, ComesIn, IsPartOf, IsPartialOf}
 use crate::{BOOT, MOST_PARTIALS, MOST_PIECES, PIECE_HEAD};
 use big_endian::{put, put_u16, put_u64};
 use byteorder::{BigEndian, ByteOrder};
+use owned_bytes::Bytes;
 use std::alloc::{AllocError, Global};
 use std::collections::VecDeque;
 use std::marker::Model;
-use trace_props::Bytes;
 
 /// A piece: the number of its packet, which one of how many it is, and its bytes.
 #[derive(Drop)]

@@ -2,10 +2,9 @@
 
 use crate::EVENTS;
 use address::{Address, ViewId};
+use owned_bytes::Bytes;
 use std::alloc::{AllocError, Global};
-use trace_props::{
-    BoxedInstall, Bytes, Delivery, Event, HandedBack, Install, Message, Numbered, Sending,
-};
+use trace_props::{BoxedInstall, Delivery, Event, HandedBack, Install, Message, Numbered, Sending};
 use view::View;
 use vsync_text::{append_event, put, put_number, put_view_id};
 

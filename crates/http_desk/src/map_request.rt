@@ -44,7 +44,7 @@ fn put_field(line: &mut Vec<u8>, bytes: &[u8]) -> Result<(), AllocError> {
     line.extend_from_slice(bytes)
 }
 
-/// The line that says a command (docs/FORMATS.md, "The map's lines").
+/// The line that says a command (docs/RECEIVERS.md, "The map's lines").
 pub(crate) fn line_of(alloc: Global, command: &Command<'_>) -> Result<Vec<u8>, AllocError> {
     let mut line = Vec::new(alloc);
     match command {

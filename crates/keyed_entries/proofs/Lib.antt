@@ -1,2 +1,2 @@
-pub mod FactOfPlaces
-pub mod FactOfLookUps
+pub mod KeysHavePlaces
+pub mod LookUpsFind

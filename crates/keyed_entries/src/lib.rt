@@ -10,8 +10,8 @@ mod keys;
 mod words;
 
 pub use keys::{KeyBytes, key_from, put_key};
+use owned_bytes::Bytes;
 use std::cmp::Ordering;
-use trace_props::Bytes;
 pub use words::{key_field, last_key};
 
 /// The longest key, in bytes; the shortest has one.

@@ -5,11 +5,11 @@ ghost use Rattle.keyed_state.specs.States.{are_up_to, entry_at, state_at, state_
 use crate::Kept;
 use keyed_entries::{Entry, is_rising, key_from};
 use limits::STATE;
+use owned_bytes::Bytes;
 use reading::Reader;
 use std::alloc::{AllocError, Global};
 use std::cmp::Ordering;
 use tokens::{Token, token_from};
-use trace_props::Bytes;
 
 /// The last token that was given, and the entries, their keys rising.
 #[derive(Debug, Drop)]

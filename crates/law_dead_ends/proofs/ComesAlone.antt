@@ -10,26 +10,26 @@ use Rattle.address.specs.Ids.{Address, ViewId, same_address}
 use Rattle.address.proofs.SameIds.{same_address-refl, same_address-true}
 use Rattle.limits.specs.declared.TheConstants.{GREATEST_NUMBER}
 use Rattle.view.specs.Members.{View, stands_in}
-use Rattle.view.proofs.FactOfMembers.{coordinator-in}
+use Rattle.view.proofs.MembersListed.{coordinator-in}
 use Rattle.state_transfer.specs.Meanings.{Meaning}
 use Rattle.suspicion.specs.Suspicion.{leads, suspected_too}
-use Rattle.next_view.specs.Notes.{NotesModel, suspecting, settled}
+use Rattle.next_view.specs.ViewNotes.{NotesModel, suspecting, settled}
 use Rattle.next_view.specs.Candidates.{candidates, is_changed, is_broken, is_abandoned}
 use Rattle.flush.specs.Flushes.{FlushModel, has_reported}
 use Rattle.view_install.specs.Promises.{PromiseModel}
-use Rattle.acts.specs.Acts.{others_of, proposed}
-use Rattle.acts.specs.Cores.{Core}
-use Rattle.decisions.specs.Decisions.{due_proposal, due_at, is_due, promised_counter, proposal_after}
-use Rattle.decisions.proofs.FactOfProposal.{next-means}
+use Rattle.law_acts.specs.Acts.{others_of, proposed}
+use Rattle.law_acts.specs.Cores.{Core}
+use Rattle.law_choices.specs.Decisions.{due_proposal, due_at, is_due, promised_counter, proposal_after}
+use Rattle.law_choices.proofs.ProposalsAreViews.{next-means}
 use Rattle.step_output.specs.declared.output.Output.{Output}
 use Rattle.step_output.specs.Steps.{Who, who}
 use Rattle.traffic.specs.declared.view_state.ViewState.{ViewState}
-use Rattle.traffic.proofs.FactOfNewView.{fresh-view}
+use Rattle.traffic.proofs.NewViewTraffic.{fresh-view}
 use Rattle.membership.specs.declared.member_state.MemberState.{MemberState}
 use Rattle.membership.specs.MemberStates.{core_of as core_at, view_in, report_in, begun_with, is_complete, IsMemberState}
 use Rattle.membership.specs.InSteps.{InStep, in_step}
 use Rattle.membership.specs.Changes.{StaysAs, Begins, FinishesAndProposes, BeginsAndGoesOn, Regroups, TakesSuspicion}
-use Rattle.membership.proofs.FactOfProposed as proposals
+use Rattle.membership.proofs.ProposalsLead as proposals
 use Rattle.membership.proofs.KeepMemberState as lives
 use Rattle.membership.proofs.KeepNotes as notes
 use Rattle.member_views.specs.Views.{is_suspectable, has_member, has_promised}
@@ -38,8 +38,8 @@ use Rattle.member.specs.Members.{MemberModel, core_of}
 use Rattle.member.specs.Doing.{DoesAt}
 use Rattle.member.specs.Handling.{Handled, is_quiet}
 use Rattle.law_dead_ends.specs.DeadEnds.{ComesAlone, Stands, Suspects, counter_of}
-use Rattle.law_dead_ends.proofs.FactOfCandidates.{Other, OthersSuspected, IsCandidate, alone-or-other, alone-same, any-passing, candidate-means, find-failing, leads-all, pointwise-stands, stands-then, stands-behind}
-use Rattle.law_dead_ends.proofs.FactOfCounts.{noted, suspecting-noted, suspecting-fewer, settled-noted, noted-none, next-is, next-there}
+use Rattle.law_dead_ends.proofs.CandidatesAlone.{Other, OthersSuspected, IsCandidate, alone-or-other, alone-same, any-passing, candidate-means, find-failing, leads-all, pointwise-stands, stands-then, stands-behind}
+use Rattle.law_dead_ends.proofs.CountersGo.{noted, suspecting-noted, suspecting-fewer, settled-noted, noted-none, next-is, next-there}
 use Rattle.law_dead_ends.proofs.KeepFlushes.{Waits, begun-alone, suspects-waits}
 
 -- an address that is suspected is among the suspects

@@ -9,10 +9,10 @@ use Rattle.address.specs.Ids.{Address, ViewId, same_address, same_view_id}
 use Rattle.address.proofs.SameIds.{same_address-refl}
 use Rattle.view.specs.Members.{View, stands_in}
 use Rattle.view.specs.View.{view_refusal}
-use Rattle.view.proofs.FactOfMembers.{all-by}
+use Rattle.view.proofs.MembersListed.{all-by}
 use Rattle.state_transfer.specs.Meanings.{Meaning}
 use Rattle.suspicion.specs.Suspicion.{leads}
-use Rattle.next_view.specs.Notes.{NotesModel, is_later, suspecting, having_heard}
+use Rattle.next_view.specs.ViewNotes.{NotesModel, is_later, suspecting, having_heard}
 use Rattle.next_view.specs.Candidates.{candidates, is_changed}
 use Rattle.wire_values.specs.Values as wire
 use Rattle.wire_values.specs.declared.packet.Body.{Body}
@@ -21,20 +21,20 @@ use Rattle.flush.specs.Flushes.{FlushModel, has_reported, is_awaited}
 use Rattle.view_install.specs.Promises.{PromiseModel, offered}
 use Rattle.view_install.specs.declared.promise.OfferAnswer.{OfferAnswer}
 use Rattle.view_install.specs.declared.promise.OfferAnswer.TheVariants.{Accept, Behind, Ignore}
-use Rattle.acts.specs.Acts.{others_of, proposed}
-use Rattle.acts.specs.Cores.{Core}
-use Rattle.acts.specs.Histories.{Posted}
-use Rattle.decisions.specs.Decisions.{is_readable, due_proposal, due_at, regroups_in, is_due, proposal_after}
-use Rattle.decisions.proofs.FactOfProposal.{next-means}
+use Rattle.law_acts.specs.Acts.{others_of, proposed}
+use Rattle.law_acts.specs.Cores.{Core}
+use Rattle.law_acts.specs.Histories.{Posted}
+use Rattle.law_choices.specs.Decisions.{is_readable, due_proposal, due_at, regroups_in, is_due, proposal_after}
+use Rattle.law_choices.proofs.ProposalsAreViews.{next-means}
 use Rattle.step_output.specs.Steps.{Who}
 use Rattle.traffic.specs.declared.view_state.ViewState.{ViewState}
-use Rattle.traffic.proofs.FactOfNewView.{fresh-view}
+use Rattle.traffic.proofs.NewViewTraffic.{fresh-view}
 use Rattle.membership.specs.declared.member_state.MemberState.{MemberState}
 use Rattle.membership.specs.MemberStates.{core_of, view_in, report_in, begun_with, recording, is_complete, anew_proposal, would_hold, IsMemberState, IsFlushing}
 use Rattle.membership.specs.InSteps.{InStep, in_step}
 use Rattle.membership.specs.Changes.{StaysAs, TakesBy, TakesFlush, Begins, FinishesAndProposes, GoesOn, BeginsAndGoesOn, Regroups, TakesReport, TakesBehind, TakesSuspicion, TakesInstall, TakesChunk, Enters, would_enter}
-use Rattle.membership.proofs.FactOfProposed as proposals
-use Rattle.membership.proofs.FactOfProposed.{IsProposal}
+use Rattle.membership.proofs.ProposalsLead as proposals
+use Rattle.membership.proofs.ProposalsLead.{IsProposal}
 use Rattle.membership.proofs.KeepMemberState as lives
 use Rattle.membership.proofs.KeepNotes as notes
 use Rattle.state_chunks.specs.HeldChunks.{given_in}
@@ -46,7 +46,7 @@ use Rattle.member.specs.Hearing.{FollowsRule}
 use Rattle.member.specs.Doing.{DoesBy}
 use Rattle.member.specs.declared.input.Input.{Input}
 use Rattle.member.specs.declared.input.Input.TheVariants.{Create, Join, Send, Datagram, Tick, Suspect, MergeHint, Leave}
-use Rattle.law_dead_ends.proofs.FactOfCandidates.{Other, alone-or-other, only-me, other-candidate, candidate-latest}
+use Rattle.law_dead_ends.proofs.CandidatesAlone.{Other, alone-or-other, only-me, other-candidate, candidate-latest}
 
 -- ---- a flush that begins
 

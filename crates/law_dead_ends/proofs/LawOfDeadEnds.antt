@@ -7,14 +7,14 @@ use Rattle.address.specs.Ids.{Address, same_address}
 use Rattle.address.proofs.SameIds.{same_address-true}
 use Rattle.limits.specs.declared.refusal.Refusal.TheVariants.{Closed}
 use Rattle.view.specs.Members.{View, stands_in}
-use Rattle.view.proofs.FactOfMembers.{coordinator-in}
+use Rattle.view.proofs.MembersListed.{coordinator-in}
 use Rattle.state_transfer.specs.Meanings.{Meaning}
-use Rattle.acts.specs.Cores.{Core, idle}
-use Rattle.acts.specs.Histories.{History}
-use Rattle.agreement.proofs.KeepBySteps as agree
-use Rattle.agreement.proofs.FactOfRegisters.{flush-stands}
-use Rattle.agreement.specs.Members.{MemberFact}
-use Rattle.agreement.specs.Packets.{PacketFact, BodyFact}
+use Rattle.law_acts.specs.Cores.{Core, idle}
+use Rattle.law_acts.specs.Histories.{History}
+use Rattle.law_agreement.proofs.KeepBySteps as agree
+use Rattle.law_agreement.proofs.RegistersHoldPackets.{flush-stands}
+use Rattle.law_agreement.specs.Members.{MemberFact}
+use Rattle.law_agreement.specs.Packets.{PacketFact, BodyFact}
 use Rattle.step_output.specs.declared.output.Output.{Output}
 use Rattle.step_output.specs.Steps.{Who, who}
 use Rattle.membership.specs.declared.member_state.MemberState.{MemberState}
@@ -27,11 +27,11 @@ use Rattle.member.specs.Members.{MemberModel, core_of, came_at, refusal_of, is_u
 use Rattle.member.specs.Errors.{is_memory}
 use Rattle.member.specs.Doing.{DoesAt}
 use Rattle.member.specs.Handling.{Handled}
-use Rattle.deployment.specs.Deployments.{Step, Start, Call, Crash, Deployment, nothing_yet, with_member, running_on, after, after_steps, EachStep, DoesSo, IsNew, IsPlayed}
-use Rattle.deployment.proofs.KeepBySteps.{IsDeployment, memory-is, system_of}
-use Rattle.deployment.proofs.FactOfPlayed.{played-keeps}
+use Rattle.law_processes.specs.Deployments.{Step, Start, Call, Crash, Deployment, nothing_yet, with_member, running_on, after, after_steps, EachStep, DoesSo, IsNew, IsPlayed}
+use Rattle.law_processes.proofs.KeepBySteps.{IsDeployment, memory-is, system_of}
+use Rattle.law_processes.proofs.DeploymentsGoOn.{played-keeps}
 use Rattle.law_dead_ends.specs.DeadEnds.{NoDeadEnd, ComesAlone, enough}
-use Rattle.law_dead_ends.proofs.FactOfCounts.{noted, noted-is}
+use Rattle.law_dead_ends.proofs.CountersGo.{noted, noted-is}
 use Rattle.law_dead_ends.proofs.KeepFlushes.{Waits, does-waits, none-waits}
 use Rattle.law_dead_ends.proofs.ComesAlone.{Sound, members-come}
 

@@ -1,5 +1,5 @@
-mod FactOfCandidates
-mod FactOfCounts
+mod CandidatesAlone
+mod CountersGo
 mod KeepFlushes
 mod ComesAlone
 mod LawOfDeadEnds

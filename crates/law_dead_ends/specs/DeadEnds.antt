@@ -5,8 +5,8 @@ use Rattle.address.specs.Ids.{Address}
 use Rattle.limits.specs.declared.TheConstants.{GREATEST_NUMBER}
 use Rattle.view.specs.Members.{View}
 use Rattle.state_transfer.specs.Meanings.{Meaning}
-use Rattle.acts.specs.Acts.{others_of}
-use Rattle.decisions.specs.Decisions.{promised_counter}
+use Rattle.law_acts.specs.Acts.{others_of}
+use Rattle.law_choices.specs.Decisions.{promised_counter}
 use Rattle.step_output.specs.declared.output.Output.{Output}
 use Rattle.membership.specs.declared.member_state.MemberState.{MemberState}
 use Rattle.membership.specs.MemberStates.{view_in}
@@ -14,7 +14,7 @@ use Rattle.member.specs.declared.input.Input.TheVariants.{Suspect}
 use Rattle.member_views.specs.Views.{is_suspectable}
 use Rattle.member.specs.Members.{MemberModel}
 use Rattle.member.specs.Handling.{Handled}
-use Rattle.deployment.specs.Deployments.{Deployment, IsPlayed}
+use Rattle.law_processes.specs.Deployments.{Deployment, IsPlayed}
 
 -- a member stands alone: it runs, nobody else is in its view, and it is not blocked
 pub record StandsAlone {S : Type 0} (m : MemberModel S) : Type 0 where

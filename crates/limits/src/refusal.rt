@@ -1,7 +1,7 @@
 ghost use Rattle.std.specs.Prelude.{◌≡◌};
 ghost use Rattle.limits.specs.Refusals.{number_of};
 
-/// Why a call or an input is refused, for all crates (docs/PROTOCOL.md, "Inputs and refusals"; docs/FORMATS.md, "Refusals"). After 6 and 7 the member or
+/// Why a call or an input is refused, for all crates (docs/PROTOCOL.md, "Inputs and refusals"; docs/CLI.md, "Refusals"). After 6 and 7 the member or
 /// channel has ended; after any other it is as before.
 #[derive(Clone, Copy, Debug, PartialEq, Eq, thiserror::Error)]
 pub enum Refusal {

@@ -1,6 +1,6 @@
-pub mod FactOfTokenViews
-pub mod FactOfTables
-pub mod FactOfAcross
-pub mod FactOfFencing
-pub mod FactOfGuards
-pub mod FactOfStamped
+pub mod TokensStayInViews
+pub mod TablesDelivered
+pub mod TokensAcrossViews
+pub mod TokensRiseInViews
+pub mod GuardsRise
+pub mod CommandsAreStamped

@@ -1,4 +1,4 @@
--- Fencing: each token is granted once, also on two sides of a partition (docs/FORMATS.md, "The table of locks").
+-- Fencing: each token is granted once, also on two sides of a partition (docs/RECEIVERS.md, "The table of locks").
 use Rattle.std.specs.Prelude.{◌≡◌, ◌⊎◌, ◌<◌, ℕ, List, length, take, slice_get, None, Some}
 use Rattle.address.specs.Ids.{ViewId}
 use Rattle.trace_props.specs.declared.event.Event.{Event}

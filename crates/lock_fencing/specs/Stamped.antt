@@ -1,11 +1,11 @@
--- What happens in a deployment of members that keep the table, where each of them stamps what it sends with its view (docs/FORMATS.md, "The table of locks").
+-- What happens in a deployment of members that keep the table, where each of them stamps what it sends with its view (docs/RECEIVERS.md, "The table of locks").
 use Rattle.std.specs.Prelude.{◌≡◌, ◌⊎◌, ◌≤◌, ℕ, List, Some, Ok}
 use Rattle.address.specs.Ids.{ViewId, IsAddress}
 use Rattle.limits.specs.declared.TheConstants.{GREATEST_NUMBER}
 use Rattle.view.specs.Members.{View}
 use Rattle.trace_props.specs.declared.event.Event.{Event}
-use Rattle.deployment.specs.Deployments.{Step, Deployment, EachStep, IsHistory, nothing_yet, trace_of}
-use Rattle.deployment.specs.Said.{AreSaid, SaysOnly}
+use Rattle.law_processes.specs.Deployments.{Step, Deployment, EachStep, IsHistory, nothing_yet, trace_of}
+use Rattle.law_processes.specs.Said.{AreSaid, SaysOnly}
 use Rattle.lock_table.specs.declared.command.Command.{Command}
 use Rattle.lock_table.specs.Locks.{Table, view_of}
 use Rattle.lock_table.specs.declared.command.Command.TheVariants.{Roll}

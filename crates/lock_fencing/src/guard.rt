@@ -7,7 +7,7 @@ use lock_table::Token;
 use std::cmp::Ordering;
 use std::marker::Model;
 
-/// Keeps the greatest token that it served, and refuses each lower one (docs/FORMATS.md, "The table of locks"). Contracts see it as that token; `None` before the first.
+/// Keeps the greatest token that it served, and refuses each lower one (docs/RECEIVERS.md, "The table of locks"). Contracts see it as that token; `None` before the first.
 /// A server of a locked resource has one guard for each resource, and asks it at each request.
 #[derive(Debug, Drop)]
 pub struct Guard {

@@ -2,7 +2,7 @@ ghost use Rattle.lock_fencing.specs.Fencing.{Fenced, FencedInViews, TokensOfView
 ghost use Rattle.lock_fencing.specs.Guards.{NeverBack, NoneBelow, NoneOlder, RefusesBelow};
 ghost use Rattle.lock_fencing.specs.Stamped.{DeploymentsAreOfTables, SaidSpell, StampedSpell};
 
-use deployment::deployments_are_synchronous;
+use law_processes::deployments_are_synchronous;
 use lock_table::{LockTable, stamps_spell};
 
 /// The law of fencing. In a virtually synchronous trace of members that keep the table, two grants in one view with one token are one: of the same lock, to the same holder.

@@ -1,4 +1,4 @@
-//! Fencing: what virtual synchrony makes of the tokens of a table of locks, and a guard that checks them (docs/FORMATS.md, "The table of locks").
+//! Fencing: what virtual synchrony makes of the tokens of a table of locks, and a guard that checks them (docs/RECEIVERS.md, "The table of locks").
 #![tactic(auto)]
 
 mod guard;

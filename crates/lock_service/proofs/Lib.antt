@@ -1,3 +1,3 @@
-pub mod FactOfEvents
-pub mod FactOfGrants
-pub mod FactOfQueue
+pub mod EventsServed
+pub mod GrantsWereAsked
+pub mod WaitersAreKept

@@ -8,9 +8,9 @@ use crate::standing::is_waiting;
 use crate::{Standing, standing_of};
 use address::{Address, ViewId};
 use lock_table::{LockTable, Token};
+use owned_bytes::Bytes;
 use std::alloc::{AllocError, Global};
 use tickets::Waiting;
-use trace_props::Bytes;
 
 /// What became of a request for a lock.
 #[derive(Clone, Copy, Debug, Drop)]

@@ -8,8 +8,8 @@ use crate::standing::is_waiting;
 use crate::{Answer, Fate, Queued, Standing, standing_of};
 use address::{Address, ViewId};
 use lock_table::{Command, LockTable};
+use owned_bytes::Bytes;
 use std::alloc::{AllocError, Global};
-use trace_props::Bytes;
 
 // What an own message comes to, as far as the table right before it says so.
 #[derive(Debug, Drop)]

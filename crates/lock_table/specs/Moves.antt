@@ -1,4 +1,4 @@
--- What a command does if the state has room and numbers are left (docs/FORMATS.md, "The commands of the table of locks").
+-- What a command does if the state has room and numbers are left (docs/RECEIVERS.md, "The commands of the table of locks").
 use Rattle.std.specs.Prelude.{◌≡◌, ◌+◌, ◌≤◌, ℕ, List, Some, None, true, false, length}
 use Rattle.std.specs.List.{filter}
 use Rattle.address.specs.Ids.{ViewId, same_address}

@@ -1,4 +1,4 @@
--- What is stamped with a view spells it (docs/FORMATS.md, "The table of locks").
+-- What is stamped with a view spells it (docs/RECEIVERS.md, "The table of locks").
 use Rattle.std.specs.Prelude.{◌≡◌, ℕ, List, Some, Ok}
 use Rattle.address.specs.Ids.{ViewId}
 use Rattle.view.specs.Members.{View}

@@ -14,7 +14,7 @@ use reading::Reader;
 use std::alloc::{AllocError, Global};
 use view::View;
 
-/// What a message asks of the table (docs/FORMATS.md, "The commands of the table of locks").
+/// What a message asks of the table (docs/RECEIVERS.md, "The commands of the table of locks").
 #[derive(Debug, Drop)]
 pub enum Command<'a> {
     /// Its sender asks for the lock of this name: it holds it, or waits.
@@ -63,7 +63,7 @@ impl<'a> Command<'a> {
     }
 
     /// The same command, stamped anew with the view in which it is sent: so a command that was handed back is sent again. `None` for a roll of another view: that one has a
-    /// coordinator of its own, who rolls it (docs/FORMATS.md, "The commands of the table of locks").
+    /// coordinator of its own, who rolls it (docs/RECEIVERS.md, "The commands of the table of locks").
     pub fn in_view(self, view: ViewId) -> Option<Command<'a>>
         ensures gives { result ≡ in_view view self.entry }
         ensures spells { IfSome result (λ c. view_of c ≡ view) }

@@ -12,9 +12,9 @@ use address::{Address, ViewId};
 use keyed_entries::{Entry, KeyBytes, Place, find};
 use keyed_state::size_of_all;
 use limits::STATE;
+use owned_bytes::Bytes;
 use std::alloc::{AllocError, Global};
 use tokens::known_view_id;
-use trace_props::Bytes;
 use view::View;
 
 // The last token that was granted, and the locks that are held, their names rising.

@@ -10,9 +10,9 @@ use crate::words::{command_said, command_said_in};
 use crate::{Command, LONGEST_COMMAND, LockTable};
 use address::{Address, ViewId};
 use application::Application;
+use owned_bytes::Bytes;
 use script_reader::{Payloads, Unheard};
 use std::alloc::{AllocError, Global};
-use trace_props::Bytes;
 use view::View;
 
 // The spelling of a command.

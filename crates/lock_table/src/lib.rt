@@ -1,5 +1,5 @@
 //! A table of locks: all copies that were given the same commands agree on who holds each lock, who waits for it, and with which token it was granted
-//! (docs/FORMATS.md, "The table of locks").
+//! (docs/RECEIVERS.md, "The table of locks").
 #![tactic(auto)]
 
 mod command;

@@ -1,4 +1,4 @@
-//! The line of a table of locks (docs/FORMATS.md, "The locks' lines").
+//! The line of a table of locks (docs/RECEIVERS.md, "The locks' lines").
 
 ghost use Rattle.std.specs.Prelude.{◌≡◌, ◌++◌, ◌∷◌, OnOk};
 ghost use Rattle.vsync_text.specs.TraceText.{GoesOnFrom, field};

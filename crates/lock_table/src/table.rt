@@ -16,7 +16,7 @@ use std::marker::Model;
 use view::View;
 
 /// A copy of the table of locks. Contracts see it as the last token that was granted, and the locks that are held, their names rising
-/// (docs/FORMATS.md, "The table of locks").
+/// (docs/RECEIVERS.md, "The table of locks").
 #[derive(Debug, Drop)]
 pub struct LockTable {
     held: Held,

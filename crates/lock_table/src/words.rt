@@ -1,4 +1,4 @@
-//! The words of the commands of the table of locks in a script (docs/FORMATS.md, "The locks' lines").
+//! The words of the commands of the table of locks in a script (docs/RECEIVERS.md, "The locks' lines").
 
 ghost use Rattle.std.specs.Prelude.{◌≡◌, Ok, Err, MatchResult};
 ghost use Rattle.std.specs.Option.{option_copied};

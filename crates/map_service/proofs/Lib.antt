@@ -1,3 +1,3 @@
-pub mod FactOfEvents
-pub mod FactOfAnswers
-pub mod FactOfTickets
+pub mod EventsKnown
+pub mod AnswersSayWhat
+pub mod TicketsAreKept

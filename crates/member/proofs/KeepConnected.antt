@@ -3,10 +3,10 @@ use Rattle.std.proofs.Common.{◌≡◌, true, Option, Some, None, List, [], ◌
 use Rattle.std.proofs.lemmas.Option.{none-some, same_Some}
 use Rattle.state_transfer.specs.Meanings.{Meaning}
 use Rattle.trace_props.specs.declared.event.Event.{Event}
-use Rattle.acts.specs.Histories.{Posted}
-use Rattle.acts.specs.Cores.{Core}
-use Rattle.acts.specs.Acts.{Act, Creates, Joins, Puts, Sends, Queues, Orders, TakesAck, Collects, Holds, Delivers, Promises, Begins, Records, Gathers, Finishes, Enters, Leaves, after}
-use Rattle.acts.specs.Chains.{Chain, Acted}
+use Rattle.law_acts.specs.Histories.{Posted}
+use Rattle.law_acts.specs.Cores.{Core}
+use Rattle.law_acts.specs.Acts.{Act, Creates, Joins, Puts, Sends, Queues, Orders, TakesAck, Collects, Holds, Delivers, Promises, Begins, Records, Gathers, Finishes, Enters, Leaves, after}
+use Rattle.law_acts.specs.Chains.{Chain, Acted}
 
 module _ {S : Type 0} (meaning : Meaning S) where
   so : (c d : Core S) (o : Core S) → ◌≡◌ {A = Option (Core S)} (Some o) (Some d) → o.connected ≡ true → d.connected ≡ true

@@ -11,7 +11,7 @@ use Rattle.wire_values.specs.Values as wire
 use Rattle.wire_values.specs.Lists.{is_install, is_in_order}
 use Rattle.traffic.specs.declared.view_state.ViewState.TheVariants as kinds
 use Rattle.traffic.specs.ViewStates.{fresh_coordinator, fresh_follower, fresh_in}
-use Rattle.traffic.proofs.FactOfNewView.{fresh-is-coordinator, fresh-settled-in, fresh-rested, fresh-view}
+use Rattle.traffic.proofs.NewViewTraffic.{fresh-is-coordinator, fresh-settled-in, fresh-rested, fresh-view}
 use Rattle.membership.specs.declared.member_state.MemberState.{MemberState}
 use Rattle.membership.specs.MemberStates.{IsMemberState, view_in}
 use Rattle.member_messages.specs.Ordered.{IsOrderly, IsOrdered}

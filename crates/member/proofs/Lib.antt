@@ -1,5 +1,5 @@
 pub mod KeepOrder
-pub mod FactOfRefusals
+pub mod WhyMembersRefuse
 pub mod KeepConnected
-pub mod FactOfStep
-pub mod FactOfDatagram
+pub mod StepsPromise
+pub mod DatagramsStep

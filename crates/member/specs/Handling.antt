@@ -10,9 +10,9 @@ use Rattle.state_transfer.specs.Meanings.{Meaning}
 use Rattle.trace_props.specs.declared.event.Event.{Event}
 use Rattle.trace_props.specs.declared.event.Event.TheVariants.{Sent, Delivered, Installed, Left}
 use Rattle.trace_props.specs.Recorded.{IsRecordable}
-use Rattle.acts.specs.Histories.{Posted}
-use Rattle.acts.specs.Cores.{Core}
-use Rattle.acts.specs.Chains.{Acted}
+use Rattle.law_acts.specs.Histories.{Posted}
+use Rattle.law_acts.specs.Cores.{Core}
+use Rattle.law_acts.specs.Chains.{Acted}
 use Rattle.step_output.specs.declared.output.Output.{Output}
 use Rattle.step_output.specs.Outputs.{Puts, packet_in, spelled}
 pub use Rattle.step_output.specs.Calm.{is_quiet}

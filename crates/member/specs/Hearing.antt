@@ -6,8 +6,8 @@ use Rattle.wire_values.specs.Values as wire
 use Rattle.wire_values.specs.declared.packet.Body.{Body}
 use Rattle.wire_values.specs.declared.packet.Body.TheVariants as bodies
 use Rattle.state_transfer.specs.Meanings.{Meaning}
-use Rattle.acts.specs.Histories.{Posted}
-use Rattle.decisions.specs.Decisions.{is_readable}
+use Rattle.law_acts.specs.Histories.{Posted}
+use Rattle.law_choices.specs.Decisions.{is_readable}
 use Rattle.membership.specs.declared.member_state.MemberState.{MemberState}
 use Rattle.wire_values.specs.Kinds.{install_said}
 use Rattle.membership.specs.MemberStates.{would_hold}

@@ -8,10 +8,10 @@ use Rattle.wire_values.specs.declared.packet.Packet.{Packet}
 use Rattle.wire_values.specs.Values as wire
 use Rattle.wire.specs.Packets.{packet_of, wire_refusal}
 use Rattle.state_transfer.specs.Meanings.{Meaning}
-use Rattle.acts.specs.Histories.{Posted}
-use Rattle.acts.specs.Cores.{Core}
-use Rattle.acts.specs.Acts.{handed}
-pub use Rattle.decisions.specs.Decisions.{promise_of, is_fitting, is_entry, is_readable}
+use Rattle.law_acts.specs.Histories.{Posted}
+use Rattle.law_acts.specs.Cores.{Core}
+use Rattle.law_acts.specs.Acts.{handed}
+pub use Rattle.law_choices.specs.Decisions.{promise_of, is_fitting, is_entry, is_readable}
 use Rattle.step_output.specs.Names.{same_name}
 use Rattle.membership.specs.declared.member_state.MemberState.{MemberState}
 use Rattle.membership.specs.MemberStates.{core_of as core_at}

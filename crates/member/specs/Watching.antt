@@ -5,7 +5,7 @@ use Rattle.address.specs.Ids.{Address}
 use Rattle.view.specs.Members.{View, stands_in}
 use Rattle.next_view.specs.Candidates.{first_unsuspected}
 use Rattle.flush.specs.Flushes.{FlushModel}
-use Rattle.acts.specs.Acts.{others_of}
+use Rattle.law_acts.specs.Acts.{others_of}
 use Rattle.membership.specs.declared.member_state.MemberState.{MemberState}
 use Rattle.membership.specs.MemberStates.{view_in, leads_in}
 use Rattle.member_views.specs.Views.{listed_in}

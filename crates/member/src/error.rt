@@ -8,7 +8,7 @@ use membership::Stop;
 use std::alloc::AllocError;
 use wire_values::WireError;
 
-/// Why a member refused an input, and a channel a call (docs/PROTOCOL.md, "Inputs and refusals"; docs/FORMATS.md, "Refusals"; docs/WIRE.md,
+/// Why a member refused an input, and a channel a call (docs/PROTOCOL.md, "Inputs and refusals"; docs/CLI.md, "Refusals"; docs/WIRE.md,
 /// "Reading, and which refusal comes first"). After 6 and 7 it has ended; after any other it is as before.
 #[derive(Clone, Copy, Debug, PartialEq, Eq, thiserror::Error)]
 pub enum Error {

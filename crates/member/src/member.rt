@@ -4,8 +4,8 @@ ghost use Rattle.std.specs.Option.{IsSomeAnd, option_copied, option_and_then, op
 ghost use Rattle.trace_props.specs.Recorded.{IsRecordable};
 ghost use Rattle.view.specs.View.{view_refusal};
 ghost use Rattle.view_install.specs.Promises.{offered, is_accept};
-ghost use Rattle.acts.specs.Cores.{idle, id_of, is_frozen};
-ghost use Rattle.acts.specs.Acts.{proposed, others_of};
+ghost use Rattle.law_acts.specs.Cores.{idle, id_of, is_frozen};
+ghost use Rattle.law_acts.specs.Acts.{proposed, others_of};
 ghost use Rattle.membership.specs.MemberStates.{idle_member, is_connected, is_complete, is_sent_to, anew_past};
 ghost use Rattle.flush.specs.Flushes.{is_awaited};
 ghost use Rattle.member.specs.Running.{IsAlive};
@@ -309,6 +309,55 @@ impl<R: Receiver> Member<R> {
         }
     }
 
+    /// It makes a group of itself alone: what `handle` does by `Input::Create`.
+    pub fn create(&mut self) -> Result<Output, Error>
+        ensures { Handled R.meaning self.old input.Create result self.new }
+    {
+        create_group(&mut self.member_state, &self.identity)
+    }
+
+    /// It asks a contact to be let in: what `handle` does by `Input::Join`.
+    pub fn join(&mut self, contact: Address) -> Result<Output, Error>
+        ensures { Handled R.meaning self.old (input.Join contact) result self.new }
+    {
+        join_group(&mut self.member_state, &self.identity, contact)
+    }
+
+    /// It sends a message: what `handle` does by `Input::Send`.
+    pub fn send(&mut self, payload: &[u8]) -> Result<Output, Error>
+        ensures { Handled R.meaning self.old (input.Send payload.entry) result self.new }
+    {
+        send_message(&mut self.member_state, &self.identity, payload)
+    }
+
+    /// Time passes: what `handle` does by `Input::Tick`.
+    pub fn tick(&mut self) -> Result<Output, Error>
+        ensures { Handled R.meaning self.old input.Tick result self.new }
+    {
+        tick(&mut self.member_state, &self.identity)
+    }
+
+    /// Its failure detector suspects an address: what `handle` does by `Input::Suspect`.
+    pub fn suspect(&mut self, address: Address) -> Result<Output, Error>
+        ensures { Handled R.meaning self.old (input.Suspect address) result self.new }
+    {
+        suspect(&mut self.member_state, &self.identity, address)
+    }
+
+    /// A member of another view may be at an address: what `handle` does by `Input::MergeHint`.
+    pub fn merge_hint(&mut self, address: Address) -> Result<Output, Error>
+        ensures { Handled R.meaning self.old (input.MergeHint address) result self.new }
+    {
+        merge_hint(&mut self.member_state, &self.identity, address)
+    }
+
+    /// It leaves its group, and ends: what `handle` does by `Input::Leave`.
+    pub fn leave(&mut self) -> Result<Output, Error>
+        ensures { Handled R.meaning self.old input.Leave result self.new }
+    {
+        leave_group(&mut self.member_state, &self.identity)
+    }
+
     /// One step by a datagram: what `handle` does by `Input::Datagram` of these bytes, and what packet they spelled, where that is for it. They are read once.
     pub fn take(&mut self, bytes: &[u8]) -> Result<Taken, Error>
         ensures handled { Handled R.meaning self.old (input.Datagram bytes.entry) (output_of result) self.new }
@@ -349,21 +398,17 @@ impl<R: Receiver> Member<R> {
     {
         // By its parts, since an enum that lends bytes gets no proof where it is passed on whole.
         match input {
-            Input::Create => create_group(&mut self.member_state, &self.identity),
-            Input::Join(contact) => join_group(&mut self.member_state, &self.identity, contact),
-            Input::Send(payload) => send_message(&mut self.member_state, &self.identity, payload),
+            Input::Create => self.create(),
+            Input::Join(contact) => self.join(contact),
+            Input::Send(payload) => self.send(payload),
             Input::Datagram(bytes) => {
-                let taken = take_datagram(&mut self.member_state, &self.identity, bytes)?;
+                let taken = self.take(bytes)?;
                 Ok(taken.out)
             }
-            Input::Tick => tick(&mut self.member_state, &self.identity),
-            Input::Suspect(address) => suspect(&mut self.member_state, &self.identity, address),
-            Input::MergeHint(address) => merge_hint(
-                &mut self.member_state,
-                &self.identity,
-                address,
-            ),
-            Input::Leave => leave_group(&mut self.member_state, &self.identity),
+            Input::Tick => self.tick(),
+            Input::Suspect(address) => self.suspect(address),
+            Input::MergeHint(address) => self.merge_hint(address),
+            Input::Leave => self.leave(),
         }
     }
 }

@@ -3,7 +3,7 @@
 ghost use Rattle.std.specs.Prelude.{◌≡◌, ◌+◌, Some, Ok, Err, OnOk, true, false};
 ghost use Rattle.limits.specs.declared.TheConstants.{WINDOW};
 ghost use Rattle.address.specs.Ids.{same_address};
-ghost use Rattle.acts.specs.Acts.{packet};
+ghost use Rattle.law_acts.specs.Acts.{packet};
 ghost use Rattle.step_output.specs.Calm.{IsCalm};
 ghost use Rattle.membership.specs.declared.stop.Stop.TheVariants as stop;
 ghost use Rattle.membership.specs.MemberStates.{IsMemberState, is_connected};

@@ -2,7 +2,7 @@
 
 ghost use Rattle.std.specs.Prelude.{◌≡◌, IfOk, OnOk, ◌++◌, not, filter};
 ghost use Rattle.std.specs.Option.{option_to_list};
-ghost use Rattle.acts.specs.Acts.{others_of};
+ghost use Rattle.law_acts.specs.Acts.{others_of};
 ghost use Rattle.view.specs.Members.{stands_in};
 ghost use Rattle.member.specs.Watching.{awaited, others_in, watched_in};
 

@@ -1,6 +1,6 @@
-pub mod FactOfOpen
-pub mod FactOfHeard
-pub mod FactOfCalm
-pub mod FactOfSent
-pub mod FactOfFresh
-pub mod FactOfNext
+pub mod MembersAreOpen
+pub mod PacketsHeard
+pub mod MessagesAreCalm
+pub mod OwnMessagesGo
+pub mod NewViewsAreFresh
+pub mod NumbersNotHeld

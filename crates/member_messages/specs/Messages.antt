@@ -8,7 +8,7 @@ use Rattle.wire_values.specs.declared.packet.Body.TheVariants as bodies
 use Rattle.state_transfer.specs.Meanings.{Meaning}
 use Rattle.trace_props.specs.declared.event.Event.{Event}
 use Rattle.trace_props.specs.declared.event.Event.TheVariants.{Sent}
-use Rattle.acts.specs.Acts.{packet, others_of, delivery}
+use Rattle.law_acts.specs.Acts.{packet, others_of, delivery}
 use Rattle.step_output.specs.declared.output.Output.{Output}
 use Rattle.step_output.specs.Outputs.{Grows}
 use Rattle.step_output.specs.Calm.{is_quiet}

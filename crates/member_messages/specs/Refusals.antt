@@ -1,7 +1,7 @@
 -- Why a message of the member's own is refused.
 use Rattle.std.specs.Prelude.{ℕ, not, is_some, List, length, Option, None, Some, nat_lt, nat_le, if◌then◌else◌}
 use Rattle.limits.specs.declared.TheConstants.{PAYLOAD, OUTSTANDING, GREATEST_NUMBER}
-use Rattle.acts.specs.Cores.{Core, is_frozen}
+use Rattle.law_acts.specs.Cores.{Core, is_frozen}
 use Rattle.limits.specs.declared.refusal.Refusal.{Refusal}
 use Rattle.limits.specs.declared.refusal.Refusal.TheVariants.{NotConnected, TooLong, Blocked, Busy, Exhausted}
 

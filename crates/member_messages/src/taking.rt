@@ -4,7 +4,7 @@ ghost use Rattle.std.specs.Prelude.{◌≡◌, Some, false, Ok, OnOk};
 ghost use Rattle.limits.specs.declared.TheConstants.{WINDOW};
 ghost use Rattle.address.specs.Ids.{same_address};
 ghost use Rattle.wire_values.specs.declared.packet.Body.TheVariants as bodies;
-ghost use Rattle.acts.specs.Acts.{packet};
+ghost use Rattle.law_acts.specs.Acts.{packet};
 ghost use Rattle.step_output.specs.Calm.{IsCalm};
 ghost use Rattle.membership.specs.MemberStates.{IsMemberState};
 ghost use Rattle.membership.specs.Doing.{Did};

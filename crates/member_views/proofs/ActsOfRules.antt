@@ -15,16 +15,16 @@ use Rattle.state_transfer.specs.Meanings.{Meaning}
 use Rattle.flush.specs.Flushes.{FlushModel, has_reported}
 use Rattle.trace_props.specs.declared.event.Event.TheVariants.{Installed, Left}
 use Rattle.address.proofs.SameIds.{same_address-true, same_address-refl}
-use Rattle.acts.specs.Histories.{Posted}
-use Rattle.acts.specs.Cores.{Core}
-use Rattle.acts.specs.Acts.{Puts, Creates as MakesFirst, Joins, Leaves as Goes, Describes, packet, proposed, others_of, lone_view, gone_into}
-use Rattle.acts.specs.Chains.{Acted}
-use Rattle.acts.proofs.LawsOfActs.{one-acted, then-acted, nothing-acted}
+use Rattle.law_acts.specs.Histories.{Posted}
+use Rattle.law_acts.specs.Cores.{Core}
+use Rattle.law_acts.specs.Acts.{Puts, Creates as MakesFirst, Joins, Leaves as Goes, Describes, packet, proposed, others_of, lone_view, gone_into}
+use Rattle.law_acts.specs.Chains.{Acted}
+use Rattle.law_acts.proofs.LawsOfActs.{one-acted, then-acted, nothing-acted}
 use Rattle.step_output.specs.declared.output.Output.{Output}
 use Rattle.step_output.specs.Outputs.{Grows, spelled}
 use Rattle.traffic.specs.declared.view_state.ViewState.{ViewState}
 use Rattle.traffic.specs.ViewStates.{view_of, fresh_in}
-use Rattle.traffic.proofs.FactOfNewView.{fresh-is, fresh-view}
+use Rattle.traffic.proofs.NewViewTraffic.{fresh-is, fresh-view}
 use Rattle.membership.specs.declared.member_state.MemberState.{MemberState}
 use Rattle.membership.specs.MemberStates.{core_of, view_in, sent_installs_in, is_connected, report_in, sent_install, IsMemberState}
 use Rattle.membership.specs.Changes.{StaysAs, TakesFlush, TakesReport, TakesBehind, TakesSuspicion, Regroups}

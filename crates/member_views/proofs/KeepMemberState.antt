@@ -3,9 +3,9 @@ use Rattle.std.proofs.Common.{◌≡◌, true, false, ◌||◌, Option, Some, No
 use Rattle.std.specs.Option.{option_map_or}
 use Rattle.address.specs.Ids.{Address}
 use Rattle.view.specs.Members.{View}
-use Rattle.next_view.specs.Notes.{outdating}
+use Rattle.next_view.specs.ViewNotes.{outdating}
 use Rattle.next_view.specs.Noting.{noting, noting_view}
-use Rattle.acts.specs.Acts.{lone_view}
+use Rattle.law_acts.specs.Acts.{lone_view}
 use Rattle.traffic.specs.declared.view_state.ViewState.{ViewState}
 use Rattle.traffic.specs.ViewStates.{fresh_in}
 use Rattle.membership.specs.declared.member_state.MemberState.{MemberState}

@@ -10,13 +10,13 @@ use Rattle.flush.specs.Flushes.{FlushModel}
 use Rattle.view_install.specs.declared.promise.OfferAnswer.{OfferAnswer}
 use Rattle.view_install.specs.declared.promise.OfferAnswer.TheVariants.{Accept, Behind, Ignore}
 use Rattle.view_install.specs.Promises.{offered}
-use Rattle.acts.specs.Acts.{proposed}
-use Rattle.decisions.specs.Decisions.{due_proposal}
+use Rattle.law_acts.specs.Acts.{proposed}
+use Rattle.law_choices.specs.Decisions.{due_proposal}
 use Rattle.step_output.specs.declared.output.Output.{Output}
 use Rattle.traffic.specs.declared.view_state.ViewState.{ViewState}
 use Rattle.traffic.specs.ViewStates.{fresh_in}
 use Rattle.membership.specs.declared.member_state.MemberState.{MemberState}
-use Rattle.next_view.specs.Notes.{having_heard, suspecting}
+use Rattle.next_view.specs.ViewNotes.{having_heard, suspecting}
 use Rattle.membership.specs.MemberStates.{core_of, is_complete, recording, anew_proposal, would_hold}
 use Rattle.membership.specs.Changes.{StaysAs, TakesBy, TakesFlush, Begins, BeginsAndGoesOn, FinishesAndProposes, GoesOn, Regroups, TakesReport, TakesBehind, TakesSuspicion, TakesInstall, TakesChunk, would_enter, Enters}
 use Rattle.state_chunks.specs.HeldChunks.{given_in}

@@ -1,4 +1,4 @@
 pub mod KeepMemberState
 pub mod KeepSteady
-pub mod FactOfCalm
+pub mod ViewsAreCalm
 pub mod ActsOfRules

@@ -2,7 +2,7 @@
 use Rattle.std.specs.Prelude.{None, [], ◌∷◌}
 use Rattle.address.specs.Ids.{Address}
 use Rattle.trace_props.specs.declared.event.Install.{Install}
-use Rattle.acts.specs.Acts.{lone_view}
+use Rattle.law_acts.specs.Acts.{lone_view}
 
 -- the install of a member's first view
 abbrev pub lone_install : Address → Install

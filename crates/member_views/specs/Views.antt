@@ -4,15 +4,15 @@ use Rattle.std.specs.Option.{option_map_or, option_and_then}
 use Rattle.address.specs.Ids.{Address, ViewId, same_address, same_view_id}
 use Rattle.view.specs.Members.{View, stands_in}
 use Rattle.state_transfer.specs.Meanings.{Meaning}
-use Rattle.next_view.specs.Notes.{outdating}
+use Rattle.next_view.specs.ViewNotes.{outdating}
 use Rattle.next_view.specs.Candidates.{first_unsuspected}
 use Rattle.next_view.specs.Noting.{noting, noting_view}
 use Rattle.wire_values.specs.Values as wire
 use Rattle.wire_values.specs.declared.packet.Body.TheVariants as bodies
 use Rattle.trace_props.specs.declared.event.Event.TheVariants.{Installed, Left}
 use Rattle.flush.specs.Flushes.{FlushModel, has_reported}
-use Rattle.acts.specs.Histories.{Posted}
-use Rattle.acts.specs.Acts.{packet, others_of, lone_view, proposed}
+use Rattle.law_acts.specs.Histories.{Posted}
+use Rattle.law_acts.specs.Acts.{packet, others_of, lone_view, proposed}
 use Rattle.step_output.specs.declared.output.Output.{Output}
 use Rattle.step_output.specs.Outputs.{Grows}
 use Rattle.traffic.specs.ViewStates.{fresh_in}

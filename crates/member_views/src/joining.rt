@@ -15,7 +15,7 @@ ghost use Rattle.membership.specs.InSteps.{in_step};
 use crate::merging::announce_view;
 use address::{Address, ViewId};
 use membership::MemberState;
-use next_view::Notes;
+use next_view::ViewNotes;
 use state_transfer::Receiver;
 use std::alloc::AllocError;
 use step_output::{Identity, Output};
@@ -142,7 +142,7 @@ fn outdate<R: Receiver>(
 
 // Notes one who asks to be let into a view, if there is one.
 fn note_in(
-    notes: &mut Notes,
+    notes: &mut ViewNotes,
     who: &Identity,
     view_state: &Option<ViewState>,
     listed: &[Address],

@@ -2,7 +2,7 @@
 
 ghost use Rattle.std.specs.Prelude.{◌≡◌, Ok, OnOk, true, false, [], map};
 ghost use Rattle.wire_values.specs.declared.packet.Body.TheVariants as bodies;
-ghost use Rattle.acts.specs.Acts.{packet, others_of};
+ghost use Rattle.law_acts.specs.Acts.{packet, others_of};
 ghost use Rattle.step_output.specs.Outputs.{Grows};
 ghost use Rattle.traffic.specs.ViewStates.{view_of};
 ghost use Rattle.membership.specs.MemberStates.{IsMemberState};

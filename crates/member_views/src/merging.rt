@@ -4,7 +4,7 @@ ghost use Rattle.std.specs.Prelude.{◌≡◌, [], ◌∷◌, Ok, IfOk, OnOk, tr
 ghost use Rattle.std.specs.Option.{option_map_or, option_copied};
 ghost use Rattle.next_view.specs.Noting.{noting_view};
 ghost use Rattle.wire_values.specs.declared.packet.Body.TheVariants as bodies;
-ghost use Rattle.acts.specs.Acts.{packet};
+ghost use Rattle.law_acts.specs.Acts.{packet};
 ghost use Rattle.step_output.specs.Outputs.{Grows};
 ghost use Rattle.membership.specs.MemberStates.{IsMemberState, view_in};
 ghost use Rattle.membership.specs.Changes.{StaysAs};
@@ -16,7 +16,7 @@ ghost use Rattle.membership.specs.InSteps.{in_step};
 use crate::joining::{leads_now, redirect};
 use address::Address;
 use membership::MemberState;
-use next_view::Notes;
+use next_view::ViewNotes;
 use state_transfer::Receiver;
 use std::alloc::{AllocError, Global};
 use std::cmp::Ordering;
@@ -92,7 +92,7 @@ fn view_from(alloc: Global, roster: &Roster) -> Result<View, AllocError>
 
 // Notes those of another view, where there is an own one.
 fn note_in(
-    notes: &mut Notes,
+    notes: &mut ViewNotes,
     who: &Identity,
     view_state: &Option<ViewState>,
     other: &View,

@@ -1,11 +1,11 @@
 -- What a member did one after the other; and one who did nothing, or only noted.
 use Rattle.std.proofs.Common.{◌≡◌, Option, Some, [], ◌++◌, sym, subst}
 use Rattle.state_transfer.specs.Meanings.{Meaning}
-use Rattle.next_view.specs.Notes.{NotesModel}
-use Rattle.acts.specs.Histories.{Posted}
-use Rattle.acts.proofs.LawsOfActs.{nothing-acted, then-acted}
+use Rattle.next_view.specs.ViewNotes.{NotesModel}
+use Rattle.law_acts.specs.Histories.{Posted}
+use Rattle.law_acts.proofs.LawsOfActs.{nothing-acted, then-acted}
 use Rattle.step_output.specs.declared.output.Output.{Output}
-use Rattle.step_output.proofs.FactOfGrows.{grows-nothing, grows-then}
+use Rattle.step_output.proofs.GrowthAdds.{grows-nothing, grows-then}
 use Rattle.membership.specs.declared.member_state.MemberState.{MemberState}
 use Rattle.membership.specs.Doing.{Did}
 use Rattle.membership.specs.MemberStates.{core_of}

@@ -10,7 +10,7 @@ use Rattle.limits.specs.declared.TheConstants.{CHUNK}
 use Rattle.address.specs.Ids.{Address, ViewId, same_address, same_view_id}
 use Rattle.view.specs.Members.{View}
 use Rattle.state_transfer.specs.Meanings.{Meaning}
-use Rattle.next_view.specs.Notes.{having_heard, suspecting}
+use Rattle.next_view.specs.ViewNotes.{having_heard, suspecting}
 use Rattle.wire_values.specs.Values as wire
 use Rattle.wire_values.specs.Values.{Report, nothing_reported}
 use Rattle.wire.specs.Packets.{IsPacket}
@@ -24,22 +24,22 @@ use Rattle.view_install.specs.declared.promise.OfferAnswer.{OfferAnswer}
 use Rattle.view_install.specs.declared.promise.OfferAnswer.TheVariants.{Accept, Behind, Ignore}
 use Rattle.address.proofs.SameIds.{same_address-true, same_view_id-true}
 use Rattle.view_install.proofs.ViewsRise.{only-the-promised}
-use Rattle.acts.specs.Histories.{Posted}
-use Rattle.acts.specs.Cores.{Core, id_of, install_sent_to}
-use Rattle.acts.specs.Acts.{Puts, packet, proposed, promised, others_of, instruction_for, instructions, instructing_one, base_for, items_for, gone_into, delivered_at, entering, state_into}
-use Rattle.acts.specs.Given.{IsGiven, chunk_at, chunks_of}
-use Rattle.acts.specs.Chains.{Acted}
-use Rattle.acts.proofs.LawsOfActs.{one-acted, nothing-acted, then-acted}
-use Rattle.decisions.specs.Decisions.{promise_of, cuts_of, form_of, kept_of, is_entry, is_fitting, is_readable, due_proposal}
-use Rattle.decisions.proofs.ActsAreAllowed.{promises-acted, proposes-acted, records-acted, gathers-acted, finishes-acted, enters-acted}
+use Rattle.law_acts.specs.Histories.{Posted}
+use Rattle.law_acts.specs.Cores.{Core, id_of, install_sent_to}
+use Rattle.law_acts.specs.Acts.{Puts, packet, proposed, promised, others_of, instruction_for, instructions, instructing_one, base_for, items_for, gone_into, delivered_at, entering, state_into}
+use Rattle.law_acts.specs.Given.{IsGiven, chunk_at, chunks_of}
+use Rattle.law_acts.specs.Chains.{Acted}
+use Rattle.law_acts.proofs.LawsOfActs.{one-acted, nothing-acted, then-acted}
+use Rattle.law_choices.specs.Decisions.{promise_of, cuts_of, form_of, kept_of, is_entry, is_fitting, is_readable, due_proposal}
+use Rattle.law_choices.proofs.ActsAreAllowed.{promises-acted, proposes-acted, records-acted, gathers-acted, finishes-acted, enters-acted}
 use Rattle.step_output.specs.declared.output.Output.{Output}
 use Rattle.step_output.specs.Outputs.{packet_in, spelled}
-use Rattle.step_output.proofs.FactOfGrows.{all-then, grows-nothing}
+use Rattle.step_output.proofs.GrowthAdds.{all-then, grows-nothing}
 use Rattle.state_chunks.specs.HeldChunks.{is_new, is_there, given_in}
-use Rattle.state_chunks.proofs.FactOfHeld.{given-there, held-more}
+use Rattle.state_chunks.proofs.HeldChunksJoin.{given-there, held-more}
 use Rattle.traffic.specs.declared.view_state.ViewState.{ViewState}
 use Rattle.traffic.specs.ViewStates.{view_of, fresh_in}
-use Rattle.traffic.proofs.FactOfNewView.{fresh-is, fresh-view}
+use Rattle.traffic.proofs.NewViewTraffic.{fresh-is, fresh-view}
 use Rattle.membership.specs.declared.member_state.MemberState.{MemberState}
 use Rattle.membership.specs.declared.sent_install.SentInstall.{SentInstall}
 use Rattle.membership.specs.MemberStates.{core_of, view_in, view_core_in, sent_installs_in, is_connected, report_in, blocked_by, recording, is_complete, is_sent_to, anew_proposal, install_packet, sent_install, labelled, chunks_in, held_for, awaits, would_hold, begun_with, IsMemberState}
@@ -47,10 +47,10 @@ use Rattle.membership.specs.Installs.{instruction_to, instructing, finished_stat
 use Rattle.membership.specs.Changes.{StaysAs, TakesBy, TakesFlush, Begins, ProposesIf, BeginsAnew, BeginsAndGoesOn, Finishes, FinishesAndProposes, GoesOn, Regroups, TakesReport, state_packets, chunks_before, InstallsAgain, TakesChunk, TakesBehind, TakesSuspicion, Enters, would_enter, TakesInstall}
 use Rattle.membership.specs.Doing.{Did}
 use Rattle.membership.proofs.ActsInTurn.{nothing-did, stays-did, did-then, noted-did}
-use Rattle.membership.proofs.FactOfSentInstalls.{kept-are, IsAgain, again-in}
+use Rattle.membership.proofs.InstallsReadBack.{kept-are, IsAgain, again-in}
 use Rattle.membership.proofs.KeepMemberState.{given-sent, given-sound, installed_as, own-installed, other-installed, begun-member_state, finished-member_state, recorded-member_state}
 use Rattle.membership.proofs.KeepNotes.{heard-member_state, suspected-member_state}
-use Rattle.membership.proofs.FactOfProposed.{IsProposal, due-is-proposal, anew-is-proposal}
+use Rattle.membership.proofs.ProposalsLead.{IsProposal, due-is-proposal, anew-is-proposal}
 use Rattle.address.proofs.Plain.{match-bool}
 use Rattle.step_output.specs.Steps.{Who}
 use Rattle.membership.specs.InSteps.{InStep, in_step}

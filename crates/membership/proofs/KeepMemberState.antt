@@ -9,7 +9,7 @@ use Rattle.std.proofs.lemmas.Option.{none-some, same_Some}
 use Rattle.address.specs.Ids.{Address, ViewId, view_id_cmp, same_address, same_view_id}
 use Rattle.view.specs.Members.{View, stands_in}
 use Rattle.state_transfer.specs.Meanings.{Meaning}
-use Rattle.next_view.specs.Notes.{NotesModel}
+use Rattle.next_view.specs.ViewNotes.{NotesModel}
 use Rattle.wire_values.specs.Values as wire
 use Rattle.wire.specs.Packets.{IsPacket}
 use Rattle.flush.specs.Flushes.{FlushModel, is_awaited, has_reported, report_from}
@@ -19,23 +19,23 @@ use Rattle.view_install.proofs.ViewsRise.{only-the-promised}
 use Rattle.address.proofs.SameIds.{same_view_id-refl, same_address-refl}
 use Rattle.wire_values.specs.Chunks.{IsTotal}
 use Rattle.wire_values.specs.Lists.{IsChunk}
-use Rattle.acts.specs.Histories.{Posted}
-use Rattle.acts.specs.Acts.{others_of, proposed, lone_view, chunk_packets}
-use Rattle.acts.specs.Cores.{id_of}
+use Rattle.law_acts.specs.Histories.{Posted}
+use Rattle.law_acts.specs.Acts.{others_of, proposed, lone_view, chunk_packets}
+use Rattle.law_acts.specs.Cores.{id_of}
 use Rattle.state_chunks.specs.HeldChunks.{is_new}
-use Rattle.decisions.specs.Decisions.{is_fitting, is_entry}
-use Rattle.decisions.proofs.FactOfOffer.{accepted-parts}
+use Rattle.law_choices.specs.Decisions.{is_fitting, is_entry}
+use Rattle.law_choices.proofs.OffersAccepted.{accepted-parts}
 use Rattle.step_output.specs.declared.output.Output.{Output}
 use Rattle.step_output.specs.Outputs.{packet_in}
 use Rattle.traffic.specs.declared.view_state.ViewState.{ViewState}
 use Rattle.traffic.specs.ViewStates.{view_of, fresh_in}
-use Rattle.traffic.proofs.FactOfNewView.{fresh-view}
+use Rattle.traffic.proofs.NewViewTraffic.{fresh-view}
 use Rattle.membership.specs.declared.member_state.MemberState.{MemberState}
 use Rattle.membership.specs.MemberStates.{core_of, view_in, view_core_in, is_connected, report_in, begun_with, recording, is_complete, leads_in, idle_member, install_packet, sent_install, held_for, awaits, would_hold, IsFlushing, IsKept, IsMemberState}
 use Rattle.membership.specs.Installs.{instruction_to, instructing, finished_given}
 use Rattle.membership.specs.Changes.{StaysAs, Promises, Begins, ProposesIf, Finishes, FinishesAndProposes, GoesOn, Enters, TakesChunk}
-use Rattle.membership.proofs.FactOfProposed.{IsProposal}
-use Rattle.view.proofs.FactOfMembers.{coordinator-in}
+use Rattle.membership.proofs.ProposalsLead.{IsProposal}
+use Rattle.view.proofs.MembersListed.{coordinator-in}
 use Rattle.step_output.specs.Steps.{Who, who}
 use Rattle.membership.specs.InSteps.{InStep, in_step}
 

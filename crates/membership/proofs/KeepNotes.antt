@@ -8,7 +8,7 @@ use Rattle.std.proofs.lemmas.List.Folds.{list_any-append}
 use Rattle.address.specs.Ids.{Address, same_address}
 use Rattle.view.specs.Members.{View, stands_in, rank_of}
 use Rattle.suspicion.specs.Suspicion.{suspected_too, leads}
-use Rattle.next_view.specs.Notes.{NotesModel, having_heard, suspecting, is_later, outdates, outdating}
+use Rattle.next_view.specs.ViewNotes.{NotesModel, having_heard, suspecting, is_later, outdates, outdating}
 use Rattle.next_view.specs.Noting.{noting, noting_view, with_joiner, is_known_here, with_merging, new_of}
 use Rattle.next_view.specs.Candidates.{has_room}
 use Rattle.membership.specs.declared.member_state.MemberState.{MemberState}

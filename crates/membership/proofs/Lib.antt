@@ -1,9 +1,9 @@
-pub mod FactOfPuts
+pub mod PutsFollow
 pub mod ActsInTurn
-pub mod FactOfSayable
-pub mod FactOfProposed
+pub mod FlushesAreSayable
+pub mod ProposalsLead
 pub mod KeepMemberState
 pub mod KeepNotes
-pub mod FactOfBehind
-pub mod FactOfSentInstalls
+pub mod BehindAnswered
+pub mod InstallsReadBack
 pub mod ActsOfChanges

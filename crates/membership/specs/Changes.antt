@@ -5,15 +5,15 @@ use Rattle.std.specs.Option.{option_map, option_map_or, option_to_list}
 use Rattle.address.specs.Ids.{Address, ViewId}
 use Rattle.view.specs.Members.{View}
 use Rattle.state_transfer.specs.Meanings.{Meaning}
-use Rattle.next_view.specs.Notes.{no_notes, settled, suspecting, having_heard}
+use Rattle.next_view.specs.ViewNotes.{no_notes, settled, suspecting, having_heard}
 use Rattle.wire_values.specs.Values as wire
 use Rattle.wire_values.specs.declared.packet.Body.TheVariants as bodies
 use Rattle.flush.specs.Flushes.{FlushModel, IsFlush}
 use Rattle.view_install.specs.declared.promise.OfferAnswer.{OfferAnswer}
 use Rattle.view_install.specs.declared.promise.OfferAnswer.TheVariants.{Accept, Behind, Ignore}
 use Rattle.view_install.specs.Promises.{offered, promising, after_install}
-use Rattle.acts.specs.Acts.{packet, others_of, proposed}
-use Rattle.decisions.specs.Decisions.{due_proposal, is_entry, is_readable, kept_of}
+use Rattle.law_acts.specs.Acts.{packet, others_of, proposed}
+use Rattle.law_choices.specs.Decisions.{due_proposal, is_entry, is_readable, kept_of}
 use Rattle.step_output.specs.declared.output.Output.{Output}
 use Rattle.step_output.specs.Outputs.{Grows, packet_in, spelled}
 use Rattle.traffic.specs.declared.view_state.ViewState.{ViewState}
@@ -25,8 +25,8 @@ use Rattle.membership.specs.declared.sent_install.SentInstall.{SentInstall}
 use Rattle.state_chunks.specs.HeldChunks.{is_there, given_in}
 use Rattle.wire.specs.Packets.{IsPacket}
 use Rattle.wire_values.specs.Chunks.{IsTotal}
-use Rattle.acts.specs.Histories.{Posted}
-use Rattle.acts.specs.Given.{chunks_of}
+use Rattle.law_acts.specs.Histories.{Posted}
+use Rattle.law_acts.specs.Given.{chunks_of}
 use Rattle.step_output.specs.Steps.{Who}
 use Rattle.membership.specs.InSteps.{InStep, in_step}
 

@@ -6,7 +6,7 @@ use Rattle.address.specs.Ids.{Address, ViewId, same_address, same_view_id}
 use Rattle.view.specs.Members.{View, stands_in}
 use Rattle.view.specs.View.{view_refusal}
 use Rattle.suspicion.specs.Suspicion.{leads}
-use Rattle.next_view.specs.Notes.{NotesModel, no_notes, having_heard}
+use Rattle.next_view.specs.ViewNotes.{NotesModel, no_notes, having_heard}
 use Rattle.wire_values.specs.Values as wire
 use Rattle.wire_values.specs.declared.error.WireError.{WireError}
 use Rattle.wire_values.specs.declared.packet.Packet.{Packet}
@@ -15,11 +15,11 @@ use Rattle.wire.specs.Packets.{IsPacket, packet_of}
 use Rattle.trace_props.specs.declared.event.Event.{Event}
 use Rattle.trace_props.specs.declared.event.Event.TheVariants.{Blocked}
 use Rattle.flush.specs.Flushes.{FlushModel, reported, has_reported, is_awaited}
-use Rattle.acts.specs.Histories.{Posted}
-use Rattle.acts.specs.Cores as cores
-use Rattle.acts.specs.Cores.{Core, fresh_view_core, report_with, is_open}
-use Rattle.acts.specs.Acts.{packet, proposed}
-use Rattle.decisions.specs.Decisions.{proposal_after}
+use Rattle.law_acts.specs.Histories.{Posted}
+use Rattle.law_acts.specs.Cores as cores
+use Rattle.law_acts.specs.Cores.{Core, fresh_view_core, report_with, is_open}
+use Rattle.law_acts.specs.Acts.{packet, proposed}
+use Rattle.law_choices.specs.Decisions.{proposal_after}
 use Rattle.step_output.specs.declared.output.Outgoing.{Outgoing}
 use Rattle.membership.specs.declared.sent_install.SentInstall.{SentInstall}
 use Rattle.state_chunks.specs.HeldChunks.{is_new}

@@ -2,9 +2,9 @@
 
 ghost use Rattle.std.specs.Prelude.{◌≡◌, ◌∷◌, [], true, false, Err, OnOk, IfOk, Some, None, unwrap_or};
 ghost use Rattle.std.specs.Option.{option_and_then};
-ghost use Rattle.acts.specs.Acts.{deliveries};
-ghost use Rattle.acts.specs.Cores.{applied, id_of};
-ghost use Rattle.decisions.specs.Decisions.{is_readable, gives_some, is_fitting};
+ghost use Rattle.law_acts.specs.Acts.{deliveries};
+ghost use Rattle.law_acts.specs.Cores.{applied, id_of};
+ghost use Rattle.law_choices.specs.Decisions.{is_readable, gives_some, is_fitting};
 ghost use Rattle.state_chunks.specs.HeldChunks.{given_in};
 ghost use Rattle.sequencer.specs.Forwards.{AreShort};
 ghost use Rattle.traffic.specs.ViewStates.{view_of};
@@ -19,10 +19,11 @@ ghost use Rattle.membership.specs.InSteps.{in_step};
 use crate::finishing::{behind, deliver_all, own_of};
 use crate::{MemberState, Stop};
 use address::ViewId;
+use owned_bytes::Bytes;
 use state_transfer::Receiver;
 use std::alloc::{AllocError, Global};
 use step_output::{Identity, Output};
-use trace_props::{BoxedInstall, Bytes, Event, HandedBack, Install as Installed};
+use trace_props::{BoxedInstall, Event, HandedBack, Install as Installed};
 use traffic::ViewState;
 use view::{Addresses, View};
 use wire_values::{Entry, GivenState, Install, Items, Roster};

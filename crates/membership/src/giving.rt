@@ -5,9 +5,9 @@ ghost use Rattle.std.specs.List.{range_with_len};
 ghost use Rattle.limits.specs.declared.TheConstants.{STATE};
 ghost use Rattle.wire_values.specs.Chunks.{IsTotal};
 ghost use Rattle.wire_values.specs.declared.packet.Body.TheVariants as bodies;
-ghost use Rattle.acts.specs.Acts.{packet, chunk_packets};
-ghost use Rattle.acts.specs.Given.{chunk_at, chunks_of};
-ghost use Rattle.decisions.specs.Decisions.{form_of, kept_of};
+ghost use Rattle.law_acts.specs.Acts.{packet, chunk_packets};
+ghost use Rattle.law_acts.specs.Given.{chunk_at, chunks_of};
+ghost use Rattle.law_choices.specs.Decisions.{form_of, kept_of};
 ghost use Rattle.state_chunks.specs.HeldChunks.{chunk_count};
 ghost use Rattle.step_output.specs.Outputs.{Grows};
 ghost use Rattle.membership.specs.MemberStates.{is_chunked};
@@ -16,11 +16,11 @@ ghost use Rattle.membership.specs.Installs.{given_to};
 use address::{Address, ViewId};
 use flush::Flush;
 use limits::WHOLE_STATE;
+use owned_bytes::Bytes;
 use state_chunks::{chunk_count, chunk_of};
 use state_transfer::Receiver;
 use std::alloc::AllocError;
 use step_output::{Identity, Output};
-use trace_props::Bytes;
 use wire_values::{Body, GivenState, State, Total};
 
 // The state that a flush gives, whose creator comes from this view; none where all of its list do.

@@ -4,7 +4,7 @@ ghost use Rattle.std.specs.Prelude.{Ok, ◌≡◌, [], OnOk, IfOk, IfSome, None,
 ghost use Rattle.std.specs.Option.{option_copied};
 ghost use Rattle.std.specs.List.{AllByRecursion};
 ghost use Rattle.view.specs.View.{view_refusal};
-ghost use Rattle.acts.specs.Acts.{others_of, proposed};
+ghost use Rattle.law_acts.specs.Acts.{others_of, proposed};
 ghost use Rattle.traffic.specs.ViewStates.{view_of};
 ghost use Rattle.membership.specs.Installs.{IsSayable, finished_given};
 ghost use Rattle.step_output.specs.Outputs.{Grows};

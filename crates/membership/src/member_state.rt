@@ -1,16 +1,16 @@
 ghost use Rattle.std.specs.Prelude.{◌≡◌, None};
 ghost use Rattle.std.specs.Option.{option_copied};
-ghost use Rattle.acts.specs.Cores.{is_open};
+ghost use Rattle.law_acts.specs.Cores.{is_open};
 ghost use Rattle.membership.specs.MemberStates.{view_in, is_connected, idle_member};
 
 use crate::SentInstall;
 use address::Address;
 use flush::Flush;
-use next_view::Notes;
+use next_view::ViewNotes;
+use owned_bytes::Bytes;
 use state_chunks::HeldChunks;
 use state_transfer::Receiver;
 use std::alloc::Global;
-use trace_props::Bytes;
 use traffic::ViewState;
 use view::View;
 use view_install::Promise;
@@ -35,7 +35,7 @@ pub struct MemberState<R: Receiver> {
     /// The receiver that it delivers to.
     pub receiver: R,
     /// What it notes for its next view.
-    pub notes: Notes,
+    pub notes: ViewNotes,
 }
 
 impl<R: Receiver> MemberState<R> {
@@ -52,7 +52,7 @@ impl<R: Receiver> MemberState<R> {
             sent_state: None,
             chunks: HeldChunks::new(alloc),
             receiver,
-            notes: Notes::new(alloc),
+            notes: ViewNotes::new(alloc),
         }
     }
 

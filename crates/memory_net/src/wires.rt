@@ -1,11 +1,11 @@
 ghost use Rattle.std.specs.Prelude.{◌≤◌, length};
 
 use address::Node;
+use owned_bytes::Bytes;
 use std::alloc::Global;
 use std::cell::RefCell;
 use std::collections::VecDeque;
 use std::time::Duration;
-use trace_props::Bytes;
 use udp_net::{Fault, Net};
 
 /// Which call fails. Of all nodes, the first of each kind is numbered 1.

@@ -1,2 +1,2 @@
-pub mod FactOfAddressList
-pub mod FactOfLeads
+pub mod AddressesOnce
+pub mod LeadersStandFirst

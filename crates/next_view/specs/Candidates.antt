@@ -5,7 +5,7 @@ use Rattle.std.specs.Cmp.Lexicographic.{pointwise}
 use Rattle.address.specs.Ids.{Address, same_address}
 use Rattle.limits.specs.declared.TheConstants.{GREATEST_NUMBER, MEMBERS}
 use Rattle.view.specs.Members.{stands_in}
-use Rattle.next_view.specs.Notes.{NotesModel, is_later}
+use Rattle.next_view.specs.ViewNotes.{NotesModel, is_later}
 
 -- one more, unless suspected or there already
 abbrev pub with_one : List Address → List Address → Address → List Address

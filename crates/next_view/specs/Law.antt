@@ -4,7 +4,7 @@ use Rattle.address.specs.Ids.{Address, ViewId}
 use Rattle.view.specs.Members.{stands_in}
 use Rattle.view.specs.View.{view_refusal}
 use Rattle.suspicion.specs.Suspicion.{leads}
-use Rattle.next_view.specs.Notes.{NotesModel}
+use Rattle.next_view.specs.ViewNotes.{NotesModel}
 use Rattle.next_view.specs.Candidates.{candidates}
 
 -- whoever leads its members and does not suspect itself has candidates that are a view of each id that it makes

@@ -1,4 +1,4 @@
-pub mod Notes
+pub mod ViewNotes
 pub mod Candidates
 pub mod Noting
 pub mod Law

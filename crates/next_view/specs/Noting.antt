@@ -3,7 +3,7 @@ use Rattle.std.specs.Prelude.{Bool, not, ◌||◌, List, [], ◌∷◌, ◌++◌
 use Rattle.std.specs.List.{list_any}
 use Rattle.address.specs.Ids.{Address}
 use Rattle.view.specs.Members.{View, stands_in}
-use Rattle.next_view.specs.Notes.{NotesModel, is_later}
+use Rattle.next_view.specs.ViewNotes.{NotesModel, is_later}
 use Rattle.next_view.specs.Candidates.{has_room}
 
 -- ---- one who asks to be let in

@@ -6,4 +6,4 @@ mod lists;
 mod notes;
 
 pub use law::candidates_are_a_view;
-pub use notes::Notes;
+pub use notes::ViewNotes;

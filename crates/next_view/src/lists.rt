@@ -1,7 +1,7 @@
 ghost use Rattle.std.specs.Prelude.{◌≡◌, ◌||◌, fold, filter, not, IfOk, OnOk};
 ghost use Rattle.std.specs.List.{list_any};
 ghost use Rattle.view.specs.Members.{stands_in};
-ghost use Rattle.next_view.specs.Notes.{is_later, others_than};
+ghost use Rattle.next_view.specs.ViewNotes.{is_later, others_than};
 ghost use Rattle.next_view.specs.Candidates.{with_one, is_current};
 ghost use Rattle.next_view.specs.Noting.{is_known};
 

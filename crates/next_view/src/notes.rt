@@ -1,7 +1,7 @@
 ghost use Rattle.std.specs.Prelude.{◌≡◌, ◌≤◌, ◌++◌, [], filter, length, IfOk, OnOk, OnErr, IfSome};
 ghost use Rattle.view.specs.Members.{stands_in};
 ghost use Rattle.suspicion.specs.Suspicion.{leads};
-ghost use Rattle.next_view.specs.Notes.{no_notes, settled, having_heard, suspecting, outdates, outdating};
+ghost use Rattle.next_view.specs.ViewNotes.{no_notes, settled, having_heard, suspecting, outdates, outdating};
 ghost use Rattle.next_view.specs.Candidates.{unsuspected, all_candidates, candidates, has_room, next_counter, first_unsuspected, is_changed, is_broken, is_abandoned};
 ghost use Rattle.next_view.specs.Noting.{is_known_here, noting, is_new, new_of, noting_view};
 
@@ -16,27 +16,27 @@ use view::{Addresses, View};
 /// What a member notes beside its view: the addresses that it suspects, those that asked to be let in, those of other views that may come in,
 /// and the greatest counter of a proposal that it heard of, at first 0 (docs/PROTOCOL.md, "Candidates").
 #[derive(Debug, Drop)]
-pub struct Notes {
+pub struct ViewNotes {
     suspects: Suspects,
     joiners: Vec<Address>,
     merging: Vec<Address>,
     heard: u64,
 }
 
-impl Model for Notes {
-    ghost use Rattle.next_view.specs.Notes.{NotesModel};
+impl Model for ViewNotes {
+    ghost use Rattle.next_view.specs.ViewNotes.{NotesModel};
 
     ghost Value = { NotesModel };
 
     ghost view = { λ b. record { suspects = b.suspects; joiners = b.joiners.items; merging = b.merging.items; heard = b.heard } };
 }
 
-impl Notes {
+impl ViewNotes {
     /// Nothing is noted. Takes no memory.
-    pub fn new(alloc: Global) -> Notes
+    pub fn new(alloc: Global) -> ViewNotes
         ensures { result ≡ no_notes }
     {
-        Notes {
+        ViewNotes {
             suspects: Suspects::new(alloc),
             joiners: Vec::new(alloc),
             merging: Vec::new(alloc),

@@ -1,2 +1,2 @@
-pub mod FactOfFeeds
-pub mod FactOfCame
+pub mod FirstLines
+pub mod LinesKept

@@ -1,4 +1,4 @@
--- What a node sent and has not seen delivered, and what it says again (docs/PROTOCOL.md, "Giving way").
+-- What a node sent and has not seen delivered, and what it says again (docs/RUNNER.md, "Giving way").
 use Rattle.std.specs.Prelude.{ℕ, List, [], ◌∷◌, ◌++◌, drop, take, flat_map, length, if◌then◌else◌}
 use Rattle.address.specs.Ids.{same_address}
 use Rattle.trace_props.specs.declared.event.Event.{Event}

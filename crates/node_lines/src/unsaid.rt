@@ -1,5 +1,5 @@
-//! What a node sent of its lines and has not seen delivered: what a view hands back is said again, in the same words (docs/PROTOCOL.md, "Giving way";
-//! docs/FORMATS.md, "Nodes over UDP").
+//! What a node sent of its lines and has not seen delivered: what a view hands back is said again, in the same words (docs/RUNNER.md, "Giving way";
+//! docs/CLI.md, "Nodes over UDP").
 
 ghost use Rattle.std.specs.Prelude.{◌≡◌, ◌++◌, ◌∷◌, [], ℕ, OnOk, MatchOption, take, drop, flat_map, length};
 ghost use Rattle.node_lines.specs.Unsaid.{coming_back, noted, line_in};

@@ -1,26 +1,26 @@
 use crate::fixtures::{address, first_of, listed, view_of};
 use address::{Address, ViewId};
 use limits::GREATEST_NUMBER;
-use next_view::Notes;
+use next_view::ViewNotes;
 use std::alloc::Global;
 use view::View;
 
 /// Notes a joiner at the view of 1.1, without an own flush; none where memory was refused.
-fn joined(alloc: Global, notes: &mut Notes, view: &View, joiner: Address) -> Option<()> {
+fn joined(alloc: Global, notes: &mut ViewNotes, view: &View, joiner: Address) -> Option<()> {
     notes
         .note_joiner(alloc, &first_of(1), view, &[], joiner)
         .ok()
 }
 
 /// Whether the candidates of 1.1 are the first addresses of these nodes, in order.
-fn has_candidates(alloc: Global, notes: &Notes, view: &View, nodes: &[u16]) -> Option<bool> {
+fn has_candidates(alloc: Global, notes: &ViewNotes, view: &View, nodes: &[u16]) -> Option<bool> {
     let candidates = notes.candidates(alloc, &first_of(1), view).ok()?;
     let wanted = listed(alloc, nodes)?;
     Some(candidates.as_slice() == wanted.as_slice())
 }
 
 /// How many could be in the next view of 1.1.
-fn count(alloc: Global, notes: &Notes, view: &View) -> Option<usize> {
+fn count(alloc: Global, notes: &ViewNotes, view: &View) -> Option<usize> {
     notes.candidate_count(alloc, &first_of(1), view).ok()
 }
 
@@ -39,7 +39,7 @@ fn full_view(alloc: Global) -> Option<View> {
 
 fn joiners_follow(alloc: Global) -> Option<bool> {
     let view = view_of(alloc, &[1, 3, 2])?;
-    let mut notes = Notes::new(alloc);
+    let mut notes = ViewNotes::new(alloc);
     joined(alloc, &mut notes, &view, first_of(5))?;
     joined(alloc, &mut notes, &view, first_of(4))?;
     has_candidates(alloc, &notes, &view, &[1, 3, 2, 5, 4])
@@ -52,7 +52,7 @@ fn joiners_follow_the_members_in_order_of_arrival(rt: HostRuntime) {
 
 fn suspected_are_out(alloc: Global) -> Option<bool> {
     let view = view_of(alloc, &[1, 2, 3])?;
-    let mut notes = Notes::new(alloc);
+    let mut notes = ViewNotes::new(alloc);
     joined(alloc, &mut notes, &view, first_of(4))?;
     joined(alloc, &mut notes, &view, first_of(5))?;
     notes.suspect(first_of(2)).ok()?;
@@ -68,7 +68,7 @@ fn the_suspected_are_no_candidates(rt: HostRuntime) {
 /// The count after 2.2 came to the view of 1.1 and 2.1, and whether 2.1 is suspected.
 fn outdated(alloc: Global) -> Option<(usize, bool)> {
     let view = view_of(alloc, &[1, 2])?;
-    let mut notes = Notes::new(alloc);
+    let mut notes = ViewNotes::new(alloc);
     let later = address(2, 2);
     notes.outdate(&first_of(1), &view, &later).ok()?;
     joined(alloc, &mut notes, &view, later)?;
@@ -86,7 +86,7 @@ fn a_later_incarnation_takes_the_place_of_the_earlier(rt: HostRuntime) {
 /// Whether 1.1 suspects itself when 1.2 comes.
 fn suspects_itself(alloc: Global) -> Option<bool> {
     let view = view_of(alloc, &[1, 2])?;
-    let mut notes = Notes::new(alloc);
+    let mut notes = ViewNotes::new(alloc);
     notes.outdate(&first_of(1), &view, &address(1, 2)).ok()?;
     Some(notes.is_suspected(&first_of(1)))
 }
@@ -99,7 +99,7 @@ fn no_member_suspects_itself(rt: HostRuntime) {
 /// The count after 4.2 and then 4.1 came to the view of 1.1 and 2.1.
 fn came_late(alloc: Global) -> Option<usize> {
     let view = view_of(alloc, &[1, 2])?;
-    let mut notes = Notes::new(alloc);
+    let mut notes = ViewNotes::new(alloc);
     joined(alloc, &mut notes, &view, address(4, 2))?;
     joined(alloc, &mut notes, &view, address(4, 1))?;
     count(alloc, &notes, &view)
@@ -113,7 +113,7 @@ fn an_earlier_incarnation_is_not_noted(rt: HostRuntime) {
 /// The count after 3.1, which stands in the list of the own flush, came to the view of 1.1 and 2.1.
 fn came_again(alloc: Global) -> Option<usize> {
     let view = view_of(alloc, &[1, 2])?;
-    let mut notes = Notes::new(alloc);
+    let mut notes = ViewNotes::new(alloc);
     let joiner = first_of(3);
     notes
         .note_joiner(alloc, &first_of(1), &view, &[joiner], joiner)
@@ -129,7 +129,7 @@ fn who_is_listed_already_is_not_noted(rt: HostRuntime) {
 /// The count after a seventeenth came.
 fn came_to_full_view(alloc: Global) -> Option<usize> {
     let view = full_view(alloc)?;
-    let mut notes = Notes::new(alloc);
+    let mut notes = ViewNotes::new(alloc);
     joined(alloc, &mut notes, &view, first_of(17))?;
     count(alloc, &notes, &view)
 }
@@ -140,9 +140,9 @@ fn a_seventeenth_is_not_noted(rt: HostRuntime) {
 }
 
 /// The notes of 1.1 after it heard of the view 7@3.1 with these members.
-fn merged(alloc: Global, view: &View, nodes: &[u16]) -> Option<Notes> {
+fn merged(alloc: Global, view: &View, nodes: &[u16]) -> Option<ViewNotes> {
     let other = other_view(alloc, nodes)?;
-    let mut notes = Notes::new(alloc);
+    let mut notes = ViewNotes::new(alloc);
     notes.note_view(alloc, &first_of(1), view, &other).ok()?;
     Some(notes)
 }
@@ -189,7 +189,7 @@ fn all_of_another_view_are_noted_or_none(rt: HostRuntime) {
 
 #[test]
 fn counters_follow_what_was_heard(rt: HostRuntime) {
-    let mut notes = Notes::new(rt.alloc());
+    let mut notes = ViewNotes::new(rt.alloc());
     notes.hear(5);
     notes.hear(4);
     assert!(rt; notes.next_counter(3) == Some(6));
@@ -198,14 +198,14 @@ fn counters_follow_what_was_heard(rt: HostRuntime) {
 
 #[test]
 fn no_counter_is_past_the_greatest(rt: HostRuntime) {
-    let notes = Notes::new(rt.alloc());
+    let notes = ViewNotes::new(rt.alloc());
     assert!(rt; notes.next_counter(GREATEST_NUMBER - 1) == Some(GREATEST_NUMBER));
     assert!(rt; notes.next_counter(GREATEST_NUMBER) == None);
 }
 
 /// The notes of 1.1 in the view of 1.1 and 2.1, of which 2.1 is suspected: 3.1 and 4.1 asked to be let in, and 9 was heard of.
-fn busy(alloc: Global, view: &View) -> Option<Notes> {
-    let mut notes = Notes::new(alloc);
+fn busy(alloc: Global, view: &View) -> Option<ViewNotes> {
+    let mut notes = ViewNotes::new(alloc);
     joined(alloc, &mut notes, view, first_of(3))?;
     joined(alloc, &mut notes, view, first_of(4))?;
     notes.suspect(first_of(2)).ok()?;
@@ -214,7 +214,7 @@ fn busy(alloc: Global, view: &View) -> Option<Notes> {
 }
 
 /// The notes after the view of 1.1 and 3.1 that it made itself.
-fn settled(alloc: Global) -> Option<Notes> {
+fn settled(alloc: Global) -> Option<ViewNotes> {
     let mut notes = busy(alloc, &view_of(alloc, &[1, 2])?)?;
     notes.settle(&view_of(alloc, &[1, 3])?);
     Some(notes)
@@ -254,7 +254,7 @@ fn nothing_is_noted_in_a_view_of_another(rt: HostRuntime) {
 /// Whether the second leads the view of 1.1, 2.1 and 3.1, before and after the first is suspected.
 fn second_leads(alloc: Global) -> Option<(bool, bool)> {
     let view = view_of(alloc, &[1, 2, 3])?;
-    let mut notes = Notes::new(alloc);
+    let mut notes = ViewNotes::new(alloc);
     let before = notes.leads(&view, &first_of(2));
     notes.suspect(first_of(1)).ok()?;
     Some((before, notes.leads(&view, &first_of(2))))
@@ -268,7 +268,7 @@ fn leads_once_the_first_is_suspected(rt: HostRuntime) {
 /// The first unsuspected of the view of 1.1 and 2.1, while one is suspected and then both.
 fn first_left(alloc: Global) -> Option<(Option<Address>, Option<Address>)> {
     let view = view_of(alloc, &[1, 2])?;
-    let mut notes = Notes::new(alloc);
+    let mut notes = ViewNotes::new(alloc);
     notes.suspect(first_of(1)).ok()?;
     let left = notes.first_unsuspected(&view);
     notes.suspect(first_of(2)).ok()?;
@@ -283,7 +283,7 @@ fn the_first_unsuspected_is_of_the_lowest_rank(rt: HostRuntime) {
 /// Whether the candidates of the view of 1.1 and 2.1 changed, before and after 3.1 came.
 fn changed(alloc: Global) -> Option<(bool, bool)> {
     let view = view_of(alloc, &[1, 2])?;
-    let mut notes = Notes::new(alloc);
+    let mut notes = ViewNotes::new(alloc);
     let before = notes.is_changed(alloc, &first_of(1), &view).ok()?;
     joined(alloc, &mut notes, &view, first_of(3))?;
     Some((before, notes.is_changed(alloc, &first_of(1), &view).ok()?))
@@ -295,8 +295,8 @@ fn a_joiner_changes_the_candidates(rt: HostRuntime) {
 }
 
 /// Notes with 2.1 suspected.
-fn suspecting_second(alloc: Global) -> Option<Notes> {
-    let mut notes = Notes::new(alloc);
+fn suspecting_second(alloc: Global) -> Option<ViewNotes> {
+    let mut notes = ViewNotes::new(alloc);
     notes.suspect(first_of(2)).ok()?;
     Some(notes)
 }

@@ -1,6 +1,7 @@
 use crate::fixtures::first_of;
+use owned_bytes::Bytes;
 use std::alloc::{AllocError, Global};
-use trace_props::{Bytes, Event, HandedBack, Numbered, Trace};
+use trace_props::{Event, HandedBack, Numbered, Trace};
 
 // What each rule refuses and what it lets pass is tested as text, by the files `check-*.txt` of the crate `scenarios`.
 

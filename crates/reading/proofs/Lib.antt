@@ -1,1 +1,1 @@
-pub mod FactOfReadLists
+pub mod ListsRead

@@ -1,4 +1,4 @@
-//! Values read from the front of bytes, each with its test: for all that an application spells in bytes (docs/FORMATS.md, "The chat's state").
+//! Values read from the front of bytes, each with its test: for all that an application spells in bytes (docs/RECEIVERS.md, "The chat's state").
 #![tactic(auto)]
 
 ghost use Rattle.std.specs.Prelude.{◌≡◌, ◌≤◌, ◌==◌, length, IfSome, IfNone};

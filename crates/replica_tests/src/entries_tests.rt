@@ -1,7 +1,7 @@
 use keyed_entries::{Entry, KeyBytes, is_rising, key_field, key_from, last_key, look_ups, put_key};
+use owned_bytes::Bytes;
 use reading::Reader;
 use std::alloc::{AllocError, Global};
-use trace_props::Bytes;
 
 // Entries of these keys, each with the number of its place.
 fn entries_of(alloc: Global, keys: &[&[u8]]) -> Result<Vec<Entry<u64>>, AllocError> {

@@ -1,8 +1,9 @@
 //! What happens to the member of node 1, for the tests of what a node answers.
 
 use address::{Address, Node, ViewId};
+use owned_bytes::Bytes;
 use std::alloc::{AllocError, Global};
-use trace_props::{BoxedInstall, Bytes, Delivery, Event, HandedBack, Install, Message};
+use trace_props::{BoxedInstall, Delivery, Event, HandedBack, Install, Message};
 use view::{Addresses, View};
 
 // Node 1's first member.

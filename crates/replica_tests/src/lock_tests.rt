@@ -10,7 +10,7 @@ use state_transfer::Receiver;
 use std::alloc::{AllocError, Global};
 use view::{Addresses, View};
 
-// By hand from the tables of docs/FORMATS.md, "The table of locks". The members 1.1, 2.1 and 3.1.
+// By hand from the tables of docs/RECEIVERS.md, "The table of locks". The members 1.1, 2.1 and 3.1.
 const FIRST: &[u8] = b"\x00\x01\x00\x00\x00\x01";
 
 const SECOND: &[u8] = b"\x00\x02\x00\x00\x00\x01";

@@ -6,7 +6,7 @@ use tokens::{
     token_in, tokens_are_ordered, view_id_from,
 };
 
-// By hand from docs/FORMATS.md, "Tokens": the view id 1@1.1, and behind it the token 1@1.1/2.
+// By hand from docs/RECEIVERS.md, "Tokens": the view id 1@1.1, and behind it the token 1@1.1/2.
 const BOTH: &[u8] =
     b"\x00\x00\x00\x00\x00\x00\x00\x01\x00\x01\x00\x00\x00\x01\x00\x00\x00\x00\x00\x00\x00\x01\x00\x01\x00\x00\x00\x01\x00\x00\x00\x00\x00\x00\x00\x02";
 

@@ -1,6 +1,6 @@
-pub mod FactOfEntries
-pub mod FactOfChanges
-pub mod FactOfOutcomes
-pub mod FactOfVersions
-pub mod FactOfAppends
-pub mod FactOfStamps
+pub mod EntriesChange
+pub mod ReplacementsChange
+pub mod OutcomesSay
+pub mod VersionsOnlyRise
+pub mod PartsAppend
+pub mod StampsSpellViews

@@ -1,4 +1,4 @@
--- What a replacement makes of a map, and which puts stay within the limits of its state (docs/FORMATS.md, "The map's commands").
+-- What a replacement makes of a map, and which puts stay within the limits of its state (docs/RECEIVERS.md, "The map's commands").
 use Rattle.std.specs.Prelude.{◌≡◌, ◌≢◌, true, false, ℕ, ◌+◌, List, length, Option, Some, None}
 use Rattle.address.specs.Ids.{Address, ViewId}
 use Rattle.keyed_entries.specs.Entries.{put, without}

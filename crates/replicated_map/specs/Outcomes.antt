@@ -1,4 +1,4 @@
--- What becomes of a command at a map, and what that says of the map before and after it (docs/FORMATS.md, "What becomes of a command").
+-- What becomes of a command at a map, and what that says of the map before and after it (docs/RECEIVERS.md, "What becomes of a command").
 use Rattle.std.specs.Prelude.{◌≡◌, ◌≢◌, false, ℕ, List, Option, Some, None, if◌then◌else◌}
 use Rattle.address.specs.Ids.{Address, ViewId}
 use Rattle.tokens.specs.declared.token.Token.{Token}

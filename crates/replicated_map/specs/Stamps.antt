@@ -1,4 +1,4 @@
--- What is stamped with a view spells it (docs/FORMATS.md, "The map's commands").
+-- What is stamped with a view spells it (docs/RECEIVERS.md, "The map's commands").
 use Rattle.std.specs.Prelude.{◌≡◌, ℕ, List, Some, Ok}
 use Rattle.address.specs.Ids.{ViewId}
 use Rattle.tokens.specs.Tokens.{IsViewId}

@@ -1,4 +1,4 @@
--- Versions rise along the messages, and none comes back (docs/FORMATS.md, "The map's state").
+-- Versions rise along the messages, and none comes back (docs/RECEIVERS.md, "The map's state").
 use Rattle.std.specs.Prelude.{◌≡◌, ◌≢◌, true, ℕ, List, Some, fold}
 use Rattle.std.specs.Ordering.{is_lt}
 use Rattle.address.specs.Ids.{ViewId, view_id_cmp}

@@ -9,9 +9,9 @@ use crate::entries::copied;
 use crate::{Held, ValueBytes};
 use keyed_entries::{Entry, KeyBytes, Place};
 use limits::{GREATEST_NUMBER, STATE};
+use owned_bytes::Bytes;
 use std::alloc::AllocError;
 use tokens::Token;
-use trace_props::Bytes;
 
 // In how many bytes a state is encoded once a key, whose place is this, has a value. It has so many without.
 pub(crate) fn size_with(

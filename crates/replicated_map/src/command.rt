@@ -11,7 +11,7 @@ use keyed_entries::KeyBytes;
 use reading::Reader;
 use std::alloc::AllocError;
 
-/// What a message asks of the map (docs/FORMATS.md, "The map's commands"). A command that gives a value spells the view in which it is sent: of that view, or of a later one, is
+/// What a message asks of the map (docs/RECEIVERS.md, "The map's commands"). A command that gives a value spells the view in which it is sent: of that view, or of a later one, is
 /// the value's version.
 #[derive(Debug, Drop)]
 pub enum Command<'a> {

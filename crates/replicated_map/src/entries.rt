@@ -9,10 +9,10 @@ use crate::decoding::value_from;
 use crate::encoding::put_value;
 use keyed_entries::{Entry, KeyBytes, Place, find};
 use keyed_state::Kept;
+use owned_bytes::Bytes;
 use reading::Reader;
 use std::alloc::{AllocError, Global};
 use tokens::{Token, put_token, token_from};
-use trace_props::Bytes;
 
 /// What a key has: a value, and the version that it was given with.
 #[derive(Debug, Drop)]

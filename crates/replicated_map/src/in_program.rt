@@ -8,10 +8,10 @@ use crate::words::command_said;
 use crate::{Command, ReplicatedMap};
 use address::{Address, ViewId};
 use application::Application;
+use owned_bytes::Bytes;
 use script_reader::{Payloads, Unheard};
 use std::alloc::{AllocError, Global};
 use tokens::Token;
-use trace_props::Bytes;
 use view::View;
 
 // The spelling of a command.

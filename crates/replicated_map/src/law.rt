@@ -21,7 +21,7 @@ pub fn one_spelling()
     ensures { (bytes : List ℕ) (c : CommandValue) → (command_of bytes ≡ Some c) ↔ (IsCommand c × (command_bytes c ≡ bytes)) }
 {}
 
-/// The law of replacements (docs/FORMATS.md, "The map's commands"). If the key has the expected value, and the state then is within its limits, a replacement gives its value.
+/// The law of replacements (docs/RECEIVERS.md, "The map's commands"). If the key has the expected value, and the state then is within its limits, a replacement gives its value.
 /// If the key has another value, or none, it changes nothing. If it gave another value than the expected one, a second one right after it that expects the same value changes nothing.
 /// A replacement and a removal of a version change the map exactly where the key has a value of that version.
 pub fn replaces()
@@ -34,7 +34,7 @@ pub fn replaces()
     ensures keeps { NotRemovedAtAnother }
 {}
 
-/// The law of sizes (docs/FORMATS.md, "The map's state"). A put is carried out if the state then is within its limits. Otherwise it changes nothing, and neither does a replacement.
+/// The law of sizes (docs/RECEIVERS.md, "The map's state"). A put is carried out if the state then is within its limits. Otherwise it changes nothing, and neither does a replacement.
 /// A new key takes 25 bytes, its own and those of its value. A new value takes its bytes in place of the old one's. A removal gives back what its key and value took.
 pub fn sizes()
     ensures fits { PutIfItFits }
@@ -46,7 +46,7 @@ pub fn sizes()
     ensures removal { RemovalGives }
 {}
 
-/// The law of outcomes (docs/FORMATS.md, "What becomes of a command"). It says what the outcome of a command tells of the map right before it and right after it.
+/// The law of outcomes (docs/RECEIVERS.md, "What becomes of a command"). It says what the outcome of a command tells of the map right before it and right after it.
 pub fn outcomes()
     ensures stored { StoredStands }
     ensures replaced { ReplaceStands }
@@ -62,7 +62,7 @@ pub fn outcomes()
     ensures no_command { NoCommandIsKept }
 {}
 
-/// The law of versions (docs/FORMATS.md, "The map's state"). What a message gives has a version above all that the map had before, and above all of lower views than the message's.
+/// The law of versions (docs/RECEIVERS.md, "The map's state"). What a message gives has a version above all that the map had before, and above all of lower views than the message's.
 /// So versions rise along the messages of a copy. A version names one value of its key, and once that value is gone it never comes back.
 pub fn versions()
     ensures above { AboveAllBefore }

@@ -1,5 +1,5 @@
 //! A replicated map from keys to values: all copies that were given the same commands have the same entries, with the same versions
-//! (docs/FORMATS.md, "The map's state").
+//! (docs/RECEIVERS.md, "The map's state").
 #![tactic(auto)]
 
 mod changing;

@@ -1,4 +1,4 @@
-//! The line of a map (docs/FORMATS.md, "The map's lines").
+//! The line of a map (docs/RECEIVERS.md, "The map's lines").
 
 ghost use Rattle.std.specs.Prelude.{◌≡◌, ◌++◌, ◌∷◌, codes, OnOk};
 ghost use Rattle.address.specs.Ids.{text_of_address};

@@ -19,7 +19,7 @@ use std::marker::Model;
 use tokens::{Token, known_view_id};
 use view::View;
 
-/// A copy of the map. Contracts see it as the last version that was given, and the list of its entries, their keys rising (docs/FORMATS.md, "The map's state").
+/// A copy of the map. Contracts see it as the last version that was given, and the list of its entries, their keys rising (docs/RECEIVERS.md, "The map's state").
 #[derive(Debug, Drop)]
 pub struct ReplicatedMap {
     last: Token,

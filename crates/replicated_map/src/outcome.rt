@@ -13,7 +13,7 @@ use keyed_entries::{KeyBytes, find};
 use std::alloc::{AllocError, Global};
 use tokens::Token;
 
-/// What becomes of a command at a map (docs/FORMATS.md, "What becomes of a command").
+/// What becomes of a command at a map (docs/RECEIVERS.md, "What becomes of a command").
 #[derive(Debug, Drop)]
 pub enum Outcome {
     /// Its key has its value from now on, of this version.

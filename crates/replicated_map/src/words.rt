@@ -1,4 +1,4 @@
-//! The words of the map's commands (docs/FORMATS.md, "The map's lines").
+//! The words of the map's commands (docs/RECEIVERS.md, "The map's lines").
 
 ghost use Rattle.std.specs.Prelude.{◌≡◌, Ok, Err, MatchResult};
 ghost use Rattle.std.specs.Option.{option_copied};

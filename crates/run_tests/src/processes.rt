@@ -3,7 +3,7 @@
 use chat_log::ChatLog;
 use commands::run_check_processes;
 use endings::Status;
-use merge_law::verdicts_are_the_same;
+use law_merges::verdicts_are_the_same;
 use std::alloc::{AllocError, Global};
 
 /// What the first of two processes tells: it makes a group, says `h`, and lets the second in.

@@ -1,2 +1,2 @@
-pub mod FactOfTexts
-pub mod FactOfReading
+pub mod TextsRead
+pub mod ScriptsRead

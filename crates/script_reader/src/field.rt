@@ -21,7 +21,7 @@ fn index_of(byte: u8, text: &[u8]) -> Option<usize>
 }
 
 /// How many bytes stand before the first that is `byte`: all of them where none is.
-#[tactic(auto, using(crate::proofs::FactOfReading::until_first, crate::proofs::FactOfReading::nowhere))]
+#[tactic(auto, using(crate::proofs::ScriptsRead::until_first, crate::proofs::ScriptsRead::nowhere))]
 fn length_until(byte: u8, text: &[u8]) -> usize
     ensures value { result ≡ position_or_len (λ b. nat_eq b byte) text.now }
     ensures within { result ≤ length text.now }
@@ -34,7 +34,7 @@ fn length_until(byte: u8, text: &[u8]) -> usize
 
 /// The first line of a text that is not empty, without its line feed, and what stands behind that; a last line may lack its
 /// line feed (docs/FORMATS.md, "Script text").
-#[tactic(auto, using(crate::proofs::FactOfReading::first_of_lines))]
+#[tactic(auto, using(crate::proofs::ScriptsRead::first_of_lines))]
 pub fn first_line(text: &[u8]) -> (&[u8], &[u8])
     requires { 0 < length text.now }
     ensures lines { lines_of text.now ≡ result.0.now ∷ lines_of result.1.now }
@@ -91,7 +91,7 @@ fn has_plain_front(field: &[u8]) -> bool
 }
 
 /// The number that digits spell, if it is at most `high`.
-#[tactic(auto, using(crate::proofs::FactOfReading::value_beyond))]
+#[tactic(auto, using(crate::proofs::ScriptsRead::value_beyond))]
 fn value_of(digits: &[u8], high: u64) -> Option<u64>
     ensures { result ≡ (if nat_le (value_of digits.now) high then Some (value_of digits.now) else None) }
 {

@@ -9,8 +9,8 @@ use crate::field::{address_field, first_field, node_field, packet_field};
 use crate::{Fault, Payloads, Unheard};
 use address::{Address, Node};
 use limits::SCRIPT_LINE;
+use owned_bytes::Bytes;
 use std::alloc::Global;
-use trace_props::Bytes;
 use world_model::WorldEvent;
 
 /// A word with which a line of a script begins.

@@ -3,8 +3,8 @@ ghost use Rattle.script_reader.specs.declared.fault.Fault.{Fault as FaultValue};
 ghost use Rattle.script_reader.specs.Texts.{IsReadUnlessRefused};
 
 use crate::Unheard;
+use owned_bytes::Bytes;
 use std::alloc::{AllocError, Global};
-use trace_props::Bytes;
 
 /// How the text of a `send` says the payload that is sent (docs/FORMATS.md, "Script text").
 pub trait Payloads {

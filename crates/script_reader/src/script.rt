@@ -89,7 +89,7 @@ impl Script {
 /// begins with no known word (40), lacks a field (42), or has a field that is no such number or one field too many (41); or the text of a
 /// send says no payload (41 or 42).
 /// `Unread::Memory` where memory was refused.
-#[tactic(auto, using(crate::proofs::FactOfReading::script_is_going_on))]
+#[tactic(auto, using(crate::proofs::ScriptsRead::script_is_going_on))]
 pub fn read_script_by<P: Payloads>(alloc: Global, text: &[u8]) -> Result<Script, Unread>
     ensures { MatchResult result (λ script. script_by P.payload_of text.now ≡ Ok script) (IsUnread (script_by P.payload_of text.now)) }
 {

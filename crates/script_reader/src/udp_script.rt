@@ -98,7 +98,7 @@ fn read_on(alloc: Global, lines: &mut Vec<UdpLine>, number: u64, line: &[u8]) ->
 /// # Errors
 ///
 /// Those of `read_script`.
-#[tactic(auto, using(crate::proofs::FactOfReading::udp_script_is_going_on))]
+#[tactic(auto, using(crate::proofs::ScriptsRead::udp_script_is_going_on))]
 pub fn read_udp_script(alloc: Global, text: &[u8]) -> Result<Vec<UdpLine>, Unread>
     ensures { MatchResult result (λ lines. udp_script_of text.now ≡ Ok lines.items) (IsUnread (udp_script_of text.now)) }
 {

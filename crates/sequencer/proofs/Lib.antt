@@ -1,3 +1,3 @@
-pub mod FactOfFirst
+pub mod FirstThatPasses
 pub mod Queues
 pub mod Slots

@@ -4,7 +4,7 @@ use Rattle.std.specs.Prelude.{if◌then◌else◌, slice_set, MatchOption, Resul
 use Rattle.std.proofs.lemmas.List.{set-get_or}
 use Rattle.wire_values.specs.Values.{Entry}
 use Rattle.sequencer.specs.Queues.{Queue, has_next, next_of, served, first_next, change_first}
-use Rattle.sequencer.proofs.FactOfFirst.{IsFirst, IsNone, change-at}
+use Rattle.sequencer.proofs.FirstThatPasses.{IsFirst, IsNone, change-at}
 
 -- the first queue whose next message waits gives the next message of all
 pub first-next-at : (queues : List Queue) (i : ℕ) (q : Queue) → IsFirst has_next queues i q → first_next queues ≡ next_of q

@@ -6,9 +6,10 @@ ghost use Rattle.sequencer.specs.Forwards.{ForwardsModel, no_forwards, pushed, d
 use crate::Forward;
 use limits::{GREATEST_NUMBER, OUTSTANDING, Refusal};
 use nak_stream::OwnedPayload;
+use owned_bytes::Bytes;
 use std::alloc::{AllocError, Global};
 use std::marker::Model;
-use trace_props::{Bytes, HandedBack, Numbered};
+use trace_props::{HandedBack, Numbered};
 use wire_values::Number;
 
 /// A member's own messages of a view that were sent and not delivered here, at most `OUTSTANDING` of them, by their numbers. Numbers run from 1 to `GREATEST_NUMBER`.

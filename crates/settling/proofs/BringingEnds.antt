@@ -8,13 +8,13 @@ use Rattle.address.proofs.SameIds.{same_address-refl}
 use Rattle.view.specs.Members.{View, stands_in}
 use Rattle.wire_values.specs.declared.packet.Body.TheVariants as bodies
 use Rattle.state_transfer.specs.Meanings.{Meaning}
-use Rattle.acts.specs.Acts.{packet}
-use Rattle.agreement.proofs.KeepBySteps
+use Rattle.law_acts.specs.Acts.{packet}
+use Rattle.law_agreement.proofs.KeepBySteps
 use Rattle.membership.specs.declared.member_state.MemberState.{MemberState}
 use Rattle.world_model.specs.Packets.{world_group}
 use Rattle.world_step.specs.Worlds.{WorldModel}
 use Rattle.world_plays.specs.Plays.{lacks_memory, Breaks, BreaksPast}
-use Rattle.deployment.proofs.FactOfPosts.{EachSound}
+use Rattle.law_processes.proofs.PostsAreSpelled.{EachSound}
 use Rattle.world_plays.proofs.Deliveries.{breaks-none, breaks-next}
 use Rattle.world_plays.proofs.PoolPackets.{AreNext}
 use Rattle.world_plays.proofs.Standing
@@ -22,10 +22,10 @@ use Rattle.world_plays.proofs.Standing.{Stands}
 use Rattle.settling.specs.Settles.{EndsSettling}
 use Rattle.settling.specs.LostInstalls.{awaited_at, BringsInShort, BringsShort}
 use Rattle.settling.specs.LostInstalls.BringsInShort.{AtTick, AtReport, AtInstall}
-use Rattle.settling.proofs.FactOfAwaiting
-use Rattle.settling.proofs.FactOfAwaiting.{Made, Awaits}
-use Rattle.settling.proofs.FactOfBrought
-use Rattle.settling.proofs.FactOfBrought.{IsOf, Gathered}
+use Rattle.settling.proofs.WhoAwaits
+use Rattle.settling.proofs.WhoAwaits.{Made, Awaits}
+use Rattle.settling.proofs.InstallsComeAgain
+use Rattle.settling.proofs.InstallsComeAgain.{IsOf, Gathered}
 use Rattle.settling.proofs.SettlingEnds
 use Rattle.settling.proofs.SettlingEnds.{AllStand, lost}
 use Rattle.settling.proofs.StageOfBringing
@@ -88,40 +88,40 @@ module _ {S : Type 0} (meaning : Meaning S) (laws : KeepBySteps.Laws meaning) wh
         let bytes = meaning.encode y.begun.state in
         let chunks = state_packets c q v.id bytes 1 y.count in
         let last = packet c (bodies.Install y.install) q in
-        let own = (FactOfBrought.install meaning laws old c q l v m a).own in
-        let other = FactOfBrought.other meaning laws old c q l v m a in
-        let next = FactOfBrought.packets-next meaning laws old c q l v m a answered before y in
+        let own = (InstallsComeAgain.install meaning laws old c q l v m a).own in
+        let other = InstallsComeAgain.other meaning laws old c q l v m a in
+        let next = InstallsComeAgain.packets-next meaning laws old c q l v m a answered before y in
         ⊎_elim (λ z.
         states-break y.count 0 (length before) answered new c q v bytes y.made.keeps stand listed holds own other (StageOfInstalls.all-front meaning laws _ chunks (last ∷ []) y.sound)
         (StageOfInstalls.next-front meaning laws (length before) chunks (last ∷ []) answered.history.pool next) z)
         (λ z.
-        let i = FactOfBrought.by-chunks meaning laws old c q l v m a answered z.mid before y holds z.first in
+        let i = InstallsComeAgain.by-chunks meaning laws old c q l v m a answered z.mid before y holds z.first in
         let now = SettlingEnds.all-still meaning laws answered z.mid v q holds.member_state stand holds.stands i.on.leaves.others (record { member_state = i.on.holds.member_state; stands = i.on.holds.stands }) in
         ⊎_elim (λ fails. SettlingEnds.fails-at meaning laws z.mid new v q i.on.holds.member_state (length before + y.count + 1) last i.on.leaves.keeps now listed i.on.holds.stands i.to fails)
         (λ d. absurd (breaks-none meaning (length before + y.count + 1) 0 d.mid new refl d.rest))
         (breaks-next meaning (length before + y.count) 1 0 z.mid new refl z.second))
-        (SettlingEnds.breaks-split meaning laws y.count 1 (length before) (length answered.history.pool - length before) answered new (FactOfBrought.many meaning laws old c q l v m a answered before y) breaks)
+        (SettlingEnds.breaks-split meaning laws y.count 1 (length before) (length answered.history.pool - length before) answered new (InstallsComeAgain.many meaning laws old c q l v m a answered before y) breaks)
 
     one-ends : (new : WorldModel S) → BringsInShort meaning q old new → EndsSettling v new
     one-ends _ (AtTick new (inl same)) = SettlingEnds.not-begun meaning laws old new v m.keeps all same
     one-ends _ (AtTick new (inr x)) = SettlingEnds.crashed meaning laws old new v q listed (lost (lacks_memory x.0.answer) x.1 (Standing.ticked meaning old new q k a.stands x.0))
     one-ends _ (AtReport asked new ticks fails) =
-        let x = FactOfBrought.by-tick meaning laws old c q l v m a asked ticks in
-        SettlingEnds.fails-at meaning laws asked new v c l (length asked.history.pool) _ x.keeps (still-asked asked x) first (FactOfBrought.made-still meaning laws old c q l v m a asked x).stands
-        (FactOfBrought.report-next meaning laws old c q l v m a asked x) fails
+        let x = InstallsComeAgain.by-tick meaning laws old c q l v m a asked ticks in
+        SettlingEnds.fails-at meaning laws asked new v c l (length asked.history.pool) _ x.keeps (still-asked asked x) first (InstallsComeAgain.made-still meaning laws old c q l v m a asked x).stands
+        (InstallsComeAgain.report-next meaning laws old c q l v m a asked x) fails
     one-ends _ (AtInstall asked answered new ticks report breaks) =
-        let x = FactOfBrought.by-tick meaning laws old c q l v m a asked ticks in
-        let y = FactOfBrought.by-report meaning laws old c q l v m a asked answered x report in
-        let made = FactOfBrought.made-still meaning laws old c q l v m a asked x in
+        let x = InstallsComeAgain.by-tick meaning laws old c q l v m a asked ticks in
+        let y = InstallsComeAgain.by-report meaning laws old c q l v m a asked answered x report in
+        let made = InstallsComeAgain.made-still meaning laws old c q l v m a asked x in
         let stand = SettlingEnds.all-still meaning laws asked answered v c l (still-asked asked x) made.stands y.1 (record { member_state = l; stands = y.0.made.stands }) in
-        installs-break answered new asked.history.pool y.0 (FactOfBrought.holding meaning laws old c q l v m a asked answered x y.0 y.1) stand breaks
+        installs-break answered new asked.history.pool y.0 (InstallsComeAgain.holding meaning laws old c q l v m a asked answered x y.0 y.1) stand breaks
 
   pub ends : (old new : WorldModel S) (n : ℕ) (v : View) → Keeps meaning laws old → awaited_at old.node_states n ≡ Some v → BringsShort meaning n v old new → EndsSettling v new
   ends old new n v keeps at short =
-      let a = FactOfBrought.starts meaning laws old n v keeps at in
+      let a = InstallsComeAgain.starts meaning laws old n v keeps at in
       let c = a.creator in
       let l = a.member_state in
-      let g = FactOfBrought.all-gathered meaning laws old n c l v a.node a.gathered (take short.place v.members) short.mid (λ q there. in-take v.members short.place q there) short.before in
-      let waits = FactOfBrought.test-awaits meaning laws short.mid n c short.last l v a.node g.made short.awaits in
-      let first : stands_in c v.members ≡ true = (FactOfAwaiting.always meaning laws short.mid c l g.made.keeps g.made.stands).inside v g.made.view in
+      let g = InstallsComeAgain.all-gathered meaning laws old n c l v a.node a.gathered (take short.place v.members) short.mid (λ q there. in-take v.members short.place q there) short.before in
+      let waits = InstallsComeAgain.test-awaits meaning laws short.mid n c short.last l v a.node g.made short.awaits in
+      let first : stands_in c v.members ≡ true = (WhoAwaits.always meaning laws short.mid c l g.made.keeps g.made.stands).inside v g.made.view in
       one-ends short.mid c short.last l v g.made waits (all-stand short.mid c l v (take short.place v.members) g) first (in-list v.members short.place short.last short.stands) new short.short

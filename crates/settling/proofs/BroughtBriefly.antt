@@ -8,24 +8,24 @@ use Rattle.address.proofs.SameIds.{same_address-refl}
 use Rattle.view.specs.Members.{View, stands_in}
 use Rattle.view.specs.View.{view_refusal}
 use Rattle.state_transfer.specs.Meanings.{Meaning}
-use Rattle.acts.specs.Acts.{others_of}
-use Rattle.agreement.proofs.KeepBySteps
-use Rattle.agreement.proofs.FactOfRegisters.{flush-stands}
-use Rattle.agreement.specs.Packets.{IsProposal, BodyFact}
+use Rattle.law_acts.specs.Acts.{others_of}
+use Rattle.law_agreement.proofs.KeepBySteps
+use Rattle.law_agreement.proofs.RegistersHoldPackets.{flush-stands}
+use Rattle.law_agreement.specs.Packets.{IsProposal, BodyFact}
 use Rattle.wire_values.specs.declared.packet.Body.{Body}
 use Rattle.membership.specs.declared.member_state.MemberState.{MemberState}
 use Rattle.world_model.specs.declared.WorldEvent.TheVariants.{Deliver, Tick}
 use Rattle.world_step.specs.Worlds.{WorldModel}
-use Rattle.world_step.proofs.FactOfSystem.{system_of}
+use Rattle.world_step.proofs.MembersAsSystem.{system_of}
 use Rattle.world_plays.proofs.Standing
 use Rattle.settling.specs.LostInstalls.{awaits_install, awaited_at, BringsIn, BringsAll}
 use Rattle.settling.specs.LostInstalls.BringsAll.{Nobody, Next}
-use Rattle.settling.proofs.FactOfAwaiting
-use Rattle.settling.proofs.FactOfAwaiting.{Made, Awaits}
-use Rattle.settling.proofs.FactOfBriefness.{shorter, members-few}
-use Rattle.settling.proofs.FactOfBrought
-use Rattle.settling.proofs.FactOfBrought.{Gathered, AreListed}
-use Rattle.settling.proofs.FactOfSettled
+use Rattle.settling.proofs.WhoAwaits
+use Rattle.settling.proofs.WhoAwaits.{Made, Awaits}
+use Rattle.settling.proofs.SettlingsAreBrief.{shorter, members-few}
+use Rattle.settling.proofs.InstallsComeAgain
+use Rattle.settling.proofs.InstallsComeAgain.{Gathered, AreListed}
+use Rattle.settling.proofs.SettlingsSettle
 use Rattle.settling.proofs.StageOfFlushes.{Keeps}
 
 module _ {S : Type 0} (meaning : Meaning S) (laws : KeepBySteps.Laws meaning) where
@@ -33,13 +33,13 @@ module _ {S : Type 0} (meaning : Meaning S) (laws : KeepBySteps.Laws meaning) wh
   one-brief : (old new : WorldModel S) (c q : Address) (l : MemberState S) (v : View) → Made meaning laws old c l v → Awaits meaning laws old l v q → BringsIn meaning q old new
       → length new.history.events ≤ length old.history.events + 35
   one-brief old new c q l v m a b =
-      let x = FactOfBrought.by-tick meaning laws old c q l v m a b.asked b.ticks in
-      let y = (FactOfBrought.by-report meaning laws old c q l v m a b.asked b.answered x b.report).0 in
+      let x = InstallsComeAgain.by-tick meaning laws old c q l v m a b.asked b.ticks in
+      let y = (InstallsComeAgain.by-report meaning laws old c q l v m a b.asked b.answered x b.report).0 in
       let few = y.few in
-      let many = FactOfBrought.many meaning laws old c q l v m a b.answered b.asked.history.pool y in
-      let e1 = FactOfSettled.adds meaning laws old b.asked (Tick q.node) b.ticks in
-      let e2 = FactOfSettled.adds meaning laws b.asked b.answered (Deliver (length b.asked.history.pool)) b.report in
-      let e3 = FactOfSettled.adds-all meaning laws _ _ b.answered new b.installs in
+      let many = InstallsComeAgain.many meaning laws old c q l v m a b.answered b.asked.history.pool y in
+      let e1 = SettlingsSettle.adds meaning laws old b.asked (Tick q.node) b.ticks in
+      let e2 = SettlingsSettle.adds meaning laws b.asked b.answered (Deliver (length b.asked.history.pool)) b.report in
+      let e3 = SettlingsSettle.adds-all meaning laws _ _ b.answered new b.installs in
       count (length old.history.events) (length b.asked.history.events) (length b.answered.history.events) (length new.history.events) y.count
       (length b.answered.history.pool - length b.asked.history.pool) few many e1 e2 e3
     where
@@ -58,8 +58,8 @@ module _ {S : Type 0} (meaning : Meaning S) (laws : KeepBySteps.Laws meaning) wh
       → awaits_install mid.node_states n v q ≡ b → MatchBool b (BringsIn meaning q mid new) (new ≡ mid) → length mid.history.events ≤ start + 35 * length (others_of c qs)
       → length new.history.events ≤ start + 35 * length (others_of c (qs ++ q ∷ []))
   next-brief mid new n c q l v qs start true node x e plays before =
-      let a = FactOfBrought.test-awaits meaning laws mid n c q l v node x.made e in
-      let other = FactOfBrought.other meaning laws mid c q l v x.made a in
+      let a = InstallsComeAgain.test-awaits meaning laws mid n c q l v node x.made e in
+      let other = InstallsComeAgain.other meaning laws mid c q l v x.made a in
       let one = one-brief mid new c q l v x.made a plays in
       let more = others-more c q qs false other in
       omega (arith, before, one, more)
@@ -72,15 +72,15 @@ module _ {S : Type 0} (meaning : Meaning S) (laws : KeepBySteps.Laws meaning) wh
       → BringsAll meaning n v old qs new → length new.history.events ≤ length old.history.events + 35 * length (others_of c qs)
   all-brief old n c l v node x _ _ listed Nobody = omega arith
   all-brief old n c l v node x _ _ listed (Next qs q mid new before plays) =
-      let few = λ (p : Address) (there : stands_in p qs ≡ true). listed p (FactOfBrought.in-front meaning laws p q qs there) in
-      let y = FactOfBrought.all-gathered meaning laws old n c l v node x qs mid few before in
+      let few = λ (p : Address) (there : stands_in p qs ≡ true). listed p (InstallsComeAgain.in-front meaning laws p q qs there) in
+      let y = InstallsComeAgain.all-gathered meaning laws old n c l v node x qs mid few before in
       next-brief mid new n c q l v qs (length old.history.events) (awaits_install mid.node_states n v q) node y refl plays (all-brief old n c l v node x qs mid few before)
 
   -- the view has few members
   members-of : (w : WorldModel S) (c q : Address) (l : MemberState S) (v : View) → Made meaning laws w c l v → Awaits meaning laws w l v q → view_refusal v.id v.members ≡ None
   members-of w c q l v m a =
       let s = system_of w.node_states w.history.pool w.history.trace in
-      let i = FactOfAwaiting.keeps-for meaning laws w c q l v m a.kept in
+      let i = WhoAwaits.keeps-for meaning laws w c q l v m a.kept in
       let put = flush-stands i.install.view.id i.install.view.members s.history.pool i.instruction.led.announced in
       let posted = put.2.posted in
       let fact : IsProposal s.history posted.source i.install.view =
@@ -91,12 +91,12 @@ module _ {S : Type 0} (meaning : Meaning S) (laws : KeepBySteps.Laws meaning) wh
   pub brief : (old new : WorldModel S) (n : ℕ) (v : View) → Keeps meaning laws old → awaited_at old.node_states n ≡ Some v → BringsAll meaning n v old v.members new
       → length new.history.events ≤ length old.history.events + 526
   brief old new n v keeps at x =
-      let a = FactOfBrought.starts meaning laws old n v keeps at in
+      let a = InstallsComeAgain.starts meaning laws old n v keeps at in
       let c = a.creator in
       let l = a.member_state in
       let made = a.gathered.made in
       let all = all-brief old n c l v a.node a.gathered v.members new (λ q there. there) x in
-      let listed : stands_in c v.members ≡ true = (FactOfAwaiting.always meaning laws old c l made.keeps made.stands).inside v made.view in
+      let listed : stands_in c v.members ≡ true = (WhoAwaits.always meaning laws old c l made.keeps made.stands).inside v made.view in
       let fewer = shorter (λ q. not (same_address q c)) c v.members (ap not (same_address-refl c)) listed in
       let sixteen = members-few v.id v.members (members-of old c a.one l v made a.awaits) in
       count (length old.history.events) (length new.history.events) (length (others_of c v.members)) (length v.members) all fewer sixteen

@@ -5,7 +5,7 @@ use Rattle.std.specs.Option.{ForSome, IsSomeAnd, option_or}
 use Rattle.std.proofs.lemmas.Option.{same_Some}
 use Rattle.view.specs.Members.{View}
 use Rattle.state_transfer.specs.Meanings.{Meaning}
-use Rattle.agreement.proofs.KeepBySteps
+use Rattle.law_agreement.proofs.KeepBySteps
 use Rattle.world_step.specs.Worlds.{WorldModel, IsLonger}
 use Rattle.settling.specs.Settles.{settling_at, Settles, SettlesShort, IsSettled, EndsSettling}
 use Rattle.settling.specs.LostInstalls.{awaited_at, BringsAll, BringsShort}
@@ -14,8 +14,8 @@ use Rattle.settling.specs.Completing.{ready_at, completing_at, most_events, Comp
 use Rattle.settling.proofs.BringingEnds
 use Rattle.settling.proofs.BringingIsRun
 use Rattle.settling.proofs.BroughtBriefly
-use Rattle.settling.proofs.FactOfBrought
-use Rattle.settling.proofs.FactOfSettled
+use Rattle.settling.proofs.InstallsComeAgain
+use Rattle.settling.proofs.SettlingsSettle
 use Rattle.settling.proofs.OvertakingEnds
 use Rattle.settling.proofs.OvertakingIsRun
 use Rattle.settling.proofs.SettlingEnds
@@ -104,7 +104,7 @@ module _ {S : Type 0} (meaning : Meaning S) where
     settled x =
         either (ready_at old.node_states n) (overtaking_at old.node_states n) v _ _ (IsSettled v new.history.trace) at x
         (λ ready y. either (settling_at old.node_states n) (awaited_at old.node_states n) v _ _ (IsSettled v new.history.trace) ready y
-        (λ e z. FactOfSettled.settled meaning laws old new n v keeps e z) (λ none e z. FactOfBrought.settled meaning laws old new n v keeps e z))
+        (λ e z. SettlingsSettle.settled meaning laws old new n v keeps e z) (λ none e z. InstallsComeAgain.settled meaning laws old new n v keeps e z))
         (λ none e y. TwoRounds.overtakes-settle meaning laws old y.raised new n v keeps e y.overtakes y.settles)
 
     abbrev few : ℕ → Type 0
@@ -115,7 +115,7 @@ module _ {S : Type 0} (meaning : Meaning S) where
         either (ready_at old.node_states n) (overtaking_at old.node_states n) v _ _ (few (most_events old.node_states n)) at x
         (λ ready y. subst few (ap (λ (o : Option View). if is_some o then 526 else 532) (sym ready))
         (either (settling_at old.node_states n) (awaited_at old.node_states n) v _ _ (few 526) ready y
-        (λ e z. FactOfSettled.brief meaning laws old new n v keeps e z) (λ none e z. BroughtBriefly.brief meaning laws old new n v keeps e z)))
+        (λ e z. SettlingsSettle.brief meaning laws old new n v keeps e z) (λ none e z. BroughtBriefly.brief meaning laws old new n v keeps e z)))
         (λ none e y. subst few (ap (λ (o : Option View). if is_some o then 526 else 532) (sym none)) (TwoRounds.overtakes-brief meaning laws old y.raised new n v keeps e y.overtakes y.settles))
 
     pub ends : CompletesShort meaning n v old new → EndsSettling v new

@@ -13,7 +13,7 @@ use Rattle.address.proofs.SameIds.{same_address-refl, same_address-sym}
 use Rattle.limits.specs.declared.TheConstants.{GREATEST_NUMBER, MEMBERS}
 use Rattle.view.specs.Members.{View, stands_in}
 use Rattle.suspicion.specs.Suspicion.{leads}
-use Rattle.next_view.specs.Notes.{NotesModel}
+use Rattle.next_view.specs.ViewNotes.{NotesModel}
 use Rattle.next_view.specs.Noting.{noting_view}
 use Rattle.next_view.specs.Candidates.{all_candidates, candidates, next_counter, is_changed}
 use Rattle.wire_values.specs.Values.{Report}
@@ -21,10 +21,10 @@ use Rattle.wire_values.specs.declared.packet.Body.TheVariants as bodies
 use Rattle.state_transfer.specs.Meanings.{Meaning}
 use Rattle.flush.specs.Flushes.{FlushModel}
 use Rattle.view_install.specs.Promises.{PromiseModel, offered, is_accept}
-use Rattle.acts.specs.Cores.{Core}
-use Rattle.acts.specs.Acts.{packet, proposed}
-use Rattle.decisions.specs.Decisions.{due_proposal, due_at, regroups_in, is_due, proposal_after, next_proposal, promised_counter}
-use Rattle.agreement.proofs.KeepBySteps
+use Rattle.law_acts.specs.Cores.{Core}
+use Rattle.law_acts.specs.Acts.{packet, proposed}
+use Rattle.law_choices.specs.Decisions.{due_proposal, due_at, regroups_in, is_due, proposal_after, next_proposal, promised_counter}
+use Rattle.law_agreement.proofs.KeepBySteps
 use Rattle.step_output.specs.declared.output.Output.{Output}
 use Rattle.step_output.specs.Outputs.{Grows}
 use Rattle.step_output.specs.Steps.{who}
@@ -40,10 +40,10 @@ use Rattle.world_model.specs.declared.WorldEvent.TheVariants.{Deliver, MergeHint
 use Rattle.world_model.specs.Packets.{world_group}
 use Rattle.world_step.specs.declared.node_state.NodeState.TheVariants.{Running}
 use Rattle.world_step.specs.Worlds.{WorldModel}
-use Rattle.world_step.proofs.FactOfMembers
-use Rattle.world_step.proofs.FactOfTaken.{when-true, when-false}
+use Rattle.world_step.proofs.MembersAtNodes
+use Rattle.world_step.proofs.InputsTaken.{when-true, when-false}
 use Rattle.world_step.proofs.KeepOfWorlds
-use Rattle.deployment.proofs.FactOfPosts.{bytes_for}
+use Rattle.law_processes.proofs.PostsAreSpelled.{bytes_for}
 use Rattle.world_plays.specs.Plays.{lacks_memory}
 use Rattle.world_plays.proofs.PoolPackets.{AreNext, put-next, next-first, put-out}
 use Rattle.world_plays.proofs.Standing
@@ -51,7 +51,7 @@ use Rattle.world_plays.proofs.Standing.{Stands}
 use Rattle.settling.specs.Settles.{would_follow, followed, settling_in, settling_at, Settles, IsSettled}
 use Rattle.settling.specs.Meets.{StandsAlone, NotesNobody, counter_in, HintsAndDelivers}
 use Rattle.settling.proofs.StageOfFlushes.{Keeps, sure}
-use Rattle.settling.proofs.FactOfSettled.{settled}
+use Rattle.settling.proofs.SettlingsSettle.{settled}
 
 -- ---- numbers and ids
 
@@ -137,7 +137,7 @@ module _ {S : Type 0} (meaning : Meaning S) (laws : KeepBySteps.Laws meaning) wh
   alone-is : (w : WorldModel S) (p : Address) (l : MemberState S) → Keeps meaning laws w → StandsAlone w p l → Alone w p l
   alone-is w p l keeps x =
       let v = viewed (view_in l.view_state) (p ∷ []) x.alone in
-      let here = FactOfMembers.is-here meaning laws w.node_states w.history p.node x.member keeps x.node_state (ap (λ (a : Address). a.node) x.address) in
+      let here = MembersAtNodes.is-here meaning laws w.node_states w.history p.node x.member keeps x.node_state (ap (λ (a : Address). a.node) x.address) in
       let lives = (here.alive l x.member_state).member_state in
       let some : is_some l.view_state ≡ true = some-of l.view_state v.0 v.1 in
       record {

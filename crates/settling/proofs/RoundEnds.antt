@@ -6,13 +6,13 @@ use Rattle.std.specs.Option.{IsSomeAnd}
 use Rattle.address.specs.Ids.{Address, ViewId, same_address}
 use Rattle.address.proofs.SameIds.{same_address-sym}
 use Rattle.view.specs.Members.{View, stands_in}
-use Rattle.view.proofs.FactOfMembers.{all-by, coordinator-in}
+use Rattle.view.proofs.MembersListed.{all-by, coordinator-in}
 use Rattle.wire_values.specs.declared.packet.Body.TheVariants as bodies
 use Rattle.state_transfer.specs.Meanings.{Meaning}
 use Rattle.next_view.specs.Candidates.{candidates}
-use Rattle.next_view.proofs.FactOfLeads.{candidates-are-a-view}
-use Rattle.acts.specs.Acts.{packet, proposed}
-use Rattle.agreement.proofs.KeepBySteps
+use Rattle.next_view.proofs.LeadersStandFirst.{candidates-are-a-view}
+use Rattle.law_acts.specs.Acts.{packet, proposed}
+use Rattle.law_agreement.proofs.KeepBySteps
 use Rattle.world_model.specs.declared.WorldEvent.TheVariants.{Deliver, Tick}
 use Rattle.world_step.specs.Pools.{first_for}
 use Rattle.world_step.specs.Worlds.{WorldModel}
@@ -21,7 +21,7 @@ use Rattle.world_plays.proofs.Standing
 use Rattle.settling.specs.Settles.{would_follow, EndsSettling}
 use Rattle.settling.specs.LowProposals.{RaisesShort}
 use Rattle.settling.specs.LowProposals.RaisesShort.{AtTick, AtFlush, AtBehind}
-use Rattle.settling.proofs.FactOfSettled
+use Rattle.settling.proofs.SettlingsSettle
 use Rattle.settling.proofs.RoundRaises
 use Rattle.settling.proofs.RoundRaises.{Low, Ahead, Announces}
 use Rattle.settling.proofs.SettlingEnds
@@ -32,7 +32,7 @@ module _ {S : Type 0} (meaning : Meaning S) (laws : KeepBySteps.Laws meaning) wh
   -- where all of a view would follow it, all of them stand
   pub all-follow : (w : WorldModel S) (v : View) → Keeps meaning laws w → list_all (λ q. would_follow v q (w.node_states q.node)) v.members ≡ true → AllStand meaning laws w v
   all-follow w v keeps all q listed =
-      let a = FactOfSettled.follower meaning laws w v q keeps (all-by (λ p. would_follow v p (w.node_states p.node)) v.members q all listed) in
+      let a = SettlingsSettle.follower meaning laws w v q keeps (all-by (λ p. would_follow v p (w.node_states p.node)) v.members q all listed) in
       record { member_state = a.member_state; stands = a.stands }
 
   module _ (old : WorldModel S) (n : ℕ) (q : Address) (w : View) (keeps : Keeps meaning laws old) (x : Low meaning laws old n q w) where

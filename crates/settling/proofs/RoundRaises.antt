@@ -15,8 +15,8 @@ use Rattle.address.specs.Ids.{Address, ViewId, same_address, view_id_cmp}
 use Rattle.address.proofs.SameIds.{same_address-refl, same_address-sym, same_address-true}
 use Rattle.limits.specs.declared.TheConstants.{GREATEST_NUMBER}
 use Rattle.view.specs.Members.{View, stands_in}
-use Rattle.view.proofs.FactOfMembers.{all-by}
-use Rattle.next_view.specs.Notes.{having_heard}
+use Rattle.view.proofs.MembersListed.{all-by}
+use Rattle.next_view.specs.ViewNotes.{having_heard}
 use Rattle.next_view.specs.Candidates.{candidates, next_counter}
 use Rattle.wire_values.specs.Values.{Report}
 use Rattle.wire_values.specs.declared.packet.Body.TheVariants as bodies
@@ -24,9 +24,9 @@ use Rattle.state_transfer.specs.Meanings.{Meaning}
 use Rattle.flush.specs.Flushes.{FlushModel, has_reported, is_awaited}
 use Rattle.view_install.specs.Promises.{PromiseModel, answer_past, offered, is_accept, promising}
 use Rattle.view_install.specs.declared.promise.OfferAnswer.TheVariants.{Accept, Ignore}
-use Rattle.acts.specs.Acts.{packet, proposed}
-use Rattle.decisions.specs.Decisions.{proposal_after, promised_counter}
-use Rattle.agreement.proofs.KeepBySteps
+use Rattle.law_acts.specs.Acts.{packet, proposed}
+use Rattle.law_choices.specs.Decisions.{proposal_after, promised_counter}
+use Rattle.law_agreement.proofs.KeepBySteps
 use Rattle.step_output.specs.Outputs.{Grows}
 use Rattle.step_output.specs.Steps.{who}
 use Rattle.membership.specs.InSteps.{InStep, in_step}
@@ -42,19 +42,19 @@ use Rattle.world_step.specs.declared.node_state.NodeState.TheVariants.{Vacant, E
 use Rattle.world_step.specs.Pools.{is_destined, first_for}
 use Rattle.world_step.specs.Turns.{OthersStand}
 use Rattle.world_step.specs.Worlds.{WorldModel}
-use Rattle.world_step.proofs.FactOfMembers
-use Rattle.world_step.proofs.FactOfTaken.{when-false}
+use Rattle.world_step.proofs.MembersAtNodes
+use Rattle.world_step.proofs.InputsTaken.{when-false}
 use Rattle.world_step.proofs.KeepOfWorlds
-use Rattle.deployment.proofs.FactOfPosts.{bytes_for}
+use Rattle.law_processes.proofs.PostsAreSpelled.{bytes_for}
 use Rattle.world_plays.specs.Plays.{lacks_memory, Plays}
 use Rattle.world_plays.proofs.PoolPackets.{bytes_as, IsSound, put-out, put-next, next-first}
 use Rattle.world_plays.proofs.Standing
 use Rattle.world_plays.proofs.Standing.{Stands}
 use Rattle.settling.specs.Settles.{would_follow}
 use Rattle.settling.specs.LowProposals.{told, past_in, promised_past, anew_with, raised, raised_in, raised_at, Raises, flush_in, IsRaised}
-use Rattle.settling.proofs.FactOfReports.{awaited_by}
-use Rattle.settling.proofs.FactOfRules
-use Rattle.settling.proofs.FactOfSettled
+use Rattle.settling.proofs.ReportsMissing.{awaited_by}
+use Rattle.settling.proofs.RulesByPacket
+use Rattle.settling.proofs.SettlingsSettle
 use Rattle.settling.proofs.FirstPackets.{first-found, each-at}
 use Rattle.settling.proofs.StageOfFlushes
 use Rattle.settling.proofs.StageOfFlushes.{Keeps, sure}
@@ -190,7 +190,7 @@ module _ {S : Type 0} (meaning : Meaning S) (laws : KeepBySteps.Laws meaning) wh
           let x = when-there (is_connected l) (told (offered v l.promise)) k e in
           record {
             member_state = l;
-            stands = record { member = m; node_state = there; address = address; group = (FactOfSettled.node-is meaning laws w q.node m keeps there).1; member_state = state; connected = x.0 };
+            stands = record { member = m; node_state = there; address = address; group = (SettlingsSettle.node-is meaning laws w q.node m keeps there).1; member_state = state; connected = x.0 };
             tells = x.1;
           }
 
@@ -212,7 +212,7 @@ module _ {S : Type 0} (meaning : Meaning S) (laws : KeepBySteps.Laws meaning) wh
     pub awaited : is_awaited q flush ≡ true
     pub counter : ℕ
     pub past : promised_past (proposed flush) q (w.node_states q.node) ≡ Some counter
-    pub anew : anew_proposal member.address (FactOfRules.heard meaning (who member.address world_group) counter member_state) ≡ Some v
+    pub anew : anew_proposal member.address (RulesByPacket.heard meaning (who member.address world_group) counter member_state) ≡ Some v
     pub listed : stands_in q v.members ≡ true
 
   pub low : (w : WorldModel S) (n : ℕ) (q : Address) (v : View) → raised_at w.node_states n q ≡ Some v → Low w n q v
@@ -299,7 +299,7 @@ module _ {S : Type 0} (meaning : Meaning S) (laws : KeepBySteps.Laws meaning) wh
       let l = x.member_state in
       let h = sure (lacks_memory plays.step.answer) plays.whole (Standing.heard meaning laws old new keeps number q l x.stands (packet c (bodies.Flush v) q) to plays.step) in
       let rule : OnFlush (who q world_group) c v (in_step l h.start) (in_step h.after h.out) = h.hears in
-      let p = FactOfRules.flush-behind meaning (who q world_group) c k v (in_step l h.start) (in_step h.after h.out) (ap (λ (a : Address). same_address a c) own ∙ same_address-refl c) x.tells rule in
+      let p = RulesByPacket.flush-behind meaning (who q world_group) c k v (in_step l h.start) (in_step h.after h.out) (ap (λ (a : Address). same_address a c) own ∙ same_address-refl c) x.tells rule in
       let m = packet q (bodies.Behind v.id k) c in
       let g : Grows world_group h.start h.out (m ∷ []) [] = subst (λ (a : Address). Grows world_group h.start h.out (packet q (bodies.Behind v.id k) a ∷ []) []) own p.1 in
       let puts : new.history.pool ≡ old.history.pool ++ bytes_for world_group (m ∷ []) =
@@ -339,13 +339,13 @@ module _ {S : Type 0} (meaning : Meaning S) (laws : KeepBySteps.Laws meaning) wh
   WholeFlush c f mid new = MatchOption mid.member.view_state ⊥ (λ t. FinishesAndProposes meaning (who c world_group) f t mid new)
 
   pub begun : (old new : WorldModel S) (c q : Address) (l : MemberState S) (f : FlushModel) (k : ℕ) (w : View) → Keeps meaning laws old → Stands meaning old c l → l.flush ≡ Some f
-      → anew_proposal c (FactOfRules.heard meaning (who c world_group) k l) ≡ Some w → stands_in q w.members ≡ true → same_address q c ≡ false
+      → anew_proposal c (RulesByPacket.heard meaning (who c world_group) k l) ≡ Some w → stands_in q w.members ≡ true → same_address q c ≡ false
       → Standing.IsFor meaning old (length old.history.pool) c (packet q (bodies.Behind f.proposal k) c) → Plays meaning old (Deliver (length old.history.pool)) new → Begun old new c l k w
   begun old new c q l f k w keeps stands runs anew listed other to plays =
       let h = sure (lacks_memory plays.step.answer) plays.whole (Standing.heard meaning laws old new keeps (length old.history.pool) c l stands (packet q (bodies.Behind f.proposal k) c) to plays.step) in
       let rule : OnBehind meaning (who c world_group) f.proposal k (in_step l h.start) (in_step h.after h.out) = h.hears in
-      let b = FactOfRules.behind-begins meaning (who c world_group) f k w (in_step l h.start) (in_step h.after h.out) runs anew rule in
-      let r = report_in (FactOfRules.heard meaning (who c world_group) k l) in
+      let b = RulesByPacket.behind-begins meaning (who c world_group) f k w (in_step l h.start) (in_step h.after h.out) runs anew rule in
+      let r = report_in (RulesByPacket.heard meaning (who c world_group) k l) in
       let g = begun_with c w r in
       let has : b.mid.member.flush ≡ Some g = ap (λ (z : MemberState S). z.flush) b.begins.member_state in
       let on : MatchBool (is_complete g) (WholeFlush c g b.mid (in_step h.after h.out)) (StaysAs b.mid (in_step h.after h.out)) =
@@ -402,8 +402,8 @@ module _ {S : Type 0} (meaning : Meaning S) (laws : KeepBySteps.Laws meaning) wh
   pub stood-there : (old : WorldModel S) (n : ℕ) (q : Address) (w : View) → Keeps meaning laws old → (x : Low old n q w) → Stood old n q w x
   stood-there old n q w keeps x =
       let l = x.member_state in
-      let there = FactOfSettled.node-is meaning laws old n x.member keeps x.node_state in
-      let lives = ((FactOfMembers.is-here meaning laws old.node_states old.history n x.member keeps x.node_state there.0).alive l x.state).member_state in
+      let there = SettlingsSettle.node-is meaning laws old n x.member keeps x.node_state in
+      let lives = ((MembersAtNodes.is-here meaning laws old.node_states old.history n x.member keeps x.node_state there.0).alive l x.state).member_state in
       let flushing = lives.flushing x.flush x.runs in
       let inside : is_some l.view_state ≡ true = flushing.inside in
       record {

@@ -13,15 +13,15 @@ use Rattle.address.specs.Ids.{Address, ViewId, same_address, view_id_cmp}
 use Rattle.address.proofs.SameIds.{same_address-true, same_address-refl, same_address-sym}
 use Rattle.limits.specs.declared.TheConstants.{GREATEST_NUMBER}
 use Rattle.view.specs.Members.{View, stands_in}
-use Rattle.view.proofs.FactOfMembers.{all-by}
+use Rattle.view.proofs.MembersListed.{all-by}
 use Rattle.view_install.specs.Promises.{PromiseModel, answer_past, offered, is_accept}
 use Rattle.view_install.specs.declared.promise.OfferAnswer.{OfferAnswer}
 use Rattle.view_install.specs.declared.promise.OfferAnswer.TheVariants.{Accept, Behind, Ignore}
 use Rattle.trace_props.specs.Rules.{IsBelow}
 use Rattle.state_transfer.specs.Meanings.{Meaning}
-use Rattle.acts.specs.Acts.{proposed}
-use Rattle.agreement.specs.Members.{IsNotPast}
-use Rattle.agreement.proofs.KeepBySteps
+use Rattle.law_acts.specs.Acts.{proposed}
+use Rattle.law_agreement.specs.Members.{IsNotPast}
+use Rattle.law_agreement.proofs.KeepBySteps
 use Rattle.membership.specs.declared.member_state.MemberState.{MemberState}
 use Rattle.membership.specs.MemberStates.{core_of as core_at, is_connected}
 use Rattle.member.specs.Members.{MemberModel}
@@ -32,8 +32,8 @@ use Rattle.world_plays.proofs.Standing
 use Rattle.world_plays.proofs.Standing.{Stands}
 use Rattle.settling.specs.Settles.{would_follow}
 use Rattle.settling.specs.LowProposals.{told, past_in, promised_past, raised_at, asked_at, further, furthest, beyond, beyond_all, followed_by_all, overtaking_at, is_present, CanOvertake}
-use Rattle.settling.proofs.FactOfFollowers
-use Rattle.settling.proofs.FactOfSettled
+use Rattle.settling.proofs.WhoFollows
+use Rattle.settling.proofs.SettlingsSettle
 use Rattle.settling.proofs.RoundRaises.{offered_by, past-accepts, anew-is, Low, low, stood-there}
 use Rattle.settling.proofs.StageOfFlushes.{Keeps}
 use Rattle.settling.proofs.TwoRounds.{all-there, lt-true}
@@ -238,7 +238,7 @@ module _ {S : Type 0} (meaning : Meaning S) (laws : KeepBySteps.Laws meaning) wh
           → (l : MemberState S) × Stands meaning w p l
       at-state m None there address state e = absurd (let n : false ≡ true = e in cc)
       at-state m (Some l) there address state e =
-          (l, record { member = m; node_state = there; address = address; group = (FactOfSettled.node-is meaning laws w p.node m keeps there).1; member_state = state; connected = e })
+          (l, record { member = m; node_state = there; address = address; group = (SettlingsSettle.node-is meaning laws w p.node m keeps there).1; member_state = state; connected = e })
 
       by : (s : NodeState S) → w.node_states p.node ≡ s → is_present p s ≡ true → (l : MemberState S) × Stands meaning w p l
       by Vacant there e = absurd (let n : false ≡ true = e in cc)
@@ -280,13 +280,13 @@ module _ {S : Type 0} (meaning : Meaning S) (laws : KeepBySteps.Laws meaning) wh
         let agreed = (Standing.agreed-in meaning laws w keeps).agreed in
         let theirs = agreed.members p (core_at p l) (Standing.runs-in meaning w p l there) in
         let mine = agreed.members c (core_at c x.member_state) (Standing.runs-in meaning w c x.member_state s.stands) in
-        let same : v.id ≡ u.id = FactOfFollowers.equal-ids v.id u.id e in
+        let same : v.id ≡ u.id = WhoFollows.equal-ids v.id u.id e in
         let creator : u.id.creator ≡ c = ap (λ (i : ViewId). i.creator) (sym same) ∙ creator-is in
         let foreign : same_address u.id.creator p ≡ false = ap (λ (a : Address). same_address a p) creator ∙ same_address-sym c p ∙ other in
         let put = theirs.announced u promise foreign in
         let own : same_address u.id.creator c ≡ true = ap (λ (a : Address). same_address a c) creator ∙ same_address-refl c in
         let past = subst (λ (o : Option View). IsNotPast o u.id) s.flushing.promise (mine.below.announced u.id u.members own put) in
-        past (subst (λ (i : ViewId). IsBelow x.flush.proposal i) same (FactOfFollowers.below-greater v.id x.flush.proposal above))
+        past (subst (λ (i : ViewId). IsBelow x.flush.proposal i) same (WhoFollows.below-greater v.id x.flush.proposal above))
 
     reaches : (p : Address) → stands_in p v.members ≡ true → is_present p (w.node_states p.node) ≡ true → is_within_reach v p (w.node_states p.node) ≡ true
     reaches p listed here = by (same_address p c) refl

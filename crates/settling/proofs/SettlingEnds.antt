@@ -6,14 +6,14 @@ use Rattle.std.proofs.lemmas.Bool.{and_parts, not-true}
 use Rattle.address.specs.Ids.{Address, ViewId, same_address}
 use Rattle.address.proofs.SameIds.{same_address-true}
 use Rattle.view.specs.Members.{View, stands_in, is_distinct}
-use Rattle.view.proofs.FactOfMembers.{coordinator-in}
+use Rattle.view.proofs.MembersListed.{coordinator-in}
 use Rattle.wire_values.specs.Values.{Report}
 use Rattle.wire_values.specs.declared.packet.Body.TheVariants as bodies
 use Rattle.state_transfer.specs.Meanings.{Meaning}
 use Rattle.flush.specs.Flushes.{FlushModel, previous_of}
-use Rattle.acts.specs.Histories.{Posted}
-use Rattle.acts.specs.Acts.{packet, proposed, others_of}
-use Rattle.agreement.proofs.KeepBySteps
+use Rattle.law_acts.specs.Histories.{Posted}
+use Rattle.law_acts.specs.Acts.{packet, proposed, others_of}
+use Rattle.law_agreement.proofs.KeepBySteps
 use Rattle.traffic.specs.declared.view_state.ViewState.{ViewState}
 use Rattle.traffic.specs.ViewStates.{view_of}
 use Rattle.membership.specs.declared.member_state.MemberState.{MemberState}
@@ -23,8 +23,8 @@ use Rattle.world_model.specs.Histories.{running}
 use Rattle.world_model.specs.Packets.{world_group}
 use Rattle.world_step.specs.Turns.{OthersStand}
 use Rattle.world_step.specs.Worlds.{WorldModel}
-use Rattle.world_step.proofs.FactOfMembers
-use Rattle.deployment.proofs.FactOfPosts.{EachSound}
+use Rattle.world_step.proofs.MembersAtNodes
+use Rattle.law_processes.proofs.PostsAreSpelled.{EachSound}
 use Rattle.world_plays.specs.Plays.{lacks_memory, Fails, Delivers, Breaks}
 use Rattle.world_plays.specs.Plays.Delivers.{Still, Next}
 use Rattle.world_plays.specs.Plays.Breaks.{Here, Later}
@@ -35,9 +35,9 @@ use Rattle.world_plays.proofs.Standing
 use Rattle.world_plays.proofs.Standing.{Stands}
 use Rattle.settling.specs.Settles.{settling_at, SettlesShort, EndsSettling}
 use Rattle.settling.specs.Settles.SettlesShort.{AtTick, AtFlush, AtReport, AtInstall}
-use Rattle.settling.proofs.FactOfChunks.{chunks_from}
-use Rattle.settling.proofs.FactOfReports.{awaited_by}
-use Rattle.settling.proofs.FactOfSettled
+use Rattle.settling.proofs.ChunksInOrder.{chunks_from}
+use Rattle.settling.proofs.ReportsMissing.{awaited_by}
+use Rattle.settling.proofs.SettlingsSettle
 use Rattle.settling.proofs.StageOfFlushes
 use Rattle.settling.proofs.StageOfFlushes.{Keeps, AreOthers, flush_packets, report_packet, report_packets}
 use Rattle.settling.proofs.StageOfReports
@@ -81,8 +81,8 @@ module _ {S : Type 0} (meaning : Meaning S) (laws : KeepBySteps.Laws meaning) wh
   runs-there : (w : WorldModel S) (q : Address) → Keeps meaning laws w → Stood w q → running q.node w.history.trace ≡ Some q
   runs-there w q keeps x =
       let m = x.stands.member in
-      let r = FactOfMembers.running-here meaning laws w.node_states w.history q.node m keeps x.stands.node_state in
-      FactOfMembers.is-running meaning w.history q.node m r.0 r.1 ∙ ap Some x.stands.address
+      let r = MembersAtNodes.running-here meaning laws w.node_states w.history q.node m keeps x.stands.node_state in
+      MembersAtNodes.is-running meaning w.history q.node m r.0 r.1 ∙ ap Some x.stands.address
 
   -- ---- one step that fails
 
@@ -232,12 +232,12 @@ module _ {S : Type 0} (meaning : Meaning S) (laws : KeepBySteps.Laws meaning) wh
 
   -- ---- at whatever step
 
-  module _ (old : WorldModel S) (n : ℕ) (v : View) (keeps : Keeps meaning laws old) (a : FactOfSettled.Asks meaning laws old n v) where
+  module _ (old : WorldModel S) (n : ℕ) (v : View) (keeps : Keeps meaning laws old) (a : SettlingsSettle.Asks meaning laws old n v) where
     abbrev c : Address
     c = a.member.address
 
-    abbrev r : FactOfSettled.Ready meaning laws old n c a.member_state a.flush
-    r = FactOfSettled.prepared meaning laws old n v keeps a
+    abbrev r : SettlingsSettle.Ready meaning laws old n c a.member_state a.flush
+    r = SettlingsSettle.prepared meaning laws old n v keeps a
 
     listed : stands_in c a.flush.members ≡ true
     listed = ap (λ (p : Address). stands_in p a.flush.members) (sym r.flushing.own) ∙ coordinator-in a.flush.proposal a.flush.members r.flushing.list
@@ -249,21 +249,21 @@ module _ {S : Type 0} (meaning : Meaning S) (laws : KeepBySteps.Laws meaning) wh
     ends-so : (new : WorldModel S) → SettlesShort meaning n old new → EndsSettling (proposed a.flush) new
     ends-so _ (AtTick new fails) = at-tick new (subst (λ (k : ℕ). Fails meaning old (Tick k) new) (sym r.node) fails)
     ends-so _ (AtFlush announced new ticks breaks) =
-        let x = FactOfSettled.flushing-next meaning laws old n v keeps a announced ticks in
+        let x = SettlingsSettle.flushing-next meaning laws old n v keeps a announced ticks in
         flushes-break (awaited_by a.flush) (length old.history.pool) announced new c a.member_state a.flush x.flushes r.flushing.own x.distinct x.others x.sound x.next
         (subst (λ (k : ℕ). Breaks meaning (length old.history.pool) k announced new) x.many breaks)
     ends-so _ (AtReport announced reported new ticks flushes breaks) =
-        let x = FactOfSettled.reporting-next meaning laws old n v keeps a announced reported ticks flushes in
+        let x = SettlingsSettle.reporting-next meaning laws old n v keeps a announced reported ticks flushes in
         reports-break x.more x.one (length announced.history.pool) reported new c a.member_state a.flush x.view x.gathers listed x.distinct x.foreign x.sound x.next
         (subst (λ (k : ℕ). Breaks meaning (length announced.history.pool) k reported new) x.many breaks)
     ends-so _ (AtInstall announced reported instructed new ticks flushes reports breaks) =
-        let e = FactOfSettled.finishes meaning laws old n v keeps a announced reported instructed ticks flushes reports in
-        let x = FactOfSettled.installing-next meaning laws old n v keeps a announced reported instructed ticks flushes reports in
+        let e = SettlingsSettle.finishes meaning laws old n v keeps a announced reported instructed ticks flushes reports in
+        let x = SettlingsSettle.installing-next meaning laws old n v keeps a announced reported instructed ticks flushes reports in
         subst (λ (u : View). EndsSettling u new) e.same
         (installs-break (others_of c e.flush.members) (length reported.history.pool) instructed new c e.flush (view_of e.previous).id e.given x.entering x.own x.distinct x.listed x.sound x.next
         (subst (λ (k : ℕ). Breaks meaning (length reported.history.pool) k instructed new) x.many breaks))
 
   pub ends : (old new : WorldModel S) (n : ℕ) (v : View) → Keeps meaning laws old → settling_at old.node_states n ≡ Some v → SettlesShort meaning n old new → EndsSettling v new
   ends old new n v keeps at short =
-      let a = FactOfSettled.asks meaning laws old n v at in
+      let a = SettlingsSettle.asks meaning laws old n v at in
       subst (λ (u : View). EndsSettling u new) a.is (ends-so old n v keeps a new short)

@@ -18,13 +18,13 @@ use Rattle.wire_values.specs.declared.values.state.GivenState.{GivenState}
 use Rattle.wire_values.specs.declared.values.state.GivenState.TheVariants as forms
 use Rattle.state_transfer.specs.Meanings.{Meaning}
 use Rattle.flush.specs.Flushes.{FlushModel}
-use Rattle.acts.specs.Histories.{Posted, report_of}
-use Rattle.acts.specs.Given.{Tells, chunk_at, chunks_of}
-use Rattle.acts.specs.Acts.{packet}
+use Rattle.law_acts.specs.Histories.{Posted, report_of}
+use Rattle.law_acts.specs.Given.{Tells, chunk_at, chunks_of}
+use Rattle.law_acts.specs.Acts.{packet}
 use Rattle.trace_props.specs.State.{entry_state}
-use Rattle.decisions.specs.Decisions.{is_entry}
-use Rattle.agreement.specs.Packets.{IsInstruction}
-use Rattle.agreement.proofs.KeepBySteps
+use Rattle.law_choices.specs.Decisions.{is_entry}
+use Rattle.law_agreement.specs.Packets.{IsInstruction}
+use Rattle.law_agreement.proofs.KeepBySteps
 use Rattle.step_output.specs.declared.output.Output.{Output}
 use Rattle.step_output.specs.declared.output.Outgoing.{Outgoing}
 use Rattle.step_output.specs.Outputs.{Puts, Grows, spelled}
@@ -38,26 +38,26 @@ use Rattle.member_views.specs.Views.{OnReport, SaysAgain, proposes_again, report
 use Rattle.member.specs.Doing.{Ticks}
 use Rattle.state_chunks.specs.HeldChunks.{chunk_count, is_new, is_there, has_all, given_in}
 use Rattle.world_model.specs.declared.WorldEvent.TheVariants.{Deliver, Tick}
-use Rattle.traffic.proofs.FactOfNewView.{fresh-view}
+use Rattle.traffic.proofs.NewViewTraffic.{fresh-view}
 use Rattle.world_model.specs.Packets.{world_group, packet_numbered}
 use Rattle.world_step.specs.NodeStates.{bytes_of}
 use Rattle.world_step.specs.Turns.{OthersStand}
 use Rattle.world_step.specs.Worlds.{WorldModel}
-use Rattle.world_step.proofs.FactOfSystem.{system_of}
-use Rattle.world_step.proofs.FactOfTaken.{when-true, when-false}
+use Rattle.world_step.proofs.MembersAsSystem.{system_of}
+use Rattle.world_step.proofs.InputsTaken.{when-true, when-false}
 use Rattle.world_step.proofs.KeepOfWorlds
 use Rattle.world_plays.specs.Plays.{lacks_memory, Plays, Delivers}
 use Rattle.world_plays.proofs.PoolPackets.{bytes_as, put-out, put-next, AreNext, next-first, next-rest}
 use Rattle.world_plays.proofs.Deliveries.{delivers-none, delivers-next}
 use Rattle.world_plays.proofs.Standing
 use Rattle.world_plays.proofs.Standing.{Stands}
-use Rattle.deployment.proofs.FactOfPosts.{EachSound, bytes_for}
-use Rattle.settling.proofs.FactOfAwaiting
-use Rattle.settling.proofs.FactOfAwaiting.{Made, KeepsFor, Awaits, HasPromised}
+use Rattle.law_processes.proofs.PostsAreSpelled.{EachSound, bytes_for}
+use Rattle.settling.proofs.WhoAwaits
+use Rattle.settling.proofs.WhoAwaits.{Made, KeepsFor, Awaits, HasPromised}
 use Rattle.settling.proofs.StageOfFlushes.{Keeps, sure}
-use Rattle.settling.proofs.FactOfEntries
-use Rattle.settling.proofs.FactOfHeld.{are_of, HasUpTo, are-more, has-with, has-without, has-them-all}
-use Rattle.settling.proofs.FactOfRules
+use Rattle.settling.proofs.PromisedGoIn
+use Rattle.settling.proofs.ChunksAreHeld.{are_of, HasUpTo, are-more, has-with, has-without, has-them-all}
+use Rattle.settling.proofs.RulesByPacket
 use Rattle.settling.proofs.StageOfInstalls
 use Rattle.settling.proofs.StageOfInstalls.{state_packets, Leaves, GoesIn}
 
@@ -142,7 +142,7 @@ module _ {S : Type 0} (meaning : Meaning S) (laws : KeepBySteps.Laws meaning) wh
   -- it puts out again the chunks of the state with which the view begins, where it gives that in chunks, and the INSTALL
   pub record Answered (before : List (List ℕ)) (new : WorldModel S) (c q : Address) (l : MemberState S) (v : View) : Type 0 where
     pub made : Made meaning laws new c l v
-    pub begun : FactOfAwaiting.Begun meaning laws new v
+    pub begun : WhoAwaits.Begun meaning laws new v
     pub install : wire.Install
     pub view : install.view ≡ v
     pub count : ℕ
@@ -210,7 +210,7 @@ module _ {S : Type 0} (meaning : Meaning S) (laws : KeepBySteps.Laws meaning) wh
   says w c q l after v r start out m nothing rule =
       let inside : is_in v.id l ≡ true = ap (λ (o : Option View). option_map_or (λ u. same_view_id u.id v.id) o false) m.view ∙ same_view_id-refl v.id in
       let x : SaysAgain (who c world_group) q (in_step l start) (in_step after out) =
-      when-true (is_in v.id l) _ _ inside (when-false (expects q v.id l) _ _ (FactOfAwaiting.expects-none meaning laws w c q l v m) rule) in
+      when-true (is_in v.id l) _ _ inside (when-false (expects q v.id l) _ _ (WhoAwaits.expects-none meaning laws w c q l v m) rule) in
       let y : InstallsAgain (who c world_group) q (in_step l start) out = x.again in
       record {
         member_state = x.member_state;
@@ -227,16 +227,16 @@ module _ {S : Type 0} (meaning : Meaning S) (laws : KeepBySteps.Laws meaning) wh
       let x = says mid c q l h.after v r h.start h.out m h.nothing h.hears in
       let keeps = KeepOfWorlds.step-keeps meaning laws mid new (Deliver number) plays.step m.keeps in
       let made : Made meaning laws new c l v = record { keeps = keeps; stands = subst (Stands meaning new c) x.member_state h.stands; view = m.view } in
-      let i = FactOfAwaiting.keeps-for meaning laws new c q l v made kept in
-      let z = FactOfAwaiting.begun meaning laws new c q l v made i in
+      let i = WhoAwaits.keeps-for meaning laws new c q l v made kept in
+      let z = WhoAwaits.begun meaning laws new c q l v made i in
       let sent = sent_install (who c world_group) (q, i.install) in
       let ids : i.install.view.id ≡ v.id = ap (λ (u : View). u.id) i.view in
       let b = before-by i.install.state c q l v sent (meaning.encode z.state) refl m.view (λ total is.
-      let state = found l.sent_state (FactOfAwaiting.keeps-given meaning laws new c l v made q i.install total i.kept is) in
-      let same = FactOfAwaiting.keeps-state meaning laws new c l v state.0 z.state made state.1 z.is in (
+      let state = found l.sent_state (WhoAwaits.keeps-given meaning laws new c l v made q i.install total i.kept is) in
+      let same = WhoAwaits.keeps-state meaning laws new c l v state.0 z.state made state.1 z.is in (
         state.1 ∙ ap Some same,
         subst (λ (n : List ℕ). IsTotal (length n)) same
-            (subst (λ (o : Option (List ℕ)). IfSome o (λ n. IsTotal (length n))) state.1 (FactOfAwaiting.always meaning laws new c l keeps made.stands).sent_installs.state),
+            (subst (λ (o : Option (List ℕ)). IfSome o (λ n. IsTotal (length n))) state.1 (WhoAwaits.always meaning laws new c l keeps made.stands).sent_installs.state),
       )) in
       let posted = state_packets c q v.id (meaning.encode z.state) 1 b.count ++ packet c (bodies.Install i.install) q ∷ [] in
       let out : h.out.packets.items ≡ map (spelled world_group) posted =
@@ -301,7 +301,7 @@ module _ {S : Type 0} (meaning : Meaning S) (laws : KeepBySteps.Laws meaning) wh
       by true h rule fresh =
           let l = x.member_state in
           let chunk = chunk_at bytes (suc k) in
-          let y = FactOfRules.chunk-held meaning (who q world_group) c v.id chunk (in_step l h.start) (in_step h.after h.out) (StageOfInstalls.would-hold meaning laws c v chunk l own x.promise x.waits fresh) rule in
+          let y = RulesByPacket.chunk-held meaning (who q world_group) c v.id chunk (in_step l h.start) (in_step h.after h.out) (StageOfInstalls.would-hold meaning laws c v chunk l own x.promise x.waits fresh) rule in
           let is : h.after ≡ record l { chunks = l.chunks ++ chunk ∷ [] } = y.0 in
           record {
             holds = record {
@@ -383,7 +383,7 @@ module _ {S : Type 0} (meaning : Meaning S) (laws : KeepBySteps.Laws meaning) wh
       let s = system_of w.node_states w.history.pool w.history.trace in
       let h = sure (lacks_memory plays.step.answer) plays.whole (Standing.heard meaning laws w new keeps number q l x.stands (packet c (bodies.Install i) q) to plays.step) in
       let instruction : IsInstruction s.history c q i = Standing.fact-at meaning laws w keeps number (packet c (bodies.Install i) q) to.there to.sound in
-      let entry : is_entry (core_at q l) c i ≡ true = FactOfEntries.enters meaning s (Standing.agreed-in meaning laws w keeps).agreed c q (core_at q l) i (record {
+      let entry : is_entry (core_at q l) c i ≡ true = PromisedGoIn.enters meaning s (Standing.agreed-in meaning laws w keeps).agreed c q (core_at q l) i (record {
         running = Standing.runs-in meaning w q l x.stands;
         promise = x.promise ∙ ap Some (sym view);
         installed = x.waits;
@@ -392,7 +392,7 @@ module _ {S : Type 0} (meaning : Meaning S) (laws : KeepBySteps.Laws meaning) wh
       let there : is_there i.state l.chunks ≡ true = there-by i.state bytes n l.chunks enough x.has in
       let rule : TakesInstall meaning (who q world_group) c i (in_step l h.start) (in_step h.after h.out) = h.hears in
       let y : Enters meaning (who q world_group) l.view_state i (given_in i.state l.chunks) (in_step l h.start) (in_step h.after h.out) =
-      FactOfRules.install-enters meaning (who q world_group) c i (in_step l h.start) (in_step h.after h.out)
+      RulesByPacket.install-enters meaning (who q world_group) c i (in_step l h.start) (in_step h.after h.out)
       (and_from (is_entry (core_at q l) c i) (is_there i.state l.chunks) entry there) rule in
       let is = y.member_state in
       record {

@@ -14,9 +14,9 @@ use Rattle.wire_values.specs.declared.packet.Body.TheVariants as bodies
 use Rattle.state_transfer.specs.Meanings.{Meaning}
 use Rattle.flush.specs.Flushes.{FlushModel}
 use Rattle.view_install.specs.Promises.{offered, is_accept}
-use Rattle.acts.specs.Histories.{Posted}
-use Rattle.acts.specs.Acts.{packet, proposed}
-use Rattle.agreement.proofs.KeepBySteps
+use Rattle.law_acts.specs.Histories.{Posted}
+use Rattle.law_acts.specs.Acts.{packet, proposed}
+use Rattle.law_agreement.proofs.KeepBySteps
 use Rattle.step_output.specs.declared.output.Output.{Output}
 use Rattle.step_output.specs.Outputs.{Grows}
 use Rattle.step_output.specs.Steps.{who}
@@ -31,12 +31,12 @@ use Rattle.world_step.specs.Turns.{OthersStand}
 use Rattle.world_step.specs.Invariant.{IsWorld}
 use Rattle.world_step.specs.Worlds.{WorldModel}
 use Rattle.world_plays.specs.Plays.{lacks_memory, Plays, Delivers}
-use Rattle.deployment.proofs.FactOfPosts.{EachSound, bytes_for}
-use Rattle.world_step.proofs.FactOfTaken.{when-true, when-false}
+use Rattle.law_processes.proofs.PostsAreSpelled.{EachSound, bytes_for}
+use Rattle.world_step.proofs.InputsTaken.{when-true, when-false}
 use Rattle.world_step.proofs.KeepOfWorlds
 use Rattle.world_plays.proofs.PoolPackets.{put-out, AreNext, next-first, next-rest}
 use Rattle.world_plays.proofs.Deliveries.{delivers-none, delivers-next}
-use Rattle.settling.proofs.FactOfRules
+use Rattle.settling.proofs.RulesByPacket
 use Rattle.world_plays.proofs.Standing
 use Rattle.world_plays.proofs.Standing.{Stands}
 
@@ -124,7 +124,7 @@ module _ {S : Type 0} (meaning : Meaning S) (laws : KeepBySteps.Laws meaning) wh
   answered old new c q v x own h =
       let l = x.member_state in
       let rule : OnFlush (who q world_group) c v (in_step l h.start) (in_step h.after h.out) = h.hears in
-      let p = FactOfRules.flush-promises meaning (who q world_group) c v (in_step l h.start) (in_step h.after h.out) (ap (λ (a : Address). same_address a c) own ∙ same_address-refl c) x.accepts rule in
+      let p = RulesByPacket.flush-promises meaning (who q world_group) c v (in_step l h.start) (in_step h.after h.out) (ap (λ (a : Address). same_address a c) own ∙ same_address-refl c) x.accepts rule in
       let r = report_in l in
       let g : Grows world_group h.start h.out (report_packet c v.id (q, r) ∷ []) (blocked_by q l) =
       subst (λ (a : Address). Grows world_group h.start h.out (packet q (bodies.Report v.id r) a ∷ []) (blocked_by q l)) own p.grows in

@@ -16,17 +16,17 @@ use Rattle.wire_values.specs.declared.values.state.GivenState.{GivenState}
 use Rattle.wire_values.specs.declared.values.state.GivenState.TheVariants as forms
 use Rattle.state_transfer.specs.Meanings.{Meaning}
 use Rattle.flush.specs.Flushes.{FlushModel, previous_of}
-use Rattle.acts.specs.Histories.{Posted}
-use Rattle.acts.specs.Cores.{id_of}
-use Rattle.acts.specs.Given.{chunk_at, chunks_of}
-use Rattle.acts.specs.Acts.{packet, proposed, chunk_packets}
-use Rattle.decisions.specs.Decisions.{form_of, is_entry}
-use Rattle.agreement.specs.Packets.{IsInstruction}
-use Rattle.agreement.proofs.KeepBySteps
+use Rattle.law_acts.specs.Histories.{Posted}
+use Rattle.law_acts.specs.Cores.{id_of}
+use Rattle.law_acts.specs.Given.{chunk_at, chunks_of}
+use Rattle.law_acts.specs.Acts.{packet, proposed, chunk_packets}
+use Rattle.law_choices.specs.Decisions.{form_of, is_entry}
+use Rattle.law_agreement.specs.Packets.{IsInstruction}
+use Rattle.law_agreement.proofs.KeepBySteps
 use Rattle.step_output.specs.declared.output.Output.{Output}
 use Rattle.step_output.specs.Steps.{who}
 use Rattle.state_chunks.specs.HeldChunks.{chunk_count, is_new, is_there, has_all, given_in}
-use Rattle.traffic.proofs.FactOfNewView.{fresh-view}
+use Rattle.traffic.proofs.NewViewTraffic.{fresh-view}
 use Rattle.membership.specs.InSteps.{in_step}
 use Rattle.membership.specs.declared.member_state.MemberState.{MemberState}
 use Rattle.membership.specs.MemberStates.{core_of as core_at, view_in, awaits, would_hold}
@@ -35,18 +35,18 @@ use Rattle.membership.specs.Changes.{TakesChunk, TakesInstall, Enters}
 use Rattle.world_model.specs.declared.WorldEvent.TheVariants.{Deliver}
 use Rattle.world_model.specs.Packets.{world_group}
 use Rattle.world_step.specs.NodeStates.{bytes_of}
-use Rattle.world_step.proofs.FactOfSystem.{system_of}
+use Rattle.world_step.proofs.MembersAsSystem.{system_of}
 use Rattle.world_step.specs.Turns.{OthersStand}
 use Rattle.world_step.specs.Worlds.{WorldModel}
 use Rattle.world_plays.specs.Plays.{lacks_memory, Plays, Delivers}
 use Rattle.world_plays.specs.Plays.Delivers.{Still, Next}
-use Rattle.deployment.proofs.FactOfPosts.{EachSound}
+use Rattle.law_processes.proofs.PostsAreSpelled.{EachSound}
 use Rattle.world_step.proofs.KeepOfWorlds
 use Rattle.world_plays.proofs.PoolPackets.{put-out, AreNext, next-first, next-rest}
 use Rattle.world_plays.proofs.Deliveries.{delivers-none, delivers-next}
-use Rattle.settling.proofs.FactOfChunks.{chunks_from, next-is-new, all-there, one-further}
-use Rattle.settling.proofs.FactOfEntries
-use Rattle.settling.proofs.FactOfRules
+use Rattle.settling.proofs.ChunksInOrder.{chunks_from, next-is-new, all-there, one-further}
+use Rattle.settling.proofs.PromisedGoIn
+use Rattle.settling.proofs.RulesByPacket
 use Rattle.world_plays.proofs.Standing
 use Rattle.world_plays.proofs.Standing.{Stands}
 use Rattle.settling.proofs.StageOfFlushes
@@ -148,7 +148,7 @@ module _ {S : Type 0} (meaning : Meaning S) (laws : KeepBySteps.Laws meaning) wh
       let l = x.member_state in
       let h = sure (lacks_memory plays.step.answer) plays.whole (Standing.heard meaning laws w new keeps k q l x.stands (packet c (bodies.State v.id chunk) q) to plays.step) in
       let rule : TakesChunk c v.id chunk (in_step l h.start) (in_step h.after h.out) = h.hears in
-      let y = FactOfRules.chunk-held meaning (who q world_group) c v.id chunk (in_step l h.start) (in_step h.after h.out)
+      let y = RulesByPacket.chunk-held meaning (who q world_group) c v.id chunk (in_step l h.start) (in_step h.after h.out)
       (would-hold c v chunk l own x.promise x.waits (ap (is_new chunk) x.chunks ∙ fresh)) rule in
       let is : h.after ≡ record l { chunks = l.chunks ++ chunk ∷ [] } = y.0 in
       record {
@@ -249,7 +249,7 @@ module _ {S : Type 0} (meaning : Meaning S) (laws : KeepBySteps.Laws meaning) wh
       let s = system_of w.node_states w.history.pool w.history.trace in
       let h = sure (lacks_memory plays.step.answer) plays.whole (Standing.heard meaning laws w new keeps k q l x.stands (packet c (bodies.Install i) q) to plays.step) in
       let instruction : IsInstruction s.history c q i = Standing.fact-at meaning laws w keeps k (packet c (bodies.Install i) q) to.there to.sound in
-      let entry : is_entry (core_at q l) c i ≡ true = FactOfEntries.enters meaning s (Standing.agreed-in meaning laws w keeps).agreed c q (core_at q l) i (record {
+      let entry : is_entry (core_at q l) c i ≡ true = PromisedGoIn.enters meaning s (Standing.agreed-in meaning laws w keeps).agreed c q (core_at q l) i (record {
         running = Standing.runs-in meaning w q l x.stands;
         promise = x.promise;
         installed = x.waits;
@@ -259,7 +259,7 @@ module _ {S : Type 0} (meaning : Meaning S) (laws : KeepBySteps.Laws meaning) wh
       there-by i.state bytes l.chunks (λ total e. chunked-by (option_eq same_view_id (previous_of q f) (Some u)) given i.state total refl e) x.chunks in
       let rule : TakesInstall meaning (who q world_group) c i (in_step l h.start) (in_step h.after h.out) = h.hears in
       let y : Enters meaning (who q world_group) l.view_state i (given_in i.state l.chunks) (in_step l h.start) (in_step h.after h.out) =
-      FactOfRules.install-enters meaning (who q world_group) c i (in_step l h.start) (in_step h.after h.out)
+      RulesByPacket.install-enters meaning (who q world_group) c i (in_step l h.start) (in_step h.after h.out)
       (and_from (is_entry (core_at q l) c i) (is_there i.state l.chunks) entry there) rule in
       let is = y.member_state in
       record {

@@ -16,20 +16,20 @@ use Rattle.wire_values.specs.declared.packet.Body.TheVariants as bodies
 use Rattle.state_transfer.specs.Meanings.{Meaning}
 use Rattle.trace_props.specs.declared.event.Event.{Event}
 use Rattle.flush.specs.Flushes.{FlushModel, has_reported, report_from, is_awaited, previous_of}
-use Rattle.acts.specs.Histories.{Posted, report_of}
-use Rattle.acts.specs.Cores.{id_of, report_with}
-use Rattle.acts.specs.Acts.{packet, proposed, others_of}
-use Rattle.agreement.specs.Packets.{IsAnswer}
-use Rattle.agreement.proofs.KeepBySteps
-use Rattle.agreement.proofs.FactOfFinished.{report-recorded}
+use Rattle.law_acts.specs.Histories.{Posted, report_of}
+use Rattle.law_acts.specs.Cores.{id_of, report_with}
+use Rattle.law_acts.specs.Acts.{packet, proposed, others_of}
+use Rattle.law_agreement.specs.Packets.{IsAnswer}
+use Rattle.law_agreement.proofs.KeepBySteps
+use Rattle.law_agreement.proofs.FinishedFlushes.{report-recorded}
 use Rattle.step_output.specs.declared.output.Output.{Output}
 use Rattle.step_output.specs.Outputs.{Puts, Grows}
 use Rattle.step_output.specs.Steps.{who}
-use Rattle.step_output.proofs.FactOfGrows.{grows-nothing, grows-then}
+use Rattle.step_output.proofs.GrowthAdds.{grows-nothing, grows-then}
 use Rattle.traffic.specs.declared.view_state.ViewState.{ViewState}
-use Rattle.traffic.proofs.FactOfNewView.{fresh-view}
+use Rattle.traffic.proofs.NewViewTraffic.{fresh-view}
 use Rattle.wire_values.specs.Chunks.{IsTotal}
-use Rattle.decisions.specs.Decisions.{due_proposal, kept_of}
+use Rattle.law_choices.specs.Decisions.{due_proposal, kept_of}
 use Rattle.membership.specs.InSteps.{InStep, in_step}
 use Rattle.membership.specs.declared.member_state.MemberState.{MemberState}
 use Rattle.membership.specs.MemberStates.{core_of as core_at, view_in, view_core_in, is_complete}
@@ -39,18 +39,18 @@ use Rattle.member_views.specs.Views.{OnReport}
 use Rattle.world_model.specs.declared.WorldEvent.TheVariants.{Deliver}
 use Rattle.world_model.specs.Packets.{world_group}
 use Rattle.world_step.specs.NodeStates.{bytes_of}
-use Rattle.world_step.proofs.FactOfSystem.{system_of}
+use Rattle.world_step.proofs.MembersAsSystem.{system_of}
 use Rattle.world_step.specs.Turns.{OthersStand}
 use Rattle.world_step.specs.Worlds.{WorldModel}
 use Rattle.world_plays.specs.Plays.{lacks_memory, Plays, Delivers}
-use Rattle.deployment.proofs.FactOfPosts.{EachSound, bytes_for}
-use Rattle.world_step.proofs.FactOfTaken.{when-false}
+use Rattle.law_processes.proofs.PostsAreSpelled.{EachSound, bytes_for}
+use Rattle.world_step.proofs.InputsTaken.{when-false}
 use Rattle.world_step.proofs.KeepOfWorlds
 use Rattle.world_plays.proofs.PoolPackets.{put-out, AreNext, next-first, next-rest}
 use Rattle.world_plays.proofs.Deliveries.{delivers-none, delivers-next}
-use Rattle.settling.proofs.FactOfFollowers
-use Rattle.settling.proofs.FactOfReports.{awaited_by, complete-at-last, waits-on, next-report, first-awaited}
-use Rattle.settling.proofs.FactOfRules
+use Rattle.settling.proofs.WhoFollows
+use Rattle.settling.proofs.ReportsMissing.{awaited_by, complete-at-last, waits-on, next-report, first-awaited}
+use Rattle.settling.proofs.RulesByPacket
 use Rattle.world_plays.proofs.Standing
 use Rattle.world_plays.proofs.Standing.{Stands}
 use Rattle.settling.proofs.StageOfFlushes.{report_packet, report_packets, Keeps, Awaits, awaits-still, sure}
@@ -214,7 +214,7 @@ module _ {S : Type 0} (meaning : Meaning S) (laws : KeepBySteps.Laws meaning) wh
       let awaited : is_awaited x.0 f ≡ true = and_from (stands_in x.0 f.members) (not (has_reported x.0 f.reports)) first.0 (ap not first.1) in
       let n = next-report f x.0 rest x.1 g.awaited alone awaited in
       let rule : OnReport meaning (who c world_group) x.0 f.proposal x.1 (in_step l h.start) (in_step h.after h.out) = h.hears in
-      let goes = FactOfRules.report-taken meaning (who c world_group) x.0 f (with_report f x) x.1 (in_step l h.start) (in_step h.after h.out) g.flush n.2 n.0 rule in
+      let goes = RulesByPacket.report-taken meaning (who c world_group) x.0 f (with_report f x) x.1 (in_step l h.start) (in_step h.after h.out) g.flush n.2 n.0 rule in
       let fact : IsAnswer (system_of w.node_states w.history.pool w.history.trace).history x.0 f.proposal x.1 =
       Standing.fact-at meaning laws w g.keeps k (report_packet c f.proposal x) to.there to.sound in (
         record {
@@ -242,7 +242,7 @@ module _ {S : Type 0} (meaning : Meaning S) (laws : KeepBySteps.Laws meaning) wh
       → (z : Taken w mid c l f x) → z.left ≡ q ∷ rest → Gathers mid c (flushing (with_report f x) l) (with_report f x) t (q ∷ rest) × (mid.history.pool ≡ w.history.pool)
   waits-on-still w mid c l f t x q rest g z left =
       let f2 = with_report f x in
-      let on = FactOfRules.waits meaning (who c world_group) f2 l (in_step l z.start) (in_step z.after z.out) (waits-on f2 q rest (z.awaited ∙ left)) z.goes in (
+      let on = RulesByPacket.waits meaning (who c world_group) f2 l (in_step l z.start) (in_step z.after z.out) (waits-on f2 q rest (z.awaited ∙ left)) z.goes in (
         record {
           keeps = z.keeps;
           stands = subst (Stands meaning mid c) on.0 z.stands;
@@ -263,7 +263,7 @@ module _ {S : Type 0} (meaning : Meaning S) (laws : KeepBySteps.Laws meaning) wh
       let f2 = with_report f x in
       let s = system_of w.node_states w.history.pool w.history.trace in
       let complete = complete-at-last f2 (z.awaited ∙ left) in
-      let y = FactOfRules.finishes meaning (who c world_group) f2 t l (in_step l z.start) (in_step z.after z.out) g.view complete z.goes in
+      let y = RulesByPacket.finishes meaning (who c world_group) f2 t l (in_step l z.start) (in_step z.after z.out) g.view complete z.goes in
       let given = finished_given meaning f2 t l.receiver in
       let none = ap (λ (k : MemberState S). k.flush) y.finishes.member_state in
       let p = proposed-by c (due_proposal (core_at c y.mid.member) y.mid.member.notes) y.mid (in_step z.after z.out) none y.proposes in
@@ -290,7 +290,7 @@ module _ {S : Type 0} (meaning : Meaning S) (laws : KeepBySteps.Laws meaning) wh
               stands = a.stands;
               promise = a.promise;
               waits = a.waits;
-              chunks = FactOfFollowers.holds-nothing meaning s (Standing.agreed-in meaning laws w g.keeps).agreed (Standing.agreed-in meaning laws w g.keeps).chunks c q (core_at c l) a.member_state f runs g.flush
+              chunks = WhoFollows.holds-nothing meaning s (Standing.agreed-in meaning laws w g.keeps).agreed (Standing.agreed-in meaning laws w g.keeps).chunks c q (core_at c l) a.member_state f runs g.flush
                   (Standing.runs-in meaning w q a.member_state a.stands) a.promise;
               comes = comes-from w c l f t (x.0 ∷ []) x g own z.said complete q listed other a;
             }) (apart-from w c q l a.member_state g.stands a.stands other) z.others;

@@ -12,15 +12,15 @@ use Rattle.address.specs.Ids.{Address, same_address}
 use Rattle.address.proofs.SameIds.{same_address-refl, same_address-sym, same_address-true}
 use Rattle.limits.specs.declared.TheConstants.{GREATEST_NUMBER}
 use Rattle.view.specs.Members.{View, stands_in}
-use Rattle.view.proofs.FactOfMembers.{all-by}
-use Rattle.next_view.specs.Notes.{NotesModel, having_heard}
+use Rattle.view.proofs.MembersListed.{all-by}
+use Rattle.next_view.specs.ViewNotes.{NotesModel, having_heard}
 use Rattle.next_view.specs.Candidates.{candidates, next_counter}
 use Rattle.state_transfer.specs.Meanings.{Meaning}
 use Rattle.flush.specs.Flushes.{FlushModel, has_reported, is_awaited}
 use Rattle.view_install.specs.Promises.{PromiseModel, offered, is_accept}
-use Rattle.acts.specs.Acts.{proposed}
-use Rattle.decisions.specs.Decisions.{proposal_after, promised_counter}
-use Rattle.agreement.proofs.KeepBySteps
+use Rattle.law_acts.specs.Acts.{proposed}
+use Rattle.law_choices.specs.Decisions.{proposal_after, promised_counter}
+use Rattle.law_agreement.proofs.KeepBySteps
 use Rattle.traffic.specs.declared.view_state.ViewState.{ViewState}
 use Rattle.membership.specs.declared.member_state.MemberState.{MemberState}
 use Rattle.membership.specs.MemberStates.{core_of as core_at, view_in, is_connected, is_complete, begun_with, anew_proposal}
@@ -36,7 +36,7 @@ use Rattle.world_plays.proofs.Standing
 use Rattle.world_plays.proofs.Standing.{Stands}
 use Rattle.settling.specs.Settles.{would_follow, followed, settling_in, settling_at, Settles, IsSettled}
 use Rattle.settling.specs.LowProposals.{told, past_in, promised_past, raised_at, Raises, further, furthest, asked_of, asked_in, asked_at, beyond, beyond_all, followed_by_all, overtaking_at, Overtakes}
-use Rattle.settling.proofs.FactOfSettled
+use Rattle.settling.proofs.SettlingsSettle
 use Rattle.settling.proofs.RoundRaises
 use Rattle.settling.proofs.RoundRaises.{lt-from, when-there, reported-alone, begun-awaits, tells-accepts, tells-none, Anew, Low, Rose}
 use Rattle.settling.proofs.StageOfFlushes.{Keeps}
@@ -147,7 +147,7 @@ module _ {S : Type 0} (meaning : Meaning S) (laws : KeepBySteps.Laws meaning) wh
       by : (p : Address) (b : Bool) → same_address p x.member.address ≡ b → would_follow w p (before.node_states p.node) ≡ true → would_follow w p (new.node_states p.node) ≡ true
       by p true e follows = subst (λ (a : Address). would_follow w a (new.node_states a.node) ≡ true) (sym (same_address-true p x.member.address e)) mine
       by p false e follows =
-          let a = FactOfSettled.follower meaning laws before w p z.keeps follows in
+          let a = SettlingsSettle.follower meaning laws before w p z.keeps follows in
           let apart = Standing.nodes-apart meaning before x.member.address p z.member_state a.member_state z.stood a.stands e in
           ap (would_follow w p) (z.others p.node apart) ∙ follows
 
@@ -333,7 +333,7 @@ module _ {S : Type 0} (meaning : Meaning S) (laws : KeepBySteps.Laws meaning) wh
   pub overtakes-settle : (old mid new : WorldModel S) (n : ℕ) (v : View) → Keeps meaning laws old → overtaking_at old.node_states n ≡ Some v → Overtakes meaning n old mid → Settles meaning n mid new → IsSettled v new.history.trace
   overtakes-settle old mid new n v keeps at x settles =
       let y = overtakes old mid n v keeps at x in
-      FactOfSettled.settled meaning laws mid new n v y.1 y.0 settles
+      SettlingsSettle.settled meaning laws mid new n v y.1 y.0 settles
 
   -- ---- how many events these are
 
@@ -342,14 +342,14 @@ module _ {S : Type 0} (meaning : Meaning S) (laws : KeepBySteps.Laws meaning) wh
       let e : length new.history.events ≡ length old.history.events = ap (λ (w : WorldModel S). length w.history.events) same in
       omega (arith, e)
   one-few old new (Some k) plays =
-      let e = FactOfSettled.adds meaning laws old new (Deliver k) plays in
+      let e = SettlingsSettle.adds meaning laws old new (Deliver k) plays in
       omega (arith, e)
 
   round-few : (old new : WorldModel S) (n : ℕ) (q : Address) → Raises meaning n q old new → length new.history.events ≤ length old.history.events + 3
   round-few old new n q x =
-      let a = FactOfSettled.adds meaning laws old x.announced (Tick n) x.ticks in
+      let a = SettlingsSettle.adds meaning laws old x.announced (Tick n) x.ticks in
       let b = one-few x.announced x.answered (first_for q (length old.history.pool) x.announced.history.pool) x.flush in
-      let c = FactOfSettled.adds meaning laws x.answered new (Deliver (length x.answered.history.pool)) x.behind in
+      let c = SettlingsSettle.adds meaning laws x.answered new (Deliver (length x.answered.history.pool)) x.behind in
       omega (arith, a, b, c)
 
   if-few : (old new : WorldModel S) (n : ℕ) (o : Option Address) → MatchOption o (new ≡ old) (λ q. Raises meaning n q old new) → length new.history.events ≤ length old.history.events + 3
@@ -364,5 +364,5 @@ module _ {S : Type 0} (meaning : Meaning S) (laws : KeepBySteps.Laws meaning) wh
       let y = overtakes old mid n v keeps at x in
       let a = if-few old x.raised n (asked_at old.node_states n) x.first in
       let b = if-few x.raised mid n (asked_at x.raised.node_states n) x.second in
-      let c = FactOfSettled.brief meaning laws mid new n v y.1 y.0 settles in
+      let c = SettlingsSettle.brief meaning laws mid new n v y.1 y.0 settles in
       omega (arith, a, b, c)

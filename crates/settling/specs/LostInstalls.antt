@@ -5,7 +5,7 @@ use Rattle.std.specs.Option.{option_eq, option_map_or, option_and_then}
 use Rattle.address.specs.Ids.{Address, same_address, same_view_id}
 use Rattle.view.specs.Members.{View}
 use Rattle.state_transfer.specs.Meanings.{Meaning}
-use Rattle.acts.specs.Cores.{id_of}
+use Rattle.law_acts.specs.Cores.{id_of}
 use Rattle.membership.specs.MemberStates.{view_in, is_sent_to}
 use Rattle.world_model.specs.declared.WorldEvent.TheVariants.{Deliver, Tick}
 use Rattle.world_step.specs.declared.node_state.NodeState.{NodeState}

@@ -8,7 +8,7 @@ use Rattle.limits.specs.declared.TheConstants.{GREATEST_NUMBER}
 use Rattle.state_transfer.specs.Meanings.{Meaning}
 use Rattle.next_view.specs.Candidates.{candidates}
 use Rattle.flush.specs.Flushes.{FlushModel, has_reported, is_awaited}
-use Rattle.acts.specs.Acts.{proposed}
+use Rattle.law_acts.specs.Acts.{proposed}
 use Rattle.membership.specs.declared.member_state.MemberState.{MemberState}
 use Rattle.membership.specs.MemberStates.{is_connected, view_in, anew_past}
 pub use Rattle.member.specs.Proposals.{told, past_in}

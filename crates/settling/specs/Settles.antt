@@ -10,7 +10,7 @@ use Rattle.trace_props.specs.declared.event.Event.TheVariants.{Crashed}
 use Rattle.trace_props.specs.Observed.{current_view}
 use Rattle.flush.specs.Flushes.{FlushModel}
 use Rattle.view_install.specs.Promises.{offered, is_accept}
-use Rattle.acts.specs.Acts.{proposed, others_of}
+use Rattle.law_acts.specs.Acts.{proposed, others_of}
 use Rattle.membership.specs.MemberStates.{is_connected, is_complete}
 use Rattle.world_model.specs.declared.WorldEvent.TheVariants.{Tick}
 use Rattle.world_model.specs.Histories.{running}

@@ -1,7 +1,7 @@
 ghost use Rattle.std.specs.Prelude.{◌≡◌, ◌≤◌, ◌<◌, ◌+◌, ◌*◌, length};
 ghost use Rattle.limits.specs.declared.TheConstants.{STATE, CHUNK};
 ghost use Rattle.wire_values.specs.Chunks.{IsTotal, IsPlace, IsCut, chunk_of};
-ghost use Rattle.acts.specs.Given.{chunk_at};
+ghost use Rattle.law_acts.specs.Given.{chunk_at};
 ghost use Rattle.state_chunks.specs.HeldChunks.{chunk_count};
 
 use limits::{CHUNK, STATE};

@@ -6,9 +6,9 @@ ghost use Rattle.limits.specs.declared.TheConstants.{STATE};
 ghost use Rattle.state_chunks.specs.HeldChunks.{is_new, is_at, has_all, bytes_at, joined_of, is_there, given_in};
 
 use crate::chunk_count;
+use owned_bytes::Bytes;
 use std::alloc::{AllocError, Global};
 use std::marker::Model;
-use trace_props::Bytes;
 use wire_values::{Chunk, GivenState, Total};
 
 // A chunk that is held: how many bytes its state has, its index, and its bytes.

@@ -1,2 +1,2 @@
-pub mod FactOfGrows
-pub mod FactOfCalm
+pub mod GrowthAdds
+pub mod CalmAdds

@@ -6,7 +6,7 @@ use Rattle.wire_values.specs.declared.packet.Packet.{Packet}
 use Rattle.wire.specs.Packets.{IsPacket, spelling}
 use Rattle.trace_props.specs.declared.event.Event.{Event}
 use Rattle.trace_props.specs.Recorded.{IsShort}
-use Rattle.acts.specs.Histories.{Posted}
+use Rattle.law_acts.specs.Histories.{Posted}
 use Rattle.step_output.specs.declared.output.Outgoing.{Outgoing}
 use Rattle.step_output.specs.declared.output.Output.{Output}
 use Rattle.step_output.specs.Names.{same_name}

@@ -1,13 +1,14 @@
 ghost use Rattle.std.specs.Prelude.{◌≡◌, [], ◌∷◌, IfOk, OnOk};
 ghost use Rattle.wire.specs.Packets.{IsPacket};
 ghost use Rattle.trace_props.specs.Recorded.{IsShort};
-ghost use Rattle.acts.specs.Acts.{packet};
+ghost use Rattle.law_acts.specs.Acts.{packet};
 ghost use Rattle.step_output.specs.Outputs.{Grows, packet_in, spelled, is_for};
 
 use crate::{Outgoing, Output, OwnedName};
 use address::Address;
+use owned_bytes::Bytes;
 use std::alloc::{AllocError, Global};
-use trace_props::{Bytes, Event};
+use trace_props::Event;
 use wire::encode;
 use wire_values::{Body, Packet};
 

@@ -2,8 +2,9 @@ ghost use Rattle.std.specs.Prelude.{[]};
 ghost use Rattle.step_output.specs.Outputs.{Puts};
 
 use address::Address;
+use owned_bytes::Bytes;
 use std::alloc::Global;
-use trace_props::{Bytes, Event};
+use trace_props::Event;
 
 /// A packet to be put out: to whom, and its bytes, at most `DATAGRAM` of them (docs/WIRE.md).
 #[derive(Debug, Drop)]

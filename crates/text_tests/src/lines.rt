@@ -1,9 +1,8 @@
 use crate::fixtures::address;
 use address::ViewId;
+use owned_bytes::Bytes;
 use std::alloc::{AllocError, Global};
-use trace_props::{
-    BoxedInstall, Bytes, Delivery, Event, HandedBack, Install, Message, Numbered, Sending,
-};
+use trace_props::{BoxedInstall, Delivery, Event, HandedBack, Install, Message, Numbered, Sending};
 use view::{Addresses, View};
 use vsync_text::append_event;
 

@@ -1,6 +1,6 @@
 use crate::fixtures::is;
+use owned_bytes::Bytes;
 use std::alloc::{AllocError, Global};
-use trace_props::Bytes;
 use vsync_text::{append_packet, append_packets, put_decimal};
 
 /// A LEAVE of 3.1 to 1.2.

@@ -2,10 +2,11 @@
 
 use address::Node;
 use limits::Refusal;
+use owned_bytes::Bytes;
 use std::alloc::Global;
 use std::process::Abort;
 use trace_drawing::{Aside, AsideKind, draw};
-use trace_props::{Bytes, Rule, Verdict};
+use trace_props::{Rule, Verdict};
 use trace_reader::read_trace;
 
 /// Whether the picture of a trace that keeps all rules begins and ends so.

@@ -1,1 +1,1 @@
-pub mod FactOfWaiting
+pub mod FirstWaits

@@ -1,5 +1,5 @@
 //! Tokens: numbers that rise with the messages of a replicated state, also from one view to the next. By them a lock's guard tells an older grant from a later one, and a map's
-//! writers a value from the same one that was put again (docs/FORMATS.md, "Tokens").
+//! writers a value from the same one that was put again (docs/RECEIVERS.md, "Tokens").
 #![tactic(auto)]
 
 mod decoding;

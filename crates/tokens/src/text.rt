@@ -1,4 +1,4 @@
-//! Tokens in texts (docs/FORMATS.md, "Tokens").
+//! Tokens in texts (docs/RECEIVERS.md, "Tokens").
 
 ghost use Rattle.std.specs.Prelude.{◌≡◌, ◌++◌, ◌∷◌, IfSome, OnOk};
 ghost use Rattle.vsync_text.specs.TraceText.{GoesOnFrom};

@@ -20,8 +20,8 @@ use Rattle.trace_props.specs.Following.{MayCarry}
 use Rattle.trace_props.specs.Agreeing.{is_view, goes, first_from}
 use Rattle.trace_checker.specs.Known.{sending_of, delivery_of, sent_kept, delivered_kept, last_kept, same_in_view, same_view_change, KnowsSent, KnowsDelivered, KnowsLast, KnowsEntries, KnowsFirsts, KnowsViewChanges}
 use Rattle.address.proofs.SameIds.{same_address-true, same_view_id-true}
-use Rattle.trace_props.proofs.FactOfDelivered.{is_delivery_to, is_delivery_to-true, delivered_in-still, delivered_in-hit, delivered_in-miss, sent_in-still, sent_in-hit, sent_in-miss, own-hit, own-miss, enters, is_of, register-still, register-push, install_of-some}
-use Rattle.trace_checker.proofs.FactOfTables.{same_in_view-true}
+use Rattle.trace_props.proofs.DeliveredGrow.{is_delivery_to, is_delivery_to-true, delivered_in-still, delivered_in-hit, delivered_in-miss, sent_in-still, sent_in-hit, sent_in-miss, own-hit, own-miss, enters, is_of, register-still, register-push, install_of-some}
+use Rattle.trace_checker.proofs.TablesLookUp.{same_in_view-true}
 use Rattle.address.proofs.Plain.{option_or-none}
 
 and-swap : (a b : Bool) → (a && b) ≡ (b && a)

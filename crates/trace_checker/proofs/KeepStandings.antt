@@ -8,7 +8,7 @@ use Rattle.trace_checker.specs.declared.known.standing.Standing.{Standing}
 use Rattle.trace_props.specs.Observed.{member_of, has_started, has_ended, is_blocked, current_view}
 use Rattle.trace_checker.specs.Known.{stood, standing_of, standing_after, leaves_standing, KnowsStandings}
 use Rattle.address.proofs.SameIds.{same_address-true}
-use Rattle.trace_props.proofs.FactOfObserved.{has_started-still, has_started-now, has_started-other, has_ended-still, has_ended-now, has_ended-other, current_view-push, current_view-now, current_view-other, is_blocked-push, is_blocked-now, is_blocked-open, is_blocked-other}
+use Rattle.trace_props.proofs.ObservedGrow.{has_started-still, has_started-now, has_started-other, has_ended-still, has_ended-now, has_ended-other, current_view-push, current_view-now, current_view-other, is_blocked-push, is_blocked-now, is_blocked-open, is_blocked-other}
 
 -- equal in each field
 abbrev stands : Bool → Bool → Bool → Option ViewId → Standing

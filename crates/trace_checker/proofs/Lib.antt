@@ -1,9 +1,9 @@
-pub mod FactOfTables
+pub mod TablesLookUp
 pub mod KeepStandings
 pub mod KeepMessages
 pub mod TestsOfOneView
 pub mod TestsOfViewChanges
 pub mod KeepStates
-pub mod FactOfEntryState
+pub mod EntryStatesKept
 pub mod TestsOfEvents
 pub mod KeepLasts

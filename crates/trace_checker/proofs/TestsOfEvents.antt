@@ -11,7 +11,7 @@ use Rattle.trace_props.specs.Observed.{install_of}
 use Rattle.trace_checker.specs.Known.{sending_of, delivery_of}
 use Rattle.trace_props.specs.Following.{MayRise, MayCarry, MayOrder}
 use Rattle.trace_props.specs.Agreeing.{MayMeet, MayKnow, MayHandBack}
-use Rattle.trace_props.proofs.FactOfDelivered.{install_of-some}
+use Rattle.trace_props.proofs.DeliveredGrow.{install_of-some}
 use Rattle.trace_checker.proofs.KeepMessages.{sending-is, delivery-is}
 
 -- what asks nothing of an event holds of it

@@ -17,7 +17,7 @@ use Rattle.trace_props.specs.Observed.{delivered_in, entry_of, first_install}
 use Rattle.trace_props.specs.Rules.{LiesWithin}
 use Rattle.trace_props.specs.Agreeing.{first_from, MayMeet, KnowEachOther, MayKnow}
 use Rattle.trace_checker.specs.Judged.{same_previous, is_level, meets, lies_within, inside_first, inside_previous, alike, know_each_other, knows_all, are_equal}
-use Rattle.trace_props.proofs.FactOfPlaces.{slice_get-drop}
+use Rattle.trace_props.proofs.RulesAlongLists.{slice_get-drop}
 use Rattle.address.proofs.SameIds.{same_address-true, same_address-refl}
 use Rattle.trace_checker.proofs.TestsOfOneView.{and-decides, and3-decides, same-decides, nat_eq-decides, previous-decides}
 

@@ -7,12 +7,12 @@ use Rattle.address.proofs.SameIds.{same_address-true, same_address-refl, same_ad
 use Rattle.trace_props.specs.declared.event.Event.{Event}
 use Rattle.trace_props.specs.declared.event.Event.TheVariants.{Started, Sent, Delivered, Blocked, Installed, Left, Crashed}
 use Rattle.trace_props.specs.Observed.{member_of, is_blocked, has_ended, is_end}
-use Rattle.trace_props.proofs.FactOfObserved.{is_blocked-push, is_blocked-other, is_blocked-now, is_blocked-open, has_ended-still, has_ended-other, has_ended-now}
+use Rattle.trace_props.proofs.ObservedGrow.{is_blocked-push, is_blocked-other, is_blocked-now, is_blocked-open, has_ended-still, has_ended-other, has_ended-now}
 use Rattle.trace_drawing.specs.declared.row.MessageKey.{MessageKey}
 use Rattle.trace_drawing.specs.declared.known.Lifeline.{Lifeline}
 use Rattle.trace_drawing.specs.Layout.{first_place, last_place, rank_in, come_up, members_in, column_of, happens_to, happens_at, same_message, message_sent, view_installed, sends, installs}
 use Rattle.trace_drawing.specs.Known.{blocked_after, lifeline_after, KnowsMembers, KnowsSends, KnowsInstalls, KnowsNodes}
-use Rattle.trace_drawing.proofs.FactOfPlaces.{last_place-push, last-hit, last-miss, first-hit, first-miss}
+use Rattle.trace_drawing.proofs.FirstAndLast.{last_place-push, last-hit, last-miss, first-hit, first-miss}
 
 -- TABLES OF LAST PLACES
 

@@ -11,13 +11,13 @@ use Rattle.trace_props.specs.declared.event.Event.TheVariants.{Started, Sent, De
 use Rattle.trace_props.specs.declared.verdict.Rule.{Rule}
 use Rattle.trace_props.specs.declared.verdict.Verdict.TheVariants.{Breaks}
 use Rattle.trace_props.specs.Observed.{member_of}
-use Rattle.trace_props.proofs.FactOfPlaces.{slice_get-take}
+use Rattle.trace_props.proofs.RulesAlongLists.{slice_get-take}
 use Rattle.trace_drawing.specs.declared.aside.Aside.{Aside}
 use Rattle.trace_drawing.specs.Layout.{last_from, last_place, rank_in, members_in, column_of, sends, installs, origin_of, above, level_of, row_of, rows_from, rows_of}
 use Rattle.trace_drawing.specs.declared.broken.TheConstants.{BROKEN_STYLE}
 use Rattle.trace_drawing.specs.Broken.{broken_group, broken_in, broken_text}
 use Rattle.trace_drawing.specs.Promises.{IsReachedFrom}
-use Rattle.trace_drawing.proofs.FactOfPlaces.{first_from-push}
+use Rattle.trace_drawing.proofs.FirstAndLast.{first_from-push}
 use Rattle.trace_drawing.proofs.KeepKnown.{members-push, rank-now}
 
 -- ROWS

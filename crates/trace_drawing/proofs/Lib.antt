@@ -1,9 +1,9 @@
-pub mod FactOfPlaces
+pub mod FirstAndLast
 pub mod KeepKnown
-pub mod FactOfRows
-pub mod FactOfLevels
-pub mod FactOfTexts
-pub mod FactOfWays
+pub mod RowsAndLines
+pub mod AsidesHaveLevels
+pub mod TextsAppend
+pub mod PacketsWay
 pub mod LawOfRows
 pub mod LawOfAsides
 pub mod LawOfTexts

@@ -8,8 +8,8 @@ use crate::aside::{AsideKind, AsideRow};
 use crate::packets::{bytes_numbered, put_handed_group, put_packet_group};
 use crate::refusals::put_refused_group;
 use crate::ways::Ways;
+use owned_bytes::Bytes;
 use std::alloc::{AllocError, Global};
-use trace_props::Bytes;
 use vsync_text::put;
 
 /// How the marks of refusals and of packets look, and their words: in print and on a light ground, and on a dark one.

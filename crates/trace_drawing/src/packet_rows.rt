@@ -4,9 +4,9 @@ ghost use Rattle.std.specs.Prelude.{◌≡◌, ℕ, None, Some, nat_eq, if◌the
 ghost use Rattle.trace_drawing.specs.Packets.{row_in};
 
 use crate::known::put_row;
+use owned_bytes::Bytes;
 use std::alloc::{AllocError, Global};
 use std::collections::HashMap;
-use trace_props::Bytes;
 
 /// A row for each packet of which one is known. Those of the packets that there are stand in a list by their numbers; those of other
 /// numbers are looked up.

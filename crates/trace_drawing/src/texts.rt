@@ -13,8 +13,9 @@ use crate::marks::{BLOCK, names_y, place_of, x_of, y_of};
 use crate::row::Row;
 use crate::spelling::{put_number, put_over, put_shape, put_text_start};
 use address::{Address, ViewId};
+use owned_bytes::Bytes;
 use std::alloc::AllocError;
-use trace_props::{Bytes, Event, Install, Numbered};
+use trace_props::{Event, Install, Numbered};
 use vsync_text::{put, put_address, put_decimal};
 
 // Appends an address.

@@ -11,12 +11,12 @@ use Rattle.std.proofs.lemmas.List.Folds.{list_any-append}
 use Rattle.trace_props.specs.declared.event.Event.{Event}
 use Rattle.trace_props.specs.Places.{EachEvent}
 use Rattle.trace_props.specs.Recorded.{IsRecordable}
-use Rattle.trace_props.proofs.FactOfPlaces.{EachEvent-nil, EachEvent-push}
+use Rattle.trace_props.proofs.RulesAlongLists.{EachEvent-nil, EachEvent-push}
 use Rattle.trace_merge.specs.declared.fact.Fact.{Fact}
 use Rattle.trace_merge.specs.Facts.{shows, is_shown, is_awaited, is_free, MayCome}
 use Rattle.trace_merge.specs.Merges.{Came, event_of, own, events_at, has_next, NoneIsLeft, comes_in, starts_free, IsMerge, IsOrderedMerge, HaveCome, IsFreeAt, NoneIsFree, AreRecordable}
 use Rattle.trace_merge.specs.Outcomes.{slices, slice_of, WaitsFor, AreUnordered}
-use Rattle.trace_merge.proofs.FactOfOwn.{own-append, own-first, own-other, merge-shows}
+use Rattle.trace_merge.proofs.ProcessesShown.{own-append, own-first, own-other, merge-shows}
 use Rattle.trace_merge.proofs.LawOfMerges.{still-free, have-no-order}
 
 -- ---- nothing has come

@@ -14,7 +14,7 @@ use Rattle.trace_merge.specs.Facts.{shows, is_shown, is_free, waits_for}
 use Rattle.trace_merge.specs.Merges.{own, events_at, next_at, has_next, comes_in, HaveCome, NoneIsFree}
 use Rattle.trace_merge.specs.Outcomes.{WaitsForOne, WaitsFor, awaits_at, followed}
 use Rattle.trace_merge.specs.Outcomes.WaitsFor.{One, More}
-use Rattle.trace_merge.proofs.FactOfOwn.{or-cases, shown-of-own, comes-by}
+use Rattle.trace_merge.proofs.ProcessesShown.{or-cases, shown-of-own, comes-by}
 
 -- ---- what is found
 

@@ -7,11 +7,11 @@ use Rattle.std.proofs.lemmas.List.{append_cancel_left, append-nil, append_assoc,
 use Rattle.std.proofs.lemmas.Option.{none-some, same_Some}
 use Rattle.std.proofs.Math.Seq.{take-append_seam}
 use Rattle.trace_props.specs.declared.event.Event.{Event}
-use Rattle.trace_props.proofs.FactOfObserved.{list_any-stays}
+use Rattle.trace_props.proofs.ObservedGrow.{list_any-stays}
 use Rattle.trace_merge.specs.declared.fact.Fact.{Fact}
 use Rattle.trace_merge.specs.Facts.{shows, is_shown, is_awaited, is_free, waits_for, MayCome, IsInOrder}
 use Rattle.trace_merge.specs.Merges.{Came, event_of, own, events_at, next_at, comes_in, IsMerge, HaveNoOrder, HaveCome, NoneIsFree}
-use Rattle.trace_merge.proofs.FactOfOwn.{own-append, own-first, own-other, shown-of-own, shown-by-some, merge-shows}
+use Rattle.trace_merge.proofs.ProcessesShown.{own-append, own-first, own-other, shown-of-own, shown-by-some, merge-shows}
 
 -- ---- who waits for nothing still does when less is awaited
 

@@ -1,4 +1,4 @@
-pub mod FactOfOwn
+pub mod ProcessesShown
 pub mod KeepCome
 pub mod KeepShown
 pub mod LawOfCircles

@@ -3,10 +3,9 @@
 ghost use Rattle.std.specs.Prelude.{◌≡◌, IfOk, map};
 ghost use Rattle.trace_props.specs.Recorded.{IsShort};
 
+use owned_bytes::Bytes;
 use std::alloc::{AllocError, Global};
-use trace_props::{
-    BoxedInstall, Bytes, Delivery, Event, HandedBack, Install, Message, Numbered, Sending,
-};
+use trace_props::{BoxedInstall, Delivery, Event, HandedBack, Install, Message, Numbered, Sending};
 use view::View;
 
 fn numbered(alloc: Global, message: &Numbered) -> Result<Numbered, AllocError>

@@ -1,4 +1,4 @@
-//! One trace of the traces of several processes, in an order that agrees with what each of them waited for (docs/FORMATS.md, "Texts of several processes").
+//! One trace of the traces of several processes, in an order that agrees with what each of them waited for (docs/CLI.md, "Texts of several processes").
 #![tactic(auto)]
 
 mod copies;

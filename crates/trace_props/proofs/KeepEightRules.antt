@@ -11,9 +11,9 @@ use Rattle.trace_props.specs.Rules.{MayStand, GivesBack}
 use Rattle.trace_props.specs.State.{EntersAlike}
 use Rattle.trace_props.specs.Synchrony.{KeepsRules, IsVirtuallySynchronous}
 use Rattle.trace_props.specs.Verdicts.{KeepsRule, rules_before, KeepsEach, BreaksFirst, IsVerdict, MayEach, MayRule, BreaksNext, GoesOn}
-use Rattle.trace_props.proofs.FactOfPlaces.{EachEvent-nil, EachEvent-push, EachPlace-nil, EachPlace-push, EachPlace-whole, EachPlace-before, take-next}
+use Rattle.trace_props.proofs.RulesAlongLists.{EachEvent-nil, EachEvent-push, EachPlace-nil, EachPlace-push, EachPlace-whole, EachPlace-before, take-next}
 use Rattle.trace_props.proofs.KeepFourRules.{views-push, messages-push, order-push, well_ordered-none}
-use Rattle.trace_props.proofs.FactOfNeeded.{placed-needed, views-needed, messages-needed, order-needed}
+use Rattle.trace_props.proofs.FourRulesNeed.{placed-needed, views-needed, messages-needed, order-needed}
 use Rattle.trace_props.proofs.RuleOfSameNext.{meets-push, meets-needed}
 use Rattle.trace_props.proofs.RuleOfTogether.{knows-push, knows-needed}
 use Rattle.trace_props.proofs.RuleOfHandedBack.{hands-push, hands-needed}

@@ -16,10 +16,10 @@ use Rattle.trace_props.specs.Observed.{delivered_message, delivered_in, said, se
 use Rattle.trace_props.specs.Rules.{MayStand, RisesAt, EachTwoInstalls, HasRisingViews, WasSent, IsNumbered, IsOnce, HasSoundMessages, HasOneOrder}
 use Rattle.trace_props.specs.Synchrony.{IsWellOrdered}
 use Rattle.trace_props.specs.Following.{MayRise, MayCarry, MayOrder, MayFollow}
-use Rattle.trace_props.proofs.FactOfPlaces.{slice_get-push, EachEvent-nil, EachEvent-push, EachPlace-nil, EachPlace-push, EachPlace-whole, IsBeginningOf-same, IsBeginningOf-grow, IsBeginningOf-next, IsBeginningOf-at}
+use Rattle.trace_props.proofs.RulesAlongLists.{slice_get-push, EachEvent-nil, EachEvent-push, EachPlace-nil, EachPlace-push, EachPlace-whole, IsBeginningOf-same, IsBeginningOf-grow, IsBeginningOf-next, IsBeginningOf-at}
 use Rattle.address.proofs.SameIds.{same_address-true, same_view_id-true, same_view_id-from}
-use Rattle.trace_props.proofs.FactOfDelivered.{is_delivery_to, is_delivery_to-true, is_delivery_to-at, delivered_in-still, delivered_in-hit, delivered_in-miss, said_by, said_by-true, sent_in-still, sent_in-hit, sent_in-miss, own-hit, own-miss, own-at, is_of, register-stands, register-written}
-use Rattle.trace_props.proofs.FactOfInstalls.{EachInstall, EachTwoInstalls-still, EachTwoInstalls-push}
+use Rattle.trace_props.proofs.DeliveredGrow.{is_delivery_to, is_delivery_to-true, is_delivery_to-at, delivered_in-still, delivered_in-hit, delivered_in-miss, said_by, said_by-true, sent_in-still, sent_in-hit, sent_in-miss, own-hit, own-miss, own-at, is_of, register-stands, register-written}
+use Rattle.trace_props.proofs.InstallRulesGrow.{EachInstall, EachTwoInstalls-still, EachTwoInstalls-push}
 
 -- RISING VIEWS
 

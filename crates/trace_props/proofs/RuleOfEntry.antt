@@ -14,7 +14,7 @@ use Rattle.trace_props.specs.declared.event.Event.TheVariants.{Started, Sent, De
 use Rattle.trace_props.specs.declared.event.Install.{Install}
 use Rattle.trace_props.specs.State.{state_after, state_of, installs, entry_state, EntersAlike, EntersWithState}
 use Rattle.trace_props.specs.Agreeing.{MayEnter}
-use Rattle.trace_props.proofs.FactOfPlaces.{EachEvent-push, EachEvent-last}
+use Rattle.trace_props.proofs.RulesAlongLists.{EachEvent-push, EachEvent-last}
 use Rattle.address.proofs.SameIds.{same_address-true, same_view_id-refl}
 
 -- THE FIRST PLACE THAT PASSES

@@ -8,7 +8,7 @@ use Rattle.trace_props.specs.declared.event.Install.{Install}
 use Rattle.trace_props.specs.Observed.{delivered_in, sent_in, own}
 use Rattle.trace_props.specs.Rules.{HasSoundMessages, GivesBack, HandsBack}
 use Rattle.trace_props.specs.Agreeing.{MayHandBack}
-use Rattle.trace_props.proofs.FactOfPlaces.{EachEvent-push, EachEvent-last}
+use Rattle.trace_props.proofs.RulesAlongLists.{EachEvent-push, EachEvent-last}
 
 gives-from-rest : (t : List Event) (i : Install) (o : Option ViewId) → HasSoundMessages t
     → MatchOption o (i.handed_back ≡ []) (λ v. i.handed_back ≡ drop (length (own i.member (delivered_in i.member v t))) (sent_in i.member v t))

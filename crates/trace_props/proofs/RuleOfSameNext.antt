@@ -11,9 +11,9 @@ use Rattle.trace_props.specs.Observed.{delivered_in, current_view, install_of}
 use Rattle.trace_props.specs.Rules.{MayStand, HasRisingViews, HasOneOrder, HasSameNext}
 use Rattle.trace_props.specs.Agreeing.{is_view, goes, MayMeet}
 use Rattle.address.proofs.SameIds.{same_view_id-true, same_view_id-from}
-use Rattle.trace_props.proofs.FactOfDelivered.{is_delivery_to, is_delivery_to-true, delivered_in-still, delivered_in-miss, register-stands, register-written}
-use Rattle.trace_props.proofs.FactOfInstalls.{EachInstall, EachTwoInstalls-still, EachTwoInstalls-push, EachTwoInstalls-right}
-use Rattle.trace_props.proofs.FactOfRisingViews.{gone}
+use Rattle.trace_props.proofs.DeliveredGrow.{is_delivery_to, is_delivery_to-true, delivered_in-still, delivered_in-miss, register-stands, register-written}
+use Rattle.trace_props.proofs.InstallRulesGrow.{EachInstall, EachTwoInstalls-still, EachTwoInstalls-push, EachTwoInstalls-right}
+use Rattle.trace_props.proofs.InstallsOfRisingViews.{gone}
 
 -- two that went from one view to the same next delivered the same there
 abbrev pub SameList : List Event → Install → Install → Type 0

@@ -9,12 +9,12 @@ use Rattle.trace_props.specs.declared.event.Install.{Install}
 use Rattle.trace_props.specs.Observed.{install_of, entry_of}
 use Rattle.trace_props.specs.Rules.{EntersAbove, RisesAt, HasRisingViews, LiesWithin, KnowsTogether}
 use Rattle.trace_props.specs.Agreeing.{KnowEachOther, KnowsAll, MayKnow}
-use Rattle.trace_props.proofs.FactOfPlaces.{EachEvent-last, slice_get-last}
+use Rattle.trace_props.proofs.RulesAlongLists.{EachEvent-last, slice_get-last}
 use Rattle.address.proofs.SameIds.{same_view_id-true, same_view_id-from}
-use Rattle.trace_props.proofs.FactOfDelivered.{enters, is_of, register-stands, register-written}
-use Rattle.trace_props.proofs.FactOfInstalls.{EachInstall, EachInstall-still, EachInstall-push, EachTwoInstalls-still, EachTwoInstalls-push, EachTwoInstalls-left, EachTwoInstalls-right, EachTwoInstalls-last}
+use Rattle.trace_props.proofs.DeliveredGrow.{enters, is_of, register-stands, register-written}
+use Rattle.trace_props.proofs.InstallRulesGrow.{EachInstall, EachInstall-still, EachInstall-push, EachTwoInstalls-still, EachTwoInstalls-push, EachTwoInstalls-left, EachTwoInstalls-right, EachTwoInstalls-last}
 use Rattle.trace_props.proofs.KeepFourRules.{SameMembers}
-use Rattle.trace_props.proofs.FactOfRisingViews.{IsBelow-irreflexive, views-before, came-stands, entered}
+use Rattle.trace_props.proofs.InstallsOfRisingViews.{IsBelow-irreflexive, views-before, came-stands, entered}
 
 -- the set lies within the view's members
 abbrev Inside : Install → Type 0

@@ -1,7 +1,7 @@
 ghost use Rattle.std.specs.Prelude.{◌≡◌, [], IfOk};
 
-use crate::Bytes;
 use address::{Address, ViewId};
+use owned_bytes::Bytes;
 use std::alloc::{AllocError, Global};
 use std::marker::Model;
 use view::{Addresses, View};

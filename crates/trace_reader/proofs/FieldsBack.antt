@@ -17,7 +17,7 @@ use Rattle.vsync_text.specs.TraceText.{dash, hex_digit, hex_of, text_of_payload,
 use Rattle.trace_reader.specs.Forms.{parts_of, each_of, in_front}
 use Rattle.trace_reader.specs.Spelling.{number_of_text, view_id_of_text, previous_of_text, short_of_hex, payload_of_text, addresses_of_text, view_of_text, together_of_text, message_of_text, messages_of_text, handed_back_of_text, state_of_text, given_of_text}
 use Rattle.trace_reader.specs.Spellable.{IsNumber, IsViewId, AreBytes, IsPayload, IsMessage}
-use Rattle.trace_reader.proofs.FactOfCutTexts.{Without, From, all_append, all_weaker, without_below, from_lower, before_cut, behind_cut, part_cut, part_last}
+use Rattle.trace_reader.proofs.TextsCut.{Without, From, all_append, all_weaker, without_below, from_lower, before_cut, behind_cut, part_cut, part_last}
 use Rattle.trace_reader.proofs.Numerals.{IsDigit, IsLed, decimal_are_digits, decimal_spells, number_back, hex_back}
 
 -- a text of no byte below `,` that spells this

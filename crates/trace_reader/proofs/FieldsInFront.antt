@@ -15,7 +15,7 @@ use Rattle.script_reader.specs.declared.fault.Fault.TheVariants.{BadNumber}
 use Rattle.trace_reader.specs.Forms.{◌>>=◌}
 use Rattle.trace_reader.specs.Fronts.{digits_of, behind_digits, behind_mark, with_behind, number_in_front, address_in_front, view_id_in_front, left_behind}
 use Rattle.trace_reader.specs.Spelling.{view_id_of_text}
-use Rattle.trace_reader.proofs.FactOfCutTexts.{Without}
+use Rattle.trace_reader.proofs.TextsCut.{Without}
 
 -- WHERE DIGITS END
 

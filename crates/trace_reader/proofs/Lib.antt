@@ -1,6 +1,6 @@
-pub mod FactOfReading
-pub mod FactOfReadLists
-pub mod FactOfCutTexts
+pub mod TracesRead
+pub mod ListsAreRead
+pub mod TextsCut
 pub mod Numerals
 pub mod NumbersInFront
 pub mod FieldsInFront
@@ -8,4 +8,4 @@ pub mod FieldsBack
 pub mod LinesBack
 pub mod TextsBack
 pub mod RunsBack
-pub mod FactOfDistinct
+pub mod AddressesDistinct

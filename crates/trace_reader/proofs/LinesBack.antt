@@ -21,7 +21,7 @@ use Rattle.script_reader.specs.Fields.{field_at, spelled_at, end_at, last}
 use Rattle.trace_reader.specs.Fields.{sending_at, delivery_at, view_at, install_at, stable_at}
 use Rattle.trace_reader.specs.Traces.{word_of, event_of, said_in_line}
 use Rattle.trace_reader.specs.Spellable.{stable_text, IsStableText, IsSendable, IsSpellableDelivery, IsInstallable, IsInFormat, IsSpellable}
-use Rattle.trace_reader.proofs.FactOfCutTexts.{Without, is_cut, without_below, before_cut, behind_cut}
+use Rattle.trace_reader.proofs.TextsCut.{Without, is_cut, without_below, before_cut, behind_cut}
 use Rattle.trace_reader.proofs.FieldsBack.{Spells, number_spells, address_spells, view_id_spells, previous_spells, payload_spells, given_spells, view_spells, together_spells, handed_back_spells}
 
 -- FIELDS

@@ -22,7 +22,7 @@ use Rattle.vsync_text.specs.Runs.{refusal_line, refused_lines, answer_lines, str
 use Rattle.trace_reader.specs.Traces.{trace_of}
 use Rattle.trace_reader.specs.Spellable.{IsSpellable, IsNote, Spell}
 use Rattle.trace_reader.specs.Spellable.Spell.{Nothing, Note, Line}
-use Rattle.trace_reader.proofs.FactOfCutTexts.{Without, From, all_append, without_below}
+use Rattle.trace_reader.proofs.TextsCut.{Without, From, all_append, without_below}
 use Rattle.trace_reader.proofs.FieldsBack.{digits_from_least}
 use Rattle.trace_reader.proofs.TextsBack.{trace_back, from_test}
 

@@ -8,15 +8,15 @@ use Rattle.trace_props.specs.declared.event.Event.{Event}
 use Rattle.trace_props.specs.declared.event.Event.TheVariants.{Started, Sent, Delivered, Blocked, Installed, Left, Crashed}
 use Rattle.script_reader.specs.Lines.{lines_of}
 use Rattle.script_reader.specs.Texts.{FaultAt, is_skipped, reading_by, after_line}
-use Rattle.script_reader.proofs.FactOfTexts.{going_on, then_on}
+use Rattle.script_reader.proofs.TextsRead.{going_on, then_on}
 use Rattle.vsync_text.specs.TraceText.{text_of_payload, text_of_previous, text_of_addresses, text_of_handed_back, text_of_given, event_word, fields_of, field, install_view, install_rest}
 use Rattle.trace_reader.specs.Traces.{trace_of, said_in_line, with_said}
 use Rattle.trace_reader.specs.Spellable.{IsInFormat, IsNote, stable_text, IsStableText, Spell}
 use Rattle.trace_reader.specs.Spellable.Spell.{Nothing, Note, Stable, Line}
-use Rattle.trace_reader.proofs.FactOfCutTexts.{Without, From, all_append, without_below, from_lower, line_cut}
+use Rattle.trace_reader.proofs.TextsCut.{Without, From, all_append, without_below, from_lower, line_cut}
 use Rattle.trace_reader.proofs.FieldsBack.{number_spells, address_spells, view_id_spells, previous_spells, payload_spells, given_spells, view_spells, together_spells, handed_back_spells}
 use Rattle.trace_reader.proofs.LinesBack.{body_of, body_back, stable_says_nothing}
-use Rattle.trace_reader.proofs.FactOfReading.{trace_is_going_on}
+use Rattle.trace_reader.proofs.TracesRead.{trace_is_going_on}
 
 -- A LINE HAS NO LINE FEED INSIDE
 

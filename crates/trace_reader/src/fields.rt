@@ -12,10 +12,11 @@ use crate::fronts::{address_in_front, left_behind, number_in_front, view_id_in_f
 use crate::spelling::{given_in, handed_back_in, payload_in, previous_in, together_in, view_in};
 use address::{Address, ViewId};
 use limits::GREATEST_NUMBER;
+use owned_bytes::Bytes;
 use script_reader::{Fault, Unheard, first_field};
 use std::alloc::Global;
 use std::marker::Model;
-use trace_props::{Bytes, HandedBack};
+use trace_props::HandedBack;
 use view::{Addresses, View};
 
 /// What is left of a line. Each call reads the next field, or answers why it cannot.

@@ -10,7 +10,7 @@ use std::alloc::{AllocError, Global};
 use view::Addresses;
 
 /// The next part of what is left behind a comma, if something is, and what is left behind it.
-#[tactic(auto, using(crate::proofs::FactOfReadLists::first_of_parts, crate::proofs::FactOfReadLists::less_left))]
+#[tactic(auto, using(crate::proofs::ListsAreRead::first_of_parts, crate::proofs::ListsAreRead::less_left))]
 pub(crate) fn next_part(left: Option<&[u8]>) -> Option<(&[u8], Option<&[u8]>)>
     ensures part { MatchOption result (parts_left (option_copied left.entry) ≡ []) (λ next. parts_left (option_copied left.entry) ≡ next.0.now ∷ parts_left (option_copied next.1)) }
     ensures less { IfSome result (λ next. left_len (option_copied next.1) < left_len (option_copied left.entry)) }
@@ -22,7 +22,7 @@ pub(crate) fn next_part(left: Option<&[u8]>) -> Option<(&[u8], Option<&[u8]>)>
 }
 
 /// The addresses that a field spells, joined by commas.
-#[tactic(auto, using(crate::proofs::FactOfReadLists::part_read, crate::proofs::FactOfReadLists::part_fails, crate::proofs::FactOfReadLists::all_read), unfolding(crate::specs::Spelling::addresses_of_text))]
+#[tactic(auto, using(crate::proofs::ListsAreRead::part_read, crate::proofs::ListsAreRead::part_fails, crate::proofs::ListsAreRead::all_read), unfolding(crate::specs::Spelling::addresses_of_text))]
 pub(crate) fn addresses_in(alloc: Global, field: &[u8]) -> Result<Option<Addresses>, AllocError>
     ensures { IfOk result (λ read. read ≡ addresses_of_text field.now) }
 {

@@ -3,8 +3,8 @@
 ghost use Rattle.std.specs.Prelude.{◌≡◌, ◌<◌, IfOk, MatchOption};
 ghost use Rattle.trace_reader.specs.Forms.{hex_value, hex_byte, bytes_of_hex};
 
+use owned_bytes::Bytes;
 use std::alloc::{AllocError, Global};
-use trace_props::Bytes;
 
 // The value of each byte as a digit, a point where it is none.
 static DIGITS: [u8; 256] = *b"\

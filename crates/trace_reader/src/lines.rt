@@ -19,7 +19,7 @@ fn line_length(text: &[u8]) -> usize
 
 /// The first line of a text that is not empty, without its line feed, and what stands behind that; a last line may lack its
 /// line feed. The line feed is looked for many bytes at a time.
-#[tactic(auto, using(script_reader::proofs::FactOfReading::first_of_lines))]
+#[tactic(auto, using(script_reader::proofs::ScriptsRead::first_of_lines))]
 pub(crate) fn line_in_front(text: &[u8]) -> (&[u8], &[u8])
     requires { 0 < length text.now }
     ensures lines { lines_of text.now ≡ result.0.now ∷ lines_of result.1.now }

@@ -8,10 +8,11 @@ use crate::forms::{addresses_in, next_part};
 use crate::hexadecimal::bytes_in;
 use address::{Address, ViewId};
 use limits::{GREATEST_NUMBER, PAYLOAD};
+use owned_bytes::Bytes;
 use script_reader::{address_in, number_in, split_at_first};
 use std::alloc::{AllocError, Global};
 use std::collections::BTreeSet;
-use trace_props::{Bytes, HandedBack, Numbered};
+use trace_props::{HandedBack, Numbered};
 use view::{Addresses, View};
 
 /// The number of a message in its view.
@@ -90,7 +91,7 @@ pub fn view_in(alloc: Global, id: ViewId, field: &[u8]) -> Result<Option<View>, 
 }
 
 /// Whether no address stands twice.
-#[tactic(auto, using(crate::proofs::FactOfDistinct::nothing_seen))]
+#[tactic(auto, using(crate::proofs::AddressesDistinct::nothing_seen))]
 fn are_distinct(alloc: Global, addresses: &[Address]) -> Result<bool, AllocError>
     ensures { IfOk result (λ distinct. distinct ≡ is_distinct addresses.now) }
 {
@@ -137,7 +138,7 @@ fn message_in(alloc: Global, part: &[u8]) -> Result<Option<Numbered>, AllocError
 }
 
 /// Messages joined by commas.
-#[tactic(auto, using(crate::proofs::FactOfReadLists::part_read, crate::proofs::FactOfReadLists::part_fails, crate::proofs::FactOfReadLists::all_read, crate::proofs::FactOfReadLists::short_push), unfolding(crate::specs::Spelling::messages_of_text))]
+#[tactic(auto, using(crate::proofs::ListsAreRead::part_read, crate::proofs::ListsAreRead::part_fails, crate::proofs::ListsAreRead::all_read, crate::proofs::ListsAreRead::short_push), unfolding(crate::specs::Spelling::messages_of_text))]
 fn messages_in(alloc: Global, field: &[u8]) -> Result<Option<HandedBack>, AllocError>
     ensures read { IfOk result (λ read. read ≡ messages_of_text field.now) }
     ensures short { IfOk result (λ read. IfSome read AreShort) }

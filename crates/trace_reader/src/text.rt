@@ -48,7 +48,7 @@ fn read_on(alloc: Global, trace: &mut Trace, number: u64, line: &[u8]) -> Result
 /// it has more than `TRACE_LINE` bytes (43), or begins with no known word (40); else the first of its fields from the left that is
 /// missing (42), or not of its form or range (41); or it has a field too many (41). `Unread::Memory` where memory was refused.
 /// Either way nothing of the trace is left.
-#[tactic(auto, using(crate::proofs::FactOfReading::trace_is_going_on))]
+#[tactic(auto, using(crate::proofs::TracesRead::trace_is_going_on))]
 pub fn read_trace(alloc: Global, text: &[u8]) -> Result<Trace, Unread>
     ensures { MatchResult result (λ trace. trace_of text.now ≡ Ok trace.events) (IsUnread (trace_of text.now)) }
 {

@@ -4,10 +4,10 @@ use Rattle.address.specs.Ids.{Address}
 use Rattle.view.specs.Members.{View}
 use Rattle.state_transfer.specs.Meanings.{Meaning}
 use Rattle.wire_values.specs.Values as wire
-use Rattle.acts.specs.Histories.{Posted}
-use Rattle.acts.specs.Cores.{ViewCore}
-use Rattle.acts.proofs.LawsOfActs.{nothing-acted, then-acted}
-use Rattle.step_output.proofs.FactOfGrows.{grows-nothing, grows-then}
+use Rattle.law_acts.specs.Histories.{Posted}
+use Rattle.law_acts.specs.Cores.{ViewCore}
+use Rattle.law_acts.proofs.LawsOfActs.{nothing-acted, then-acted}
+use Rattle.step_output.proofs.GrowthAdds.{grows-nothing, grows-then}
 use Rattle.traffic.specs.declared.coordinator.Coordinator.{Coordinator}
 use Rattle.traffic.specs.declared.follower.Follower.{Follower}
 use Rattle.traffic.specs.ViewStates.{coordinator_core, follower_core}

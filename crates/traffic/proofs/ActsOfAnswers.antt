@@ -14,10 +14,10 @@ use Rattle.wire_values.specs.declared.packet.Body.TheVariants as bodies
 use Rattle.state_transfer.specs.Meanings.{Meaning}
 use Rattle.trace_props.specs.declared.event.Numbered.{Numbered}
 use Rattle.nak_stream.specs.Windows.{WindowModel, held_above}
-use Rattle.acts.specs.Histories.{Posted}
-use Rattle.acts.specs.Acts.{Sends, Collects, Puts, Announced, HoldsAbove, packet, others_of}
-use Rattle.acts.specs.Chains.{Acted}
-use Rattle.acts.proofs.LawsOfActs.{nothing-acted}
+use Rattle.law_acts.specs.Histories.{Posted}
+use Rattle.law_acts.specs.Acts.{Sends, Collects, Puts, Announced, HoldsAbove, packet, others_of}
+use Rattle.law_acts.specs.Chains.{Acted}
+use Rattle.law_acts.proofs.LawsOfActs.{nothing-acted}
 use Rattle.traffic.specs.declared.coordinator.Coordinator.{Coordinator}
 use Rattle.traffic.specs.declared.follower.Follower.{Follower}
 use Rattle.step_output.specs.declared.output.Output.{Output}
@@ -29,10 +29,10 @@ use Rattle.traffic.specs.Followers.{collected_to}
 use Rattle.traffic.specs.Takes.{TakesStatus, AsksUpTo, status_packet, orders_held, forward_of, ack_of, follower_pushing, SendsForward, progress_of}
 use Rattle.traffic.proofs.ActsOfCoordinator.{view_core_at, puts-acts}
 use Rattle.traffic.proofs.Windows.{holds-above}
-use Rattle.traffic.proofs.FactOfQueues.{In, in-itself}
-use Rattle.step_output.proofs.FactOfGrows.{grows-nothing}
+use Rattle.traffic.proofs.QueuesServe.{In, in-itself}
+use Rattle.step_output.proofs.GrowthAdds.{grows-nothing}
 use Rattle.traffic.proofs.ActsInTurn.{other-then}
-use Rattle.traffic.proofs.FactOfDeliveries.{asks-goes}
+use Rattle.traffic.proofs.OthersDeliver.{asks-goes}
 use Rattle.step_output.specs.Steps.{who}
 use Rattle.traffic.specs.InViews.{in_view}
 

@@ -25,19 +25,19 @@ use Rattle.sequencer.specs.Forwards.{ForwardsModel, one_delivered}
 use Rattle.sequencer.specs.Queues.{Queue, OrdererModel, change_first, has_next, served, first_next, may_order, next_ordered, ordering, is_from, offered}
 use Rattle.stability.specs.Counts.{members_of, count_of, noted, stable_count}
 use Rattle.stability.proofs.Counts.{members-noted, stable-le-count}
-use Rattle.acts.specs.Histories.{Posted}
-use Rattle.acts.specs.Cores.{ViewCore, Core, left_of}
-use Rattle.acts.specs.Acts.{HoldsAbove, Describes, Queues, Orders, TakesAck, Collects, Puts, All, packet, delivery, one_more}
-use Rattle.acts.specs.Chains.{Acted}
-use Rattle.acts.proofs.LawsOfActs.{nothing-acted}
+use Rattle.law_acts.specs.Histories.{Posted}
+use Rattle.law_acts.specs.Cores.{ViewCore, Core, left_of}
+use Rattle.law_acts.specs.Acts.{HoldsAbove, Describes, Queues, Orders, TakesAck, Collects, Puts, All, packet, delivery, one_more}
+use Rattle.law_acts.specs.Chains.{Acted}
+use Rattle.law_acts.proofs.LawsOfActs.{nothing-acted}
 use Rattle.traffic.specs.declared.coordinator.Coordinator.{Coordinator}
 use Rattle.traffic.specs.ViewStates.{waiting_of, ordered_of, senders_of, coordinator_core, after_delivery}
 use Rattle.traffic.specs.Coordinators.{IsCoordinator, queued, after_one, acknowledged}
 use Rattle.traffic.specs.Goings.{Beside, open_core}
-use Rattle.traffic.proofs.FactOfQueues.{served-fact}
-use Rattle.traffic.proofs.FactOfOffered.{offered-fact, unwanted-fact, is_wanted, entry_from}
+use Rattle.traffic.proofs.QueuesServe.{served-fact}
+use Rattle.traffic.proofs.OffersToOrder.{offered-fact, unwanted-fact, is_wanted, entry_from}
 use Rattle.traffic.proofs.Windows.{holds-more, holds-above, next-taken}
-use Rattle.traffic.proofs.FactOfAcks.{noted-heard}
+use Rattle.traffic.proofs.AcksKnown.{noted-heard}
 
 -- ---- what a view is
 

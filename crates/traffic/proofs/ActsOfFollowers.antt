@@ -15,10 +15,10 @@ use Rattle.trace_props.specs.declared.event.Numbered.{Numbered}
 use Rattle.nak_stream.specs.Windows.{WindowModel, IsWindow, held_with, held_above, offers}
 use Rattle.nak_stream.proofs.Windows.{offered}
 use Rattle.sequencer.specs.Forwards.{ForwardsModel}
-use Rattle.acts.specs.Histories.{Posted}
-use Rattle.acts.specs.Cores.{left_of}
-use Rattle.acts.specs.Acts.{Collects, Holds, Delivers, Puts, Ordered, HoldsAbove, Describes, packet, delivery}
-use Rattle.acts.specs.Chains.{Acted}
+use Rattle.law_acts.specs.Histories.{Posted}
+use Rattle.law_acts.specs.Cores.{left_of}
+use Rattle.law_acts.specs.Acts.{Collects, Holds, Delivers, Puts, Ordered, HoldsAbove, Describes, packet, delivery}
+use Rattle.law_acts.specs.Chains.{Acted}
 use Rattle.traffic.specs.declared.follower.Follower.{Follower}
 use Rattle.step_output.specs.declared.output.Output.{Output}
 use Rattle.step_output.specs.Outputs.{Grows}
@@ -27,7 +27,7 @@ use Rattle.traffic.specs.Goings.{Beside, open_core, FollowerGoes}
 use Rattle.traffic.specs.Followers.{order_packet, DeliversOne, collected_to, held_too}
 use Rattle.traffic.proofs.ActsOfCoordinator.{view_core_at, delivered-by}
 use Rattle.traffic.proofs.Windows.{holds-more, holds-above}
-use Rattle.step_output.proofs.FactOfGrows.{grows-nothing}
+use Rattle.step_output.proofs.GrowthAdds.{grows-nothing}
 use Rattle.traffic.proofs.ActsInTurn.{other-nothing, other-then}
 use Rattle.step_output.specs.Steps.{Who, who}
 use Rattle.traffic.specs.InViews.{InView, in_view}

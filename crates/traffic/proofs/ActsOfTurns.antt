@@ -15,22 +15,22 @@ use Rattle.address.proofs.SameIds.{same_address-refl, same_address-true}
 use Rattle.nak_stream.specs.Windows.{WindowModel, IsWindow, taken, delivering}
 use Rattle.nak_stream.proofs.Windows.{held_at-with}
 use Rattle.sequencer.specs.Queues.{next_ordered, has_next, served, change_first, OrdererModel}
-use Rattle.acts.specs.Histories.{Posted}
-use Rattle.acts.specs.Acts.{packet, delivery, others_of}
-use Rattle.view.proofs.FactOfMembers.{coordinator-in}
+use Rattle.law_acts.specs.Histories.{Posted}
+use Rattle.law_acts.specs.Acts.{packet, delivery, others_of}
+use Rattle.view.proofs.MembersListed.{coordinator-in}
 use Rattle.traffic.specs.declared.coordinator.Coordinator.{Coordinator}
 use Rattle.step_output.specs.declared.output.Output.{Output}
 use Rattle.step_output.specs.Outputs.{Grows}
 use Rattle.traffic.specs.ViewStates.{coordinator_core, waiting_of, senders_of}
 use Rattle.traffic.specs.Coordinators.{IsCoordinator, OrdersOne, queued, after_one, acknowledged}
 use Rattle.traffic.specs.Goings.{open_core, CoordinatorGoes}
-use Rattle.traffic.proofs.FactOfQueues.{served-fact}
-use Rattle.traffic.proofs.FactOfOffered.{is_wanted, offered-fact, unwanted-fact}
+use Rattle.traffic.proofs.QueuesServe.{served-fact}
+use Rattle.traffic.proofs.OffersToOrder.{is_wanted, offered-fact, unwanted-fact}
 use Rattle.traffic.proofs.Windows.{next-taken}
 use Rattle.traffic.proofs.ActsOfCoordinator.{Due, due-fact, distinct-in, orders-acts, queues-by, hears-by, puts-acts, one-coordinator, heard-coordinator}
-use Rattle.step_output.proofs.FactOfGrows.{grows-nothing}
+use Rattle.step_output.proofs.GrowthAdds.{grows-nothing}
 use Rattle.traffic.proofs.ActsInTurn.{goes-nothing, goes-then}
-use Rattle.traffic.proofs.FactOfTurns.{next-is, next-none}
+use Rattle.traffic.proofs.TurnsFollow.{next-is, next-none}
 use Rattle.step_output.specs.Steps.{who}
 use Rattle.traffic.specs.InViews.{in_view}
 

@@ -19,7 +19,7 @@ use Rattle.limits.specs.declared.refusal.Refusal.TheVariants.{Busy, Exhausted}
 use Rattle.sequencer.specs.Queues.{Queue, change_first, follows, has_next, next_of, entry_with, first_next, next_ordered, may_order, is_from, takes, offered, waiting_with}
 use Rattle.stability.specs.Counts.{count_of, noted, stable_count}
 use Rattle.stability.proofs.Counts.{count-noted-le, stable-le-count, members-noted}
-use Rattle.acts.specs.Acts.{delivery}
+use Rattle.law_acts.specs.Acts.{delivery}
 use Rattle.traffic.specs.declared.coordinator.Coordinator.{Coordinator}
 use Rattle.step_output.specs.declared.output.Output.{Output}
 use Rattle.step_output.specs.Outputs.{Grows}
@@ -27,9 +27,9 @@ use Rattle.traffic.specs.Coordinators.{IsCoordinator, queued, acknowledged, push
 use Rattle.traffic.specs.Goings.{sending}
 use Rattle.traffic.specs.Turns.{turned, TurnsTo, Starts, Turns, Ordering, OrdersAll, IsSettled, own_queue, own_entry, SendsOrdering, DeliversOwnAtOnce}
 use Rattle.trace_props.specs.declared.event.Event.TheVariants.{Sent}
-use Rattle.traffic.proofs.FactOfAcks.{noted-other}
-use Rattle.traffic.proofs.FactOfOffered.{queue_with}
-use Rattle.traffic.proofs.FactOfFew.{collected-by, collected-least, stable-le-noted}
+use Rattle.traffic.proofs.AcksKnown.{noted-other}
+use Rattle.traffic.proofs.OffersToOrder.{queue_with}
+use Rattle.traffic.proofs.FewAreOrdered.{collected-by, collected-least, stable-le-noted}
 use Rattle.step_output.specs.Steps.{who}
 use Rattle.traffic.specs.InViews.{in_view}
 

@@ -23,10 +23,10 @@ use Rattle.traffic.specs.ViewStates.{senders_of, after_delivery}
 use Rattle.traffic.specs.Coordinators.{IsCoordinator}
 use Rattle.traffic.specs.Turns.{turned, TurnsOne, TurnsNext, IsSettled, own_queue}
 use Rattle.traffic.proofs.ActsOfCoordinator.{due-fact, distinct-in}
-use Rattle.traffic.proofs.FactOfAcks.{noted-itself}
-use Rattle.traffic.proofs.FactOfQueues.{served-fact, rest-distinct}
-use Rattle.traffic.proofs.FactOfTurns.{one-ordered}
-use Rattle.traffic.proofs.FactOfFew.{turned-fact, stable-le-noted}
+use Rattle.traffic.proofs.AcksKnown.{noted-itself}
+use Rattle.traffic.proofs.QueuesServe.{served-fact, rest-distinct}
+use Rattle.traffic.proofs.TurnsFollow.{one-ordered}
+use Rattle.traffic.proofs.FewAreOrdered.{turned-fact, stable-le-noted}
 use Rattle.traffic.proofs.ActsOfTurns.{itself-in}
 use Rattle.step_output.specs.Steps.{who}
 use Rattle.traffic.specs.InViews.{in_view}

@@ -1,19 +1,19 @@
-mod FactOfReported
-mod FactOfSlots
-mod FactOfQueues
-mod FactOfOffered
+mod WindowsReported
+mod SlotsPutOut
+mod QueuesServe
+mod OffersToOrder
 mod Windows
-mod FactOfAcks
+mod AcksKnown
 mod ActsInTurn
 mod ActsOfCoordinator
 mod ActsOfTurns
 mod ActsOfFollowers
-mod FactOfSends
-mod FactOfTurns
-mod FactOfFew
+mod OwnSends
+mod TurnsFollow
+mod FewAreOrdered
 mod KeepSettled
 mod KeepBetweenSteps
-mod FactOfDeliveries
-mod FactOfRanges
+mod OthersDeliver
+mod RangesHeld
 pub mod ActsOfAnswers
-pub mod FactOfNewView
+pub mod NewViewTraffic

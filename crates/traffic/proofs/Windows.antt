@@ -7,7 +7,7 @@ use Rattle.limits.specs.declared.TheConstants.{WINDOW, GREATEST_NUMBER}
 use Rattle.wire_values.specs.Values.{Entry, held_at}
 use Rattle.nak_stream.specs.Windows.{WindowModel, held_with, held_above, offers, taken, delivering}
 use Rattle.nak_stream.proofs.Windows.{held_at-with, held_at-above}
-use Rattle.acts.specs.Acts.{HoldsMore, HoldsAbove}
+use Rattle.law_acts.specs.Acts.{HoldsMore, HoldsAbove}
 
 turned-number : (g k : ℕ) → nat_eq g k ≡ nat_eq k g
 turned-number g k = grind (arith, nat_tests)

@@ -7,7 +7,7 @@ use Rattle.nak_stream.specs.Windows.{taken, delivering, collected}
 use Rattle.sequencer.specs.Forwards.{pushed}
 use Rattle.sequencer.specs.Queues.{ordering, forwarded}
 use Rattle.stability.specs.Counts.{members_of, noted, stable_count}
-use Rattle.acts.specs.Acts.{delivery}
+use Rattle.law_acts.specs.Acts.{delivery}
 use Rattle.traffic.specs.declared.coordinator.Coordinator.{Coordinator}
 use Rattle.traffic.specs.ViewStates.{senders_of, after_delivery}
 use Rattle.step_output.specs.Outputs.{Grows}

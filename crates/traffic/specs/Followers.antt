@@ -5,8 +5,8 @@ use Rattle.view.specs.Members.{View}
 use Rattle.wire_values.specs.Values.{Entry}
 use Rattle.state_transfer.specs.Meanings.{Meaning}
 use Rattle.nak_stream.specs.Windows.{taken, collected}
-use Rattle.acts.specs.Histories.{Posted}
-use Rattle.acts.specs.Acts.{delivery, packet}
+use Rattle.law_acts.specs.Histories.{Posted}
+use Rattle.law_acts.specs.Acts.{delivery, packet}
 use Rattle.wire_values.specs.declared.packet.Body.TheVariants as bodies
 use Rattle.traffic.specs.declared.follower.Follower.{Follower}
 use Rattle.step_output.specs.Outputs.{Grows}

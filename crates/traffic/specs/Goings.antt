@@ -6,9 +6,9 @@ use Rattle.wire_values.specs.Values as wire
 use Rattle.state_transfer.specs.Meanings.{Meaning}
 use Rattle.trace_props.specs.declared.event.Event.{Event}
 use Rattle.trace_props.specs.declared.event.Sending.{Sending}
-use Rattle.acts.specs.Histories.{Posted}
-use Rattle.acts.specs.Chains.{Acted}
-use Rattle.acts.specs.Cores.{ViewCore, Core}
+use Rattle.law_acts.specs.Histories.{Posted}
+use Rattle.law_acts.specs.Chains.{Acted}
+use Rattle.law_acts.specs.Cores.{ViewCore, Core}
 use Rattle.step_output.specs.Outputs.{Grows}
 use Rattle.traffic.specs.declared.coordinator.Coordinator.{Coordinator}
 use Rattle.traffic.specs.declared.follower.Follower.{Follower}

@@ -9,9 +9,9 @@ use Rattle.wire_values.specs.Values.{Entry, held_at, Missing, Progress}
 use Rattle.wire_values.specs.declared.packet.Body.TheVariants as bodies
 use Rattle.state_transfer.specs.Meanings.{Meaning}
 use Rattle.nak_stream.specs.Windows.{WindowModel, offers, collected, IsLeastGap, IsGreatestGap}
-use Rattle.acts.specs.Histories.{Posted}
-use Rattle.acts.specs.Cores.{applied}
-use Rattle.acts.specs.Acts.{delivery, packet}
+use Rattle.law_acts.specs.Histories.{Posted}
+use Rattle.law_acts.specs.Cores.{applied}
+use Rattle.law_acts.specs.Acts.{delivery, packet}
 use Rattle.traffic.specs.declared.follower.Follower.{Follower}
 use Rattle.step_output.specs.declared.output.Output.{Output}
 use Rattle.trace_props.specs.declared.event.Event.TheVariants.{Sent}

@@ -10,9 +10,9 @@ use Rattle.state_transfer.specs.Meanings.{Meaning}
 use Rattle.stability.specs.Counts.{count_of, stable_count}
 use Rattle.sequencer.specs.Forwards.{ForwardsModel}
 use Rattle.sequencer.specs.Queues.{Queue, is_from, next_ordered}
-use Rattle.acts.specs.Histories.{Posted}
-use Rattle.acts.specs.Cores.{applied}
-use Rattle.acts.specs.Acts.{delivery, packet, others_of}
+use Rattle.law_acts.specs.Histories.{Posted}
+use Rattle.law_acts.specs.Cores.{applied}
+use Rattle.law_acts.specs.Acts.{delivery, packet, others_of}
 use Rattle.traffic.specs.declared.coordinator.Coordinator.{Coordinator}
 use Rattle.step_output.specs.declared.output.Output.{Output}
 use Rattle.trace_props.specs.declared.event.Event.TheVariants.{Sent}

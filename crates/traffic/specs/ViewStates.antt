@@ -8,7 +8,7 @@ use Rattle.nak_stream.specs.Windows.{empty_window}
 use Rattle.sequencer.specs.Forwards.{ForwardsModel, no_forwards, one_delivered}
 use Rattle.sequencer.specs.Queues.{Queue, idle, entry_with}
 use Rattle.stability.specs.Counts.{count_of, unheard}
-use Rattle.acts.specs.Cores as cores
+use Rattle.law_acts.specs.Cores as cores
 use Rattle.traffic.specs.declared.coordinator.Coordinator.{Coordinator}
 use Rattle.traffic.specs.declared.follower.Follower.{Follower}
 use Rattle.traffic.specs.declared.view_state.ViewState.{ViewState}

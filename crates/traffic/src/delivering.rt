@@ -1,17 +1,18 @@
 //! A message is delivered.
 
 ghost use Rattle.std.specs.Prelude.{◌≡◌, [], ◌∷◌, IfOk, OnOk};
-ghost use Rattle.acts.specs.Acts.{delivery};
+ghost use Rattle.law_acts.specs.Acts.{delivery};
 ghost use Rattle.step_output.specs.Outputs.{Grows};
 ghost use Rattle.traffic.specs.ViewStates.{after_delivery};
 
 use address::ViewId;
 use nak_stream::Entry;
+use owned_bytes::Bytes;
 use sequencer::Forwards;
 use state_transfer::Receiver;
 use std::alloc::AllocError;
 use step_output::{Identity, Output};
-use trace_props::{Bytes, Delivery, Event, Message};
+use trace_props::{Delivery, Event, Message};
 
 // The event of a message that is delivered.
 fn delivery(who: &Identity, view: ViewId, entry: &Entry) -> Result<Event, AllocError>

@@ -2,7 +2,7 @@
 
 ghost use Rattle.std.specs.Prelude.{◌≡◌, ◌+◌, ◌≤◌, length, Option, None, true, [], ◌∷◌, OnOk, IfOk};
 ghost use Rattle.trace_props.specs.declared.event.Event.TheVariants.{Sent};
-ghost use Rattle.acts.specs.Histories.{Posted};
+ghost use Rattle.law_acts.specs.Histories.{Posted};
 ghost use Rattle.sequencer.specs.Forwards.{pushed, push_refusal};
 ghost use Rattle.sequencer.specs.Queues.{next_ordered, may_order};
 ghost use Rattle.limits.specs.declared.TheConstants.{PAYLOAD};
@@ -16,11 +16,12 @@ ghost use Rattle.traffic.specs.InViews.{in_view};
 use crate::Coordinator;
 use address::ViewId;
 use nak_stream::OwnedPayload;
+use owned_bytes::Bytes;
 use sequencer::Forwards;
 use state_transfer::Receiver;
 use std::alloc::AllocError;
 use step_output::{Identity, Output};
-use trace_props::{Bytes, Event, Numbered, Sending};
+use trace_props::{Event, Numbered, Sending};
 use wire_values::{Number, Payload};
 
 // The event of a message that is sent.

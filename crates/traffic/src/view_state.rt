@@ -3,7 +3,7 @@ ghost use Rattle.std.specs.List.{flat_map, AllByRecursion};
 ghost use Rattle.limits.specs.declared.TheConstants.{WINDOW};
 ghost use Rattle.wire_values.specs.Fields.{IsNumber, IsPlaced, placed_bytes};
 ghost use Rattle.wire_values.specs.Lists.{is_report};
-ghost use Rattle.acts.specs.Cores.{report_with};
+ghost use Rattle.law_acts.specs.Cores.{report_with};
 ghost use Rattle.sequencer.specs.Forwards.{AreShort};
 ghost use Rattle.traffic.specs.ViewStates.{fresh_in, view_core_of, view_of};
 

@@ -1,3 +1,3 @@
-mod FactOfOffers
-mod FactOfRounds
-mod FactOfSilence
+mod OffersInRow
+mod RoundsCompose
+mod DetectorsWatch

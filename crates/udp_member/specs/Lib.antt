@@ -1,7 +1,7 @@
 pub mod Offers
 pub mod Peers
-pub mod Silences
-pub mod Notes
+pub mod Detectors
+pub mod RunnerNotes
 pub mod Turns
 pub mod Rounds
 pub mod Seeking

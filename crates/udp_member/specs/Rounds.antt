@@ -9,8 +9,8 @@ use Rattle.udp_net.specs.declared.net.Received.{Received}
 use Rattle.udp_net.specs.declared.net.Received.TheVariants as received
 use Rattle.udp_net.specs.Logs.{Log, Lists, receiving, one_more}
 use Rattle.udp_member.specs.declared.runner.TheConstants.{RECEIVES}
-use Rattle.udp_member.specs.Silences.{after_round, begun_anew, is_silent, standing_of}
-use Rattle.udp_member.specs.Notes.{Notes}
+use Rattle.udp_member.specs.Detectors.{after_round, begun_anew, is_silent, standing_of}
+use Rattle.udp_member.specs.RunnerNotes.{RunnerNotes}
 use Rattle.udp_member.specs.Turns.{Handed, Datagram, Suspect, Tick, Turn, Driven, Takes, TakesAll, Any, watched_at, goes_on, noted_of}
 
 -- the answers 6 and 7 of the channel cut a round short, and nothing else does
@@ -19,8 +19,8 @@ PassesOver answer None = goes_on answer ≡ true
 PassesOver answer (Some e) = (answer ≡ Some e) × (is_end e ≡ true)
 
 -- a turn, what is noted of it, and whether it goes on
-pub record HandsIn {S : Type 0} (meaning : Meaning S) (handed : Handed) (channel : ChannelModel S) (notes : Notes) (failure : Option Error) (new_channel : ChannelModel S)
-    (new_notes : Notes) : Type 0 where
+pub record HandsIn {S : Type 0} (meaning : Meaning S) (handed : Handed) (channel : ChannelModel S) (notes : RunnerNotes) (failure : Option Error) (new_channel : ChannelModel S)
+    (new_notes : RunnerNotes) : Type 0 where
   pub answer : Option Error
   pub turn : Turn meaning handed channel answer new_channel
   pub noted : new_notes ≡ noted_of handed channel answer notes
@@ -84,20 +84,20 @@ Hears log failed meaning old (Err e) new = Cuts log failed meaning Datagram Any 
 
 -- the round is counted for those that the channel watches
 abbrev pub counting : {N S : Type 0} → List Address → Driven N S → Driven N S
-counting watched r = record r { notes = record r.notes { silence = after_round (standing_of r.channel) watched r.notes.silence } }
+counting watched r = record r { notes = record r.notes { detector = after_round (standing_of r.channel) watched r.notes.detector } }
 
 -- an address is silent for too long
 abbrev pub IsSilent : {N S : Type 0} → Driven N S → Address → Type 0
-IsSilent r p = is_silent r.notes.silence p ≡ true
+IsSilent r p = is_silent r.notes.detector p ≡ true
 
 -- those of them that are
 abbrev pub silent_of : {N S : Type 0} → List Address → Driven N S → List Address
-silent_of watched r = filter (is_silent r.notes.silence) watched
+silent_of watched r = filter (is_silent r.notes.detector) watched
 
 -- where there was one, all counts begin anew
 abbrev pub after_suspicions : {N S : Type 0} → List Address → Driven N S → Driven N S
 after_suspicions [] r = r
-after_suspicions (p ∷ ps) r = record r { notes = record r.notes { silence = begun_anew r.notes.silence } }
+after_suspicions (p ∷ ps) r = record r { notes = record r.notes { detector = begun_anew r.notes.detector } }
 
 -- each of the silent is suspected, in order
 pub record SuspectsAll {N S : Type 0} (log : N → Option Log) (failed : N → ℕ) (meaning : Meaning S) (watched : List Address) (old new : Driven N S) : Type 0 where

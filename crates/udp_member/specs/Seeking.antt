@@ -7,7 +7,7 @@ use Rattle.state_transfer.specs.Meanings.{Meaning}
 use Rattle.member.specs.declared.error.Error.{Error}
 use Rattle.channel.specs.Channels.{ChannelModel, view_in}
 use Rattle.udp_net.specs.Logs.{Log}
-use Rattle.udp_member.specs.Notes.{Notes}
+use Rattle.udp_member.specs.RunnerNotes.{RunnerNotes}
 use Rattle.udp_member.specs.Peers.{first_heard, is_outside, served}
 use Rattle.udp_member.specs.Turns.{Hint, Driven, Takes}
 use Rattle.udp_member.specs.Rounds.{PassesOver}
@@ -21,7 +21,7 @@ abbrev pub sought : {N S : Type 0} → Driven N S → Option Address
 sought r = option_and_then (λ v. first_heard (is_outside v) r.notes.peers) (led_by r.channel)
 
 -- then it is the turn of the nodes behind
-abbrev pub notes_served : View → Notes → Notes
+abbrev pub notes_served : View → RunnerNotes → RunnerNotes
 notes_served v n = record n { peers = served (is_outside v) n.peers }
 
 abbrev pub turned : {N S : Type 0} → Driven N S → Driven N S

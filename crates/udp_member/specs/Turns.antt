@@ -12,7 +12,7 @@ use Rattle.channel.specs.Channels.{ChannelModel, left_by, member_in, heard_at}
 use Rattle.channel.specs.Calls.{Calls, CallsLent}
 use Rattle.udp_net.specs.declared.net.Received.TheVariants as received
 use Rattle.udp_net.specs.Logs.{Log, Lists, receiving}
-use Rattle.udp_member.specs.Notes.{Notes, noted}
+use Rattle.udp_member.specs.RunnerNotes.{RunnerNotes, noted}
 
 -- what a runner hands in: a datagram that came, a suspicion, a tick, a hint of whom it seeks
 pub data Handed : Type 0 where
@@ -39,7 +39,7 @@ goes_on None = true
 goes_on (Some e) = not (is_end e)
 
 -- what is noted of it, by the answer to it: of a datagram, what it was or that it was of no use; of all else nothing
-abbrev pub noted_of : {S : Type 0} → Handed → ChannelModel S → Option Error → Notes → Notes
+abbrev pub noted_of : {S : Type 0} → Handed → ChannelModel S → Option Error → RunnerNotes → RunnerNotes
 noted_of (Datagram bytes) channel None notes = noted (Ok (heard_at bytes channel)) notes
 noted_of (Datagram bytes) channel (Some e) notes = noted (Err e) notes
 noted_of (Suspect p) channel answer notes = notes
@@ -52,9 +52,9 @@ pub record Driven (N S : Type 0) : Type 0 where
   pub net : N
   pub channel : ChannelModel S
   pub faults : ℕ
-  pub notes : Notes
+  pub notes : RunnerNotes
 
-abbrev pub driven : {N S : Type 0} → N → ChannelModel S → ℕ → Notes → Driven N S
+abbrev pub driven : {N S : Type 0} → N → ChannelModel S → ℕ → RunnerNotes → Driven N S
 driven net channel faults notes = record { net = net; channel = channel; faults = faults; notes = notes }
 
 -- a datagram is what a receive gave; all else comes from the runner

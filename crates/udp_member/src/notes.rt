@@ -1,10 +1,10 @@
 ghost use Rattle.std.specs.Prelude.{◌≡◌, IfOk, OnOk, IfErr};
 ghost use Rattle.udp_member.specs.Peers.{first_heard, is_outside, met, served};
-ghost use Rattle.udp_member.specs.Notes.{Notes, noted, nothing_noted};
-ghost use Rattle.udp_member.specs.Silences.{after_round, begun_anew, is_silent};
+ghost use Rattle.udp_member.specs.RunnerNotes.{RunnerNotes, noted, nothing_noted};
+ghost use Rattle.udp_member.specs.Detectors.{after_round, begun_anew, is_silent};
 
+use crate::failure_detector::{FailureDetector, Standing};
 use crate::peers::Peers;
-use crate::silence::{Silence, Standing};
 use address::{Address, Node};
 use channel::{Error, Heard};
 use std::alloc::{AllocError, Global};
@@ -14,33 +14,33 @@ use view::View;
 /// What a runner notes of the datagrams that came: who was heard at the nodes where members may be sought, how many were of no use, and whom it
 /// has not heard for how long.
 #[derive(Drop)]
-pub(crate) struct Notes {
+pub(crate) struct RunnerNotes {
     alloc: Global,
     peers: Peers,
     garbled: u64,
     foreign: u64,
-    silence: Silence,
+    detector: FailureDetector,
 }
 
-impl Model for Notes {
-    ghost use Rattle.udp_member.specs.Notes.{Notes};
+impl Model for RunnerNotes {
+    ghost use Rattle.udp_member.specs.RunnerNotes.{RunnerNotes};
 
-    ghost Value = { Notes };
+    ghost Value = { RunnerNotes };
 
-    ghost view = { λ n. record { peers = n.peers; garbled = n.garbled; foreign = n.foreign; silence = n.silence } };
+    ghost view = { λ n. record { peers = n.peers; garbled = n.garbled; foreign = n.foreign; detector = n.detector } };
 }
 
-impl Notes {
+impl RunnerNotes {
     // Nothing came yet; members may be sought at these nodes, and `silent` rounds without a sign of life are too many.
-    pub(crate) fn new(alloc: Global, nodes: &[Node], silent: u32) -> Result<Notes, AllocError>
+    pub(crate) fn new(alloc: Global, nodes: &[Node], silent: u32) -> Result<RunnerNotes, AllocError>
         ensures { IfOk result (λ notes. notes ≡ nothing_noted nodes.now silent) }
     {
-        Ok(Notes {
+        Ok(RunnerNotes {
             alloc,
             peers: Peers::new(alloc, nodes)?,
             garbled: 0,
             foreign: 0,
-            silence: Silence::new(alloc, silent),
+            detector: FailureDetector::new(alloc, silent),
         })
     }
 
@@ -51,7 +51,7 @@ impl Notes {
         match answer {
             Ok(Some(heard)) => {
                 self.peers.hear(heard.source);
-                self.silence.hear(heard);
+                self.detector.hear(heard);
             }
             Ok(None) => self.foreign = self.foreign.saturating_add(1),
             Err(Error::Wire(_)) => self.garbled = self.garbled.saturating_add(1),
@@ -72,24 +72,24 @@ impl Notes {
         standing: &Standing,
         watched: &[Address],
     ) -> Result<(), AllocError>
-        ensures passed { OnOk result (self.new ≡ record self.old { silence = after_round standing.now watched.now self.old.silence }) }
+        ensures passed { OnOk result (self.new ≡ record self.old { detector = after_round standing.now watched.now self.old.detector }) }
         ensures memory { IfErr result (λ e. self.new ≡ self.old) }
     {
-        self.silence.pass(self.alloc, standing, watched)
+        self.detector.pass(self.alloc, standing, watched)
     }
 
     // Whether an address was silent for too long when the round was over.
     pub(crate) fn is_silent(&self, address: &Address) -> bool
-        ensures { result ≡ is_silent self.now.silence address.now }
+        ensures { result ≡ is_silent self.now.detector address.now }
     {
-        self.silence.is_silent(address)
+        self.detector.is_silent(address)
     }
 
     // All counts of silence begin anew. Takes no memory.
     pub(crate) fn begin_anew(&mut self)
-        ensures { self.new ≡ record self.old { silence = begun_anew self.old.silence } }
+        ensures { self.new ≡ record self.old { detector = begun_anew self.old.detector } }
     {
-        self.silence.begin_anew();
+        self.detector.begin_anew();
     }
 
     // Whom to seek outside of a view, if anybody. Takes no memory.

@@ -4,16 +4,16 @@ ghost use Rattle.std.specs.Borrow.{sem};
 ghost use Rattle.udp_member.specs.Offers.{Offers};
 ghost use Rattle.udp_net.specs.Logs.{Lists};
 ghost use Rattle.channel.specs.Channels.{view_in};
-ghost use Rattle.udp_member.specs.Notes.{having_met, nothing_noted};
+ghost use Rattle.udp_member.specs.RunnerNotes.{having_met, nothing_noted};
 ghost use Rattle.udp_member.specs.Turns.{Datagram, Hint, Suspect, Tick, driven};
 ghost use Rattle.udp_member.specs.Rounds.{HandsIn, PassesOver, Receives, Hears, Suspects, SuspectsOf, Rounds};
 ghost use Rattle.udp_member.specs.Seeking.{Seeks, sought, turned};
 ghost use Rattle.udp_member.specs.Lends.{lends_channel, lends_net};
 
-use crate::notes::Notes;
+use crate::failure_detector::standing_of;
+use crate::notes::RunnerNotes;
 use crate::offering::offer_all;
 use crate::pace::Pace;
-use crate::silence::standing_of;
 use address::{Address, Node};
 use channel::{Channel, Error};
 use limits::{DATAGRAM, Refusal};
@@ -31,7 +31,7 @@ pub const RECEIVES: usize = 64;
 pub struct Runner<N: Net, R: Receiver> {
     net: N,
     channel: Channel<R>,
-    notes: Notes,
+    notes: RunnerNotes,
     pace: Pace,
     buffer: Vec<u8>,
     faults: u64,
@@ -61,7 +61,7 @@ fn passed_over<T: Drop>(answer: Result<T, Error>) -> Result<Option<T>, Error>
 // Hands in a datagram, and notes what came of it.
 fn hand_in<R: Receiver>(
     channel: &mut Channel<R>,
-    notes: &mut Notes,
+    notes: &mut RunnerNotes,
     bytes: &[u8],
 ) -> Result<(), Error>
     ensures { HandsIn R.meaning (Datagram bytes.now) channel.old notes.old (result_err result) channel.new notes.new }
@@ -88,7 +88,7 @@ impl<N: Net, R: Receiver> Runner<N, R> {
         Ok(Runner {
             net,
             channel,
-            notes: Notes::new(alloc, nodes, silent)?,
+            notes: RunnerNotes::new(alloc, nodes, silent)?,
             pace: Pace::new(),
             buffer,
             faults: 0,
@@ -99,7 +99,7 @@ impl<N: Net, R: Receiver> Runner<N, R> {
     /// address that the channel watches and from which no sign of life came: after `silent` such rounds, and twice as many while it waits for another's view, the address
     /// is handed in as suspected. Last comes a tick of the channel. Nothing is offered to the net: what the channel puts out by these steps waits in it (`offer`).
     ///
-    /// What is a sign of life depends on where the member stands (docs/PROTOCOL.md, "Silence"): in an open view the packets of that view, in a flush of its own the answers
+    /// What is a sign of life depends on where the member stands (docs/RUNNER.md, "Failure detection"): in an open view the packets of that view, in a flush of its own the answers
     /// to it, and else what belongs to the promise. Counts begin anew where it stands elsewhere, and after each suspicion. Where memory is refused for the list of whom it
     /// watches, or for their counts, nothing is counted and nobody suspected in this round.
     ///

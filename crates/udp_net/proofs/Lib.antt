@@ -1,3 +1,3 @@
 pub mod KeepHosts
-pub mod FactOfTables
+pub mod TablesOfKeys
 pub mod WordLaws

@@ -1,4 +1,4 @@
-//! An address that asks to be let in, and when it is not heard (docs/PROTOCOL.md, "What a net drops").
+//! An address that asks to be let in, and when it is not heard (docs/RUNNER.md, "What a net drops").
 
 ghost use Rattle.std.specs.Prelude.{◌≡◌, map, IfOk};
 ghost use Rattle.address.specs.Ids.{Address as AddressValue};

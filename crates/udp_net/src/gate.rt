@@ -1,4 +1,4 @@
-//! What a net does besides carrying packets: words come and go, and packets are dropped that would harm the group (docs/PROTOCOL.md, "What a net drops").
+//! What a net does besides carrying packets: words come and go, and packets are dropped that would harm the group (docs/RUNNER.md, "What a net drops").
 
 ghost use Rattle.std.specs.Prelude.{◌≡◌, ◌≢◌, true, IfOk, if◌then◌else◌};
 ghost use Rattle.udp_net.specs.Logs.{one_more};

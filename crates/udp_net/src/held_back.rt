@@ -2,10 +2,10 @@ ghost use Rattle.std.specs.Prelude.{◌≡◌, [], OnOk, OnErr, IfOk, length, ta
 ghost use Rattle.udp_net.specs.Bursts.{looks_like, is_held, fits, may_wait, held_after, TakesFirst};
 
 use crate::{FRONT, HELD_BACK};
+use owned_bytes::Bytes;
 use std::alloc::{AllocError, Global};
 use std::collections::VecDeque;
 use std::marker::Model;
-use trace_props::Bytes;
 
 /// Datagrams that wait to be sent: first in, first out, none twice, and at most `HELD_BACK` bytes of them. Those of the same length with the same first `FRONT` bytes are
 /// taken for the same. Contracts see their list.

@@ -7,10 +7,10 @@ ghost use Rattle.std.specs.Net.Socket.{socket_ip, socket_port};
 use crate::held_back::HeldBack;
 use crate::{BURST, Hosts, NodePort, OFFERS, PATIENCE};
 use address::Node;
+use owned_bytes::Bytes;
 use std::alloc::{AllocError, Global};
 use std::marker::Model;
 use std::net::{IpAddr, SocketAddr};
-use trace_props::Bytes;
 
 /// What becomes of a datagram that is offered for a node.
 #[derive(Clone, Copy, PartialEq, Eq)]

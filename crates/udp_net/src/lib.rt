@@ -1,5 +1,5 @@
 //! What carries datagrams between the nodes of a group: a socket of UDP, or a net in memory; the settings, which say which nodes there are
-//! (docs/FORMATS.md, "Settings"); and the hosts at which they are reached.
+//! (docs/CLI.md, "Settings"); and the hosts at which they are reached.
 #![tactic(auto)]
 
 mod asker;
@@ -56,16 +56,16 @@ pub const HELD_WAIT: u64 = 1;
 /// view or proposal, place, number or index (docs/WIRE.md).
 pub const FRONT: usize = 128;
 
-/// The most bytes of a word: 36 at most of its head, 14 of who says it and when, 15 of what it answers, 16 of the view (docs/FORMATS.md, "Words").
+/// The most bytes of a word: 36 at most of its head, 14 of who says it and when, 15 of what it answers, 16 of the view (docs/WIRE.md, "Words").
 pub const WORD: usize = 81;
 
 /// For how many rounds the latest word of a node is known.
 pub const FORGOTTEN: u32 = 500;
 
-/// How much greater than its view's the counters of what a member hears may be: 2 to the 32 (docs/PROTOCOL.md, "What a net drops").
+/// How much greater than its view's the counters of what a member hears may be: 2 to the 32 (docs/RUNNER.md, "What a net drops").
 pub const FURTHEST: u64 = 4_294_967_296;
 
-/// How long the first pause is of an address that asks to be let in, in rounds; the next ones are twice as long each (docs/PROTOCOL.md, "What a net drops").
+/// How long the first pause is of an address that asks to be let in, in rounds; the next ones are twice as long each (docs/RUNNER.md, "What a net drops").
 pub const FIRST_PAUSE: u32 = 100;
 
 /// How long such a pause is at most, in rounds.

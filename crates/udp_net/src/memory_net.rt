@@ -7,11 +7,11 @@ ghost use Rattle.udp_net.specs.Logs.{MemoryModel, event_of, offered_in, log_of, 
 
 use crate::{Fault, Net, Received};
 use address::Node;
+use owned_bytes::Bytes;
 use std::alloc::{AllocError, Global};
 use std::collections::VecDeque;
 use std::marker::Model;
 use std::time::Duration;
-use trace_props::Bytes;
 
 /// A datagram that a net in memory was offered.
 #[derive(Debug, Drop)]

@@ -1,4 +1,4 @@
-//! What words tell of nodes, and when it is forgotten (docs/FORMATS.md, "Words").
+//! What words tell of nodes, and when it is forgotten (docs/WIRE.md, "Words").
 
 ghost use Rattle.std.specs.Prelude.{◌≡◌, map, IfOk};
 ghost use Rattle.udp_net.specs.Neighbours.{untold, newborn, is_later, is_news, hearing, renewed, heard, answered, answering, older, is_old, remembered, passing};

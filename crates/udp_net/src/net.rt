@@ -3,8 +3,8 @@ ghost use Rattle.udp_net.specs.Logs.{Log, Lists, offering, receiving, answer_of,
 
 use crate::{Fault, Neighbour, Word};
 use address::{Address, Node, ViewId};
+use owned_bytes::Bytes;
 use std::time::Duration;
-use trace_props::Bytes;
 
 /// What a receive answered.
 #[derive(Debug, Drop)]
@@ -17,7 +17,7 @@ pub enum Received {
     Failed,
 }
 
-/// What carries datagrams between nodes: each may be lost, repeated, late, or come out of order (docs/PROTOCOL.md, "Rounds").
+/// What carries datagrams between nodes: each may be lost, repeated, late, or come out of order (docs/RUNNER.md, "Rounds").
 pub trait Net: Drop {
     /// What it lists of itself: what its receives answered and what it was offered since it was made, in the order in which that happened; none, where it lists nothing, as a
     /// socket does, or does so no longer.
@@ -72,7 +72,7 @@ pub trait Net: Drop {
     {}
 
     /// Says a word to a node, if it is a net that carries words: it is no packet, and no receive gives it. Nothing is listed by it. From the first one on a net that does
-    /// drops what would merge views (docs/PROTOCOL.md, "What a net drops").
+    /// drops what would merge views (docs/RUNNER.md, "What a net drops").
     fn say(&mut self, _node: Node, _word: &Word)
         ensures lists { Lists (log self.old) (λ l. l) (log self.new) }
         ensures failed { failed self.new ≡ failed self.old }

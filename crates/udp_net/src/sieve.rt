@@ -1,4 +1,4 @@
-//! What a socket's net lets through of the packets that come: a net may lose any datagram (docs/PROTOCOL.md, "What a net drops").
+//! What a socket's net lets through of the packets that come: a net may lose any datagram (docs/RUNNER.md, "What a net drops").
 
 ghost use Rattle.std.specs.Prelude.{◌≡◌, map, true, false, None, IfOk};
 ghost use Rattle.udp_net.specs.Sieve.{unasked, standing, is_outside, counter_of, is_join, is_flush, is_merge, is_absurd, would_merge, asks_too_soon, lets_through, IsOrdinary, hearing, passing};

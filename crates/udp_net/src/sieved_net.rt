@@ -19,7 +19,7 @@ use std::time::Duration;
 use wire::{Packet, decode};
 
 /// A net over another one that gives only what comes from the group's own nodes, as one of sealed frames does. It carries words too, and drops packets that would harm the
-/// group, as a socket's net does (docs/PROTOCOL.md, "What a net drops"); but it does not ask where a datagram comes from. A long burst goes in pieces, as that of a socket's net,
+/// group, as a socket's net does (docs/RUNNER.md, "What a net drops"); but it does not ask where a datagram comes from. A long burst goes in pieces, as that of a socket's net,
 /// and what is held back there is not held back twice.
 #[derive(Drop)]
 pub struct SievedNet<N: Net> {

@@ -26,7 +26,7 @@ use wire::{Packet, decode};
 /// network must be one's own.
 ///
 /// It drops packets and words of a node that the settings do not list, or that come from elsewhere than the node's host and port, and packets that would harm the group
-/// (docs/PROTOCOL.md, "What a net drops"). What spells no packet is given, and refused by the member.
+/// (docs/RUNNER.md, "What a net drops"). What spells no packet is given, and refused by the member.
 ///
 /// A long burst goes in pieces, since the buffer of the socket that it is for would not take it: in one turn `BURST` bytes go to a node, and the datagram that
 /// goes over them. What is more is held back, for each node by itself, and goes in order, in the next turns, before what is offered then. One that waits
@@ -150,7 +150,7 @@ impl SocketNet {
     }
 
     /// From now on the datagrams of a node that the settings list are taken wherever they come from, as where addresses are translated on the way
-    /// (docs/PROTOCOL.md, "What a net drops").
+    /// (docs/RUNNER.md, "What a net drops").
     pub fn hear_from_anywhere(&mut self)
         ensures { self.new ≡ record self.old { is_open = true } }
     {

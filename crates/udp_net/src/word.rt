@@ -1,4 +1,4 @@
-//! What nodes say of themselves to each other, beside the packets of their members (docs/FORMATS.md, "Words").
+//! What nodes say of themselves to each other, beside the packets of their members (docs/WIRE.md, "Words").
 
 ghost use Rattle.std.specs.Prelude.{◌≡◌, ◌≤◌, ◌+◌, ◌++◌, true, Ok, length, vec_len, vec_capacity, IsTrue, OnOk, OnErr};
 ghost use Rattle.wire_values.specs.declared.packet.Packet.{Packet};
@@ -24,7 +24,7 @@ pub(crate) const WORD_VERSION: u8 = 1;
 // The greatest time of a clock in a word, in milliseconds.
 pub(crate) const GREATEST_CLOCK: u64 = u64::MAX;
 
-/// What a node says of itself to another: a datagram that spells no packet, and is handed to no member (docs/FORMATS.md, "Words").
+/// What a node says of itself to another: a datagram that spells no packet, and is handed to no member (docs/WIRE.md, "Words").
 #[derive(Clone, Copy, Debug, PartialEq, Eq)]
 pub struct Word {
     /// The address of its member.

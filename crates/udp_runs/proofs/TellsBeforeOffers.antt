@@ -18,20 +18,20 @@ use Rattle.view.specs.Members.{View}
 use Rattle.channel.specs.Calls.{Calls, CallsLent}
 use Rattle.udp_net.specs.Logs.{Log}
 use Rattle.udp_member.specs.Turns.{Driven}
-use Rattle.deployed_channels.specs.Plays.{LeftBy, falls}
-use Rattle.deployed_runners.specs.Runs.{Create, Join, Send, Hand, Offer, Take, MakesNoOffer, Drives, Begun, Further, DrivesWithoutOffer, Still, Called, with_channel}
+use Rattle.law_channels.specs.Plays.{LeftBy, falls}
+use Rattle.law_runners.specs.Runs.{Create, Join, Send, Hand, Offer, Take, MakesNoOffer, Drives, Begun, Further, DrivesWithoutOffer, Still, Called, with_channel}
 use Rattle.udp_runs.specs.Nodes.{all_told}
 use Rattle.udp_runs.specs.OwnLines.{OwnLine, Happened, Knows, InState, IsPlain, IsOwn, Says, event_in, events_in}
-use Rattle.deployed_runners.specs.Items.{datagram_in}
+use Rattle.law_runners.specs.Items.{datagram_in}
 use Rattle.udp_runs.specs.declared.calls.Call.{Call}
 use Rattle.udp_runs.specs.declared.calls.Call.TheVariants as calls
 use Rattle.udp_runs.specs.Carrying.{MakesCall}
 use Rattle.udp_runs.specs.Said.{IsThat, says_nothing}
 use Rattle.udp_runs.specs.Telling.{TellsFirst, Begins, TellsAll, AddsLine, OffersAll, BeginsBy, Waiting, Calling}
-use Rattle.deployment.specs.Said.{IsSaid, AreSaid, Says as SaysInput}
-use Rattle.deployment.proofs.FactOfSaid.{said-append}
-use Rattle.deployed_runners.proofs.FactOfSaid.{drives-said}
-use Rattle.udp_runs.proofs.FactOfTurns.{drives-then, drives-one, falls-none}
+use Rattle.law_processes.specs.Said.{IsSaid, AreSaid, Says as SaysInput}
+use Rattle.law_processes.proofs.SendsWereAsked.{said-append}
+use Rattle.law_runners.proofs.SendsAreSaid.{drives-said}
+use Rattle.udp_runs.proofs.ProcessesTurn.{drives-then, drives-one, falls-none}
 
 -- ---- lines
 

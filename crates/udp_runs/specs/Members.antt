@@ -11,13 +11,13 @@ use Rattle.udp_net.specs.Logs.{Log}
 use Rattle.udp_net.specs.declared.error.BindError.{BindError}
 use Rattle.udp_net.specs.declared.error.BindError.TheVariants.{Config}
 use Rattle.udp_member.specs.Turns.{Driven}
-use Rattle.deployment.specs.Said.{AreSaid}
-use Rattle.deployed_channels.specs.Plays.{crash_of}
+use Rattle.law_processes.specs.Said.{AreSaid}
+use Rattle.law_channels.specs.Plays.{crash_of}
 use Rattle.channel.specs.Channels.{receiver_in}
-use Rattle.deployed_runners.specs.Runs.{new_channel}
-use Rattle.deployed_runners.specs.Known.{KnowsAmong}
-use Rattle.deployed_runners.specs.Merged.{own_items}
-use Rattle.deployed_runners.specs.Systems.{Gone, IsHistoryOf, with_runner}
+use Rattle.law_runners.specs.Runs.{new_channel}
+use Rattle.law_runners.specs.Known.{KnowsAmong}
+use Rattle.law_runners.specs.Merged.{own_items}
+use Rattle.law_runners.specs.Systems.{Gone, IsHistoryOf, with_runner}
 use Rattle.endings.specs.declared.status.Status.{Status}
 use Rattle.endings.specs.declared.status.Status.TheVariants.{Done, Memory}
 use Rattle.endings.specs.Outcomes.{Written, memory_line}
@@ -27,7 +27,7 @@ use Rattle.udp_runs.specs.Ends.{IsEndText, IsNetlessText}
 use Rattle.udp_runs.specs.Machines.{GivesBack}
 use Rattle.udp_runs.specs.OwnLines.{OwnLine, InState, IsPlain, IsOwn, texts_of, events_in}
 use Rattle.udp_runs.specs.declared.calls.Call.{Call}
-use Rattle.udp_runs.specs.declared.manner.Manner.{Manner}
+use Rattle.udp_runs.specs.declared.manner.NodeManner.{NodeManner}
 use Rattle.udp_runs.specs.Telling.{Writes, TellsFirst, BeginsWith, BeginsBy, EndsBy, first_call}
 
 -- the line with which the text of a member begins
@@ -44,7 +44,7 @@ pub record Way : Type 0 where
   pub leaves : Bool
   pub stable : Bool
 
-abbrev pub way_of : Manner → Option Address → Way
+abbrev pub way_of : NodeManner → Option Address → Way
 way_of manner contact = record { first = first_call manner.finds contact; leaves = manner.leaves; stable = manner.stable }
 
 -- TOLD: what a member does after its start, and tells by lines.

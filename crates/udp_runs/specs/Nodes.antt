@@ -8,9 +8,9 @@ use Rattle.trace_props.specs.Observed.{has_started}
 use Rattle.channel.specs.Channels.{ChannelModel}
 use Rattle.udp_net.specs.Logs.{Log, NetEvent}
 use Rattle.udp_member.specs.Turns.{Driven}
-use Rattle.deployed_channels.specs.Plays.{crash_of}
-use Rattle.deployed_runners.specs.Runs.{Drives}
-use Rattle.deployed_runners.specs.Systems.{Gone, Played, PlayedOver, PlayedTellNoStart, has_ended}
+use Rattle.law_channels.specs.Plays.{crash_of}
+use Rattle.law_runners.specs.Runs.{Drives}
+use Rattle.law_runners.specs.Systems.{Gone, Played, PlayedOver, PlayedTellNoStart, has_ended}
 use Rattle.udp_runs.specs.declared.process.Process.{Process}
 use Rattle.udp_runs.specs.declared.node_state.NodeState.{NodeState}
 use Rattle.udp_runs.specs.Texts.{Line, events_in, Appended}

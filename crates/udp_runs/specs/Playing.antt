@@ -8,7 +8,7 @@ use Rattle.script_reader.specs.declared.udp_script.UdpLine.{UdpLine}
 use Rattle.udp_net.specs.declared.node_ports.NodePort.{NodePort}
 use Rattle.udp_net.specs.Logs.{Log, NetEvent}
 use Rattle.udp_member.specs.Turns.{Driven}
-use Rattle.deployed_runners.specs.Systems.{Gone, Played}
+use Rattle.law_runners.specs.Systems.{Gone, Played}
 use Rattle.udp_runs.specs.declared.ends.Cut.{Cut as Why}
 use Rattle.udp_runs.specs.declared.ends.Cut.TheVariants as cut
 use Rattle.udp_runs.specs.declared.ends.Stop.{Stop}

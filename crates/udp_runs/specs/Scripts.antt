@@ -15,7 +15,7 @@ use Rattle.udp_net.specs.declared.node_ports.NodePort.{NodePort}
 use Rattle.udp_net.specs.Logs.{Log, NetEvent}
 use Rattle.udp_net.specs.declared.error.BindError.{BindError}
 use Rattle.udp_member.specs.Turns.{Driven}
-use Rattle.deployed_runners.specs.Systems.{Gone, IsHistoryOf, IsSeen}
+use Rattle.law_runners.specs.Systems.{Gone, IsHistoryOf, IsSeen}
 use Rattle.endings.specs.declared.status.Status.{Status}
 use Rattle.endings.specs.declared.status.Status.TheVariants.{Done, Memory}
 use Rattle.endings.specs.Outcomes.{IsFaultText, IsAnswer, memory_line}

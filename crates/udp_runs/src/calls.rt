@@ -4,15 +4,15 @@ ghost use Rattle.std.specs.Prelude.{◌≡◌, ℕ, List, [], true, IfOk, IfErr,
 ghost use Rattle.std.specs.Result.{result_err};
 ghost use Rattle.member.specs.declared.input.Input.TheVariants as input;
 ghost use Rattle.channel.specs.Calls.{CallsLent};
-ghost use Rattle.deployed_runners.specs.Runs.{MakesNoOffer};
+ghost use Rattle.law_runners.specs.Runs.{MakesNoOffer};
 ghost use Rattle.udp_runs.specs.Carrying.{IsAsked, IsCall, MakesCall};
 ghost use Rattle.udp_runs.specs.Said.{IsThat, SaidBy, says_nothing};
 
 use address::{Address, Node};
 use application::Application;
 use channel::Error;
+use owned_bytes::Bytes;
 use std::alloc::{AllocError, Global};
-use trace_props::Bytes;
 use udp_member::Runner;
 use udp_net::Net;
 use world_model::WorldEvent;

@@ -1,4 +1,4 @@
-//! How a node finds its group by words, and when it gives way to a greater view (docs/PROTOCOL.md, "Finding", "Giving way").
+//! How a node finds its group by words, and when it gives way to a greater view (docs/RUNNER.md, "Finding", "Giving way").
 
 ghost use Rattle.std.specs.Prelude.{◌≡◌, MatchOption, None};
 ghost use Rattle.std.specs.Option.{is_some};

@@ -23,8 +23,8 @@ mod telling;
 mod watch;
 
 pub use loopback::{Loopback, NodeNet};
-pub use machine::Machine;
-pub use manner::{Manner, NodeStatus, Notice, Tally, Trouble};
+pub use machine::NodeMachine;
+pub use manner::{LineTrouble, NodeManner, NodeStatus, Notice, Tally};
 pub use node_lines::{Lines, LinesError, NoLines};
 pub use one_node::run_member;
 pub use script::run_udp;

@@ -12,7 +12,7 @@ use crate::ends::Cut;
 use crate::finding::{Finder, milliseconds};
 use crate::telling::Teller;
 use crate::watch::Watch;
-use crate::{Lines, Machine, Manner, Tally};
+use crate::{Lines, NodeMachine, NodeManner, Tally};
 use address::{Address, ViewId};
 use application::Application;
 use channel::Error;
@@ -30,10 +30,10 @@ const LISTENS: u32 = 4_096;
 
 /// A member that runs by itself.
 #[derive(Drop)]
-pub(crate) struct Lone<'a, N: Net, C: Application> {
+pub(crate) struct LoneNode<'a, N: Net, C: Application> {
     pub(crate) alloc: Global,
     pub(crate) member: Runner<N, C>,
-    pub(crate) manner: Manner,
+    pub(crate) manner: NodeManner,
     // What it sends once, and whether that was not sent yet, or came back.
     pub(crate) once: Option<&'a [u8]>,
     pub(crate) is_unsent: bool,
@@ -61,14 +61,14 @@ pub(crate) fn unless_memory(answer: Result<(), Error>) -> Result<(), Cut> {
     }
 }
 
-impl<'a, N: Net, C: Application> Lone<'a, N, C> {
+impl<'a, N: Net, C: Application> LoneNode<'a, N, C> {
     /// A member that was started, and is not connected yet; what it sends once.
     pub(crate) fn new(
         alloc: Global,
         member: Runner<N, C>,
-        manner: Manner,
+        manner: NodeManner,
         once: Option<&'a [u8]>,
-    ) -> Lone<'a, N, C>
+    ) -> LoneNode<'a, N, C>
         ensures member { result.member ≡ member }
         ensures once { option_copied result.once ≡ option_copied once.entry }
         ensures outbox { result.outbox ≡ nothing_waits }
@@ -76,7 +76,7 @@ impl<'a, N: Net, C: Application> Lone<'a, N, C> {
         ensures voice { result.teller.voice ≡ record { speaks = manner.speaks; stable = manner.stable } }
         ensures manner { result.manner ≡ manner }
     {
-        Lone {
+        LoneNode {
             alloc,
             member,
             manner,
@@ -332,7 +332,7 @@ impl<'a, N: Net, C: Application> Lone<'a, N, C> {
     }
 
     // Handles datagrams as they come, until it is time for the next round.
-    fn listen_until<L: Lines, M: Machine, W: Write>(
+    fn listen_until<L: Lines, M: NodeMachine, W: Write>(
         &mut self,
         due: Duration,
         lines: &mut L,
@@ -362,7 +362,7 @@ impl<'a, N: Net, C: Application> Lone<'a, N, C> {
     }
 
     // Handles datagrams as they come between a round and the one before, if there was one.
-    fn rest<L: Lines, M: Machine, W: Write>(
+    fn rest<L: Lines, M: NodeMachine, W: Write>(
         &mut self,
         round: u64,
         lines: &mut L,
@@ -384,7 +384,7 @@ impl<'a, N: Net, C: Application> Lone<'a, N, C> {
     }
 
     // All of its rounds, until its lines are over; between two it handles datagrams as they come.
-    fn turns<L: Lines, M: Machine, W: Write>(
+    fn turns<L: Lines, M: NodeMachine, W: Write>(
         &mut self,
         settings: &Settings,
         rounds: u64,
@@ -439,7 +439,7 @@ impl<'a, N: Net, C: Application> Lone<'a, N, C> {
     }
 
     /// Connects it, and then has its rounds; at the end its chat is written, and it leaves where it is to.
-    pub(crate) fn play<L: Lines, M: Machine, W: Write>(
+    pub(crate) fn play<L: Lines, M: NodeMachine, W: Write>(
         &mut self,
         settings: &Settings,
         plan: &MemberPlan<'_>,

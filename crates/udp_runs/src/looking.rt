@@ -3,14 +3,14 @@
 ghost use Rattle.std.specs.Prelude.{◌≡◌};
 ghost use Rattle.udp_runs.specs.Said.{AreSame};
 
-use crate::lone::Lone;
-use crate::{Machine, NodeStatus};
+use crate::lone::LoneNode;
+use crate::{NodeMachine, NodeStatus};
 use application::Application;
 use udp_net::Net;
 
-impl<'a, N: Net, C: Application> Lone<'a, N, C> {
+impl<'a, N: Net, C: Application> LoneNode<'a, N, C> {
     // Tells the machine what whoever looks after it should know, and shows it how it is.
-    pub(crate) fn look<M: Machine>(&mut self, machine: &mut M)
+    pub(crate) fn look<M: NodeMachine>(&mut self, machine: &mut M)
         ensures member { self.new.member ≡ self.old.member }
         ensures voice { self.new.teller.voice ≡ self.old.teller.voice }
         ensures texts { AreSame self.old.once self.old.outbox self.old.teller.unsaid self.new.once self.new.outbox self.new.teller.unsaid }
@@ -70,7 +70,7 @@ impl<'a, N: Net, C: Application> Lone<'a, N, C> {
     }
 
     // Shows the machine how it is.
-    fn show<M: Machine>(&mut self, machine: &mut M)
+    fn show<M: NodeMachine>(&mut self, machine: &mut M)
         ensures member { self.new.member ≡ self.old.member }
         ensures voice { self.new.teller.voice ≡ self.old.teller.voice }
         ensures texts { AreSame self.old.once self.old.outbox self.old.teller.unsaid self.new.once self.new.outbox self.new.teller.unsaid }

@@ -3,7 +3,7 @@ ghost use Rattle.std.specs.Option.{ForSome};
 ghost use Rattle.std.specs.Result.{result_err};
 ghost use Rattle.udp_runs.specs.Loopbacks.{nothing_asked, unbound_after, IsSealedOver, IsMadeBy};
 
-use crate::{Machine, Tally};
+use crate::{NodeMachine, Tally};
 use address::{Address, Node};
 use frames::{BOOT, FramedNet};
 use std::alloc::Global;
@@ -149,7 +149,7 @@ impl<'a, R: std::net::Net + RandomSource> Loopback<'a, R> {
     }
 }
 
-impl<'a, R: std::net::Net + RandomSource + Clock> Machine for Loopback<'a, R> {
+impl<'a, R: std::net::Net + RandomSource + Clock> NodeMachine for Loopback<'a, R> {
     type Net = NodeNet;
 
     ghost gone = { λ _. None };

@@ -1,6 +1,6 @@
 ghost use Rattle.std.specs.Prelude.{◌≡◌, ◌∷◌, [], List, Option, IfOk};
 ghost use Rattle.std.specs.Option.{ForSome};
-ghost use Rattle.deployed_runners.specs.Systems.{Gone};
+ghost use Rattle.law_runners.specs.Systems.{Gone};
 ghost use Rattle.udp_runs.specs.Machines.{GivesBack};
 
 use crate::{NodeStatus, Notice, Tally};
@@ -9,7 +9,7 @@ use std::time::Duration;
 use udp_net::{BindError, Net};
 
 /// What members over datagrams need of the machine that they run on.
-pub trait Machine {
+pub trait NodeMachine {
     /// What carries the datagrams of one node.
     type Net: Net;
 

@@ -7,7 +7,7 @@ use std::time::Duration;
 
 /// How a node that runs by itself goes about it.
 #[derive(Clone, Copy, Debug)]
-pub struct Manner {
+pub struct NodeManner {
     /// The time between two of its rounds, in which it handles datagrams as they come.
     pub tick: Duration,
     /// After how many rounds it seeks members that are not in its view; 0 for never.
@@ -16,17 +16,17 @@ pub struct Manner {
     pub leaves: bool,
     /// Whether it writes what is said as text, and who comes and goes, in place of its trace and its chat.
     pub speaks: bool,
-    /// Whether it finds its group by words, and gives way to a greater view (docs/PROTOCOL.md, "Finding", "Giving way").
+    /// Whether it finds its group by words, and gives way to a greater view (docs/RUNNER.md, "Finding", "Giving way").
     pub finds: bool,
     /// It sends only in views of at least so many members.
     pub quorum: u32,
-    /// Whether it writes how many messages of its view are stable, each time that these are more (docs/FORMATS.md, "Nodes over UDP").
+    /// Whether it writes how many messages of its view are stable, each time that these are more (docs/CLI.md, "Nodes over UDP").
     pub stable: bool,
 }
 
 /// What stopped a node that sends lines.
 #[derive(Clone, Copy, Debug, PartialEq, Eq)]
-pub enum Trouble {
+pub enum LineTrouble {
     /// The lines could not be read any more.
     NoLines,
     /// What was to be sent once says no payload: this is wrong with it (`script_reader::Fault`).
@@ -81,7 +81,7 @@ pub struct Tally {
     /// Whether it ended by itself, by a state that it could not read.
     pub has_ended: bool,
     /// What stopped it, if its lines did.
-    pub trouble: Option<Trouble>,
+    pub trouble: Option<LineTrouble>,
     /// Whether it gave up its address, to begin again as its next incarnation.
     pub gives_up: bool,
     /// How many rounds it had.

@@ -2,7 +2,7 @@
 
 ghost use Rattle.std.specs.Prelude.{◌≡◌, ◌++◌, ℕ, List, [], Option, None, Some, map, slice_get, slice_set, option_to_list, IfOk, IfErr, OnOk, OnErr};
 ghost use Rattle.std.specs.Option.{ForSome, option_map_or};
-ghost use Rattle.deployed_runners.specs.Systems.{Gone};
+ghost use Rattle.law_runners.specs.Systems.{Gone};
 ghost use Rattle.limits.specs.Refusals.{number_of};
 ghost use Rattle.world_model.specs.declared.WorldEvent.{WorldEvent};
 ghost use Rattle.world_model.specs.declared.WorldEvent.TheVariants as event;
@@ -11,7 +11,7 @@ ghost use Rattle.udp_runs.specs.Machines.{GivesBack};
 ghost use Rattle.udp_runs.specs.Nodes.{CannotStart, GoesOn, GoesOnAt, IsFirst, IsNext};
 ghost use Rattle.udp_runs.specs.Scripts.{state_text, net_of};
 
-use crate::Machine;
+use crate::NodeMachine;
 use crate::calls::Call;
 use crate::process::{Process, member_at};
 use address::{Address, Node};
@@ -90,7 +90,7 @@ impl<N: Net, C: Application> NodeState<N, C> {
     }
 
     // Lets the running member crash. Refused with 1 where none was started, and with 6 where none runs any more.
-    pub(crate) fn crash<M: Machine<Net = N>>(
+    pub(crate) fn crash<M: NodeMachine<Net = N>>(
         &mut self,
         machine: &mut M,
         line: u64,
@@ -108,7 +108,7 @@ impl<N: Net, C: Application> NodeState<N, C> {
     }
 
     // Does the call of a line at the running member, in the group of this name. Refused with 1 where none was started, and with 6 where none runs any more.
-    pub(crate) fn call<M: Machine<Net = N>>(
+    pub(crate) fn call<M: NodeMachine<Net = N>>(
         &mut self,
         alloc: Global,
         machine: &mut M,
@@ -130,7 +130,7 @@ impl<N: Net, C: Application> NodeState<N, C> {
     }
 
     // A round of the member, if one runs.
-    pub(crate) fn round<M: Machine<Net = N>>(
+    pub(crate) fn round<M: NodeMachine<Net = N>>(
         &mut self,
         machine: &mut M,
         text: &mut Vec<u8>,
@@ -160,7 +160,7 @@ impl<N: Net, C: Application> NodeState<N, C> {
     }
 
     // Lets the process go, if there is one.
-    pub(crate) fn close<M: Machine<Net = N>>(&mut self, machine: &mut M)
+    pub(crate) fn close<M: NodeMachine<Net = N>>(&mut self, machine: &mut M)
         ensures gone { GivesBack (M.gone machine.old) (map net_of (option_to_list self.old.process)) (M.gone machine.new) }
         ensures left { self.new ≡ record self.old { process = None } }
     {

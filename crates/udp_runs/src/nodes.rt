@@ -11,7 +11,7 @@ ghost use Rattle.udp_runs.specs.Machines.{GivesBack};
 ghost use Rattle.udp_runs.specs.Nodes.{AreUnused, GoesOn, IsFirst, IsNext, processes_in};
 ghost use Rattle.udp_runs.specs.Scripts.{StopsAt, IsNoNet, net_of, start_line, state_text};
 
-use crate::Machine;
+use crate::NodeMachine;
 use crate::calls::{Asked, Call, asked_by};
 use crate::ends::Stop;
 use crate::node_state::NodeState;
@@ -59,7 +59,7 @@ impl<N: Net, C: Application> Nodes<N, C> {
     }
 
     // Does what a line says, and appends what happened.
-    pub(crate) fn carry_out<M: Machine<Net = N>>(
+    pub(crate) fn carry_out<M: NodeMachine<Net = N>>(
         &mut self,
         settings: &Settings,
         machine: &mut M,
@@ -100,7 +100,7 @@ impl<N: Net, C: Application> Nodes<N, C> {
     }
 
     // Lets each process go, by node.
-    pub(crate) fn close<M: Machine<Net = N>>(&mut self, machine: &mut M)
+    pub(crate) fn close<M: NodeMachine<Net = N>>(&mut self, machine: &mut M)
         ensures { GivesBack (M.gone machine.old) (map net_of (processes_in self.old.node_states.items)) (M.gone machine.new) }
     {
         for index in 0..self.node_states.len() {
@@ -109,7 +109,7 @@ impl<N: Net, C: Application> Nodes<N, C> {
     }
 
     // So many rounds of each member that runs.
-    fn rounds<M: Machine<Net = N>>(
+    fn rounds<M: NodeMachine<Net = N>>(
         &mut self,
         machine: &mut M,
         count: u64,
@@ -125,7 +125,7 @@ impl<N: Net, C: Application> Nodes<N, C> {
     }
 
     // A round of each member that runs, by node.
-    fn round<M: Machine<Net = N>>(
+    fn round<M: NodeMachine<Net = N>>(
         &mut self,
         machine: &mut M,
         text: &mut Vec<u8>,
@@ -155,7 +155,7 @@ impl<N: Net, C: Application> Nodes<N, C> {
     }
 
     // Starts the next member of a node. Refused with 50 where the settings do not list the node, with 5 where one runs, and with 8 after the last incarnation.
-    fn start<M: Machine<Net = N>>(
+    fn start<M: NodeMachine<Net = N>>(
         &mut self,
         settings: &Settings,
         machine: &mut M,
@@ -182,7 +182,7 @@ impl<N: Net, C: Application> Nodes<N, C> {
     }
 
     // Starts the member of an address at the node of an index.
-    fn start_at<M: Machine<Net = N>>(
+    fn start_at<M: NodeMachine<Net = N>>(
         &mut self,
         settings: &Settings,
         machine: &mut M,
@@ -208,7 +208,7 @@ impl<N: Net, C: Application> Nodes<N, C> {
     }
 
     // Lets the member of a node crash. Refused with 1 where no member was started there.
-    fn crash<M: Machine<Net = N>>(
+    fn crash<M: NodeMachine<Net = N>>(
         &mut self,
         machine: &mut M,
         line: u64,
@@ -225,7 +225,7 @@ impl<N: Net, C: Application> Nodes<N, C> {
     }
 
     // Does a call at the member of a node. Refused with 1 where no member was started there.
-    fn call<M: Machine<Net = N>>(
+    fn call<M: NodeMachine<Net = N>>(
         &mut self,
         settings: &Settings,
         machine: &mut M,

@@ -9,13 +9,13 @@ ghost use Rattle.udp_runs.specs.Members.{GoesAlone, IsListedText, RunsMember, St
 ghost use Rattle.udp_runs.specs.Said.{MaySay};
 
 use crate::ends::{Cut, end, end_without_net, settle};
-use crate::lone::Lone;
+use crate::lone::LoneNode;
 use crate::process::member_at;
-use crate::{Lines, Machine, Manner};
+use crate::{Lines, NodeMachine, NodeManner};
 use address::Address;
 use application::Application;
-use deployed_runners::runners_are_synchronous;
 use endings::Status;
+use law_runners::runners_are_synchronous;
 use script_reader::MemberPlan;
 use std::alloc::Global;
 use std::io::Write;
@@ -33,11 +33,11 @@ fn is_real(address: Address)
 }
 
 // Does what the plan says at a member that was started.
-fn go_on<C: Application, L: Lines, M: Machine, W: Write>(
+fn go_on<C: Application, L: Lines, M: NodeMachine, W: Write>(
     alloc: Global,
     settings: &Settings,
     plan: &MemberPlan<'_>,
-    manner: Manner,
+    manner: NodeManner,
     lines: &mut L,
     machine: &mut M,
     net: M::Net,
@@ -53,7 +53,7 @@ fn go_on<C: Application, L: Lines, M: Machine, W: Write>(
         Ok(member) => member,
         Err(_) => return Err(Cut::Memory),
     };
-    let mut lone = Lone::new(alloc, member, manner, plan.send);
+    let mut lone = LoneNode::new(alloc, member, manner, plan.send);
     let played = lone.play(settings, plan, lines, machine, writer);
     lone.give_back(lines);
     machine.tell(&lone.tally());
@@ -73,11 +73,11 @@ fn write_start<W: Write>(alloc: Global, member: Address, writer: &mut W) -> Resu
 }
 
 // Starts the member of the plan over a net, and does what the plan says.
-fn start<C: Application, L: Lines, M: Machine, W: Write>(
+fn start<C: Application, L: Lines, M: NodeMachine, W: Write>(
     alloc: Global,
     settings: &Settings,
     plan: &MemberPlan<'_>,
-    manner: Manner,
+    manner: NodeManner,
     lines: &mut L,
     machine: &mut M,
     net: M::Net,
@@ -98,11 +98,11 @@ fn start<C: Application, L: Lines, M: Machine, W: Write>(
 }
 
 // Runs the member of the plan at a node that the settings list.
-fn run_listed<C: Application, L: Lines, M: Machine, W: Write>(
+fn run_listed<C: Application, L: Lines, M: NodeMachine, W: Write>(
     alloc: Global,
     settings: &Settings,
     plan: &MemberPlan<'_>,
-    manner: Manner,
+    manner: NodeManner,
     lines: &mut L,
     machine: &mut M,
     writer: &mut W,
@@ -125,7 +125,7 @@ fn run_listed<C: Application, L: Lines, M: Machine, W: Write>(
 
 /// Runs one node of the settings by itself, over its net, with `C` as its receiver: it makes a group or joins its contact's, and has its rounds, between
 /// which it handles datagrams as they come. It sends what the lines say that come, each as soon as it may, and as the coordinator of a view what that sends first in it. It ends early where one is the byte 4 alone. Writes what happened to it
-/// to a writer as it happens, and the line of its state at the end, or what is said as text (docs/FORMATS.md, "Nodes over UDP"). At its end the machine is told what
+/// to a writer as it happens, and the line of its state at the end, or what is said as text (docs/CLI.md, "Nodes over UDP"). At its end the machine is told what
 /// happened in numbers, and has its net back. Answers the exit status.
 ///
 /// What it writes with status 0, unless it speaks, is the line of its start, a line for each thing that its channel told, in order, the line of its state, and a line for each
@@ -140,11 +140,11 @@ fn run_listed<C: Application, L: Lines, M: Machine, W: Write>(
 ///
 /// Where the lines can be read no more, one is too long, or one says no payload, it ends at once with status 5, and the machine is told why. Where the settings do not list the node it writes `fault 0 50` alone, status 3; where the node can have no socket `fault 0 51` alone, status 5. Where memory is
 /// refused, it writes the text so far and `# memory`.
-pub fn run_member<C: Application, L: Lines, M: Machine, W: Write>(
+pub fn run_member<C: Application, L: Lines, M: NodeMachine, W: Write>(
     alloc: Global,
     settings: &Settings,
     plan: &MemberPlan<'_>,
-    manner: Manner,
+    manner: NodeManner,
     lines: &mut L,
     machine: &mut M,
     writer: &mut W,

@@ -8,8 +8,8 @@ ghost use Rattle.channel.specs.Errors.{is_end};
 ghost use Rattle.channel.specs.Channels.{receiver_in};
 ghost use Rattle.udp_net.specs.Logs.{Log};
 ghost use Rattle.udp_member.specs.Rounds.{Rounds};
-ghost use Rattle.deployed_runners.specs.Runs.{new_channel};
-ghost use Rattle.deployed_runners.specs.Systems.{has_ended};
+ghost use Rattle.law_runners.specs.Runs.{new_channel};
+ghost use Rattle.law_runners.specs.Systems.{has_ended};
 ghost use Rattle.udp_runs.specs.Answers.{IsOffered, TakesTurn, answer_lines, quiet, turn_lines};
 ghost use Rattle.udp_runs.specs.Carrying.{MakesCall};
 ghost use Rattle.udp_runs.specs.Machines.{GivesBack};
@@ -17,7 +17,7 @@ ghost use Rattle.udp_runs.specs.Nodes.{all_told};
 ghost use Rattle.udp_runs.specs.Texts.{Happens, texts_of};
 ghost use Rattle.udp_runs.specs.Scripts.{state_text, net_of};
 
-use crate::Machine;
+use crate::NodeMachine;
 use crate::calls::{Call, do_call};
 use address::Address;
 use application::{Application, append_line};
@@ -154,7 +154,7 @@ impl<N: Net, C: Application> Process<N, C> {
     }
 
     // Lets it go, and gives its net back.
-    pub(crate) fn close<M: Machine<Net = N>>(self, machine: &mut M)
+    pub(crate) fn close<M: NodeMachine<Net = N>>(self, machine: &mut M)
         ensures { GivesBack (M.gone machine.old) (net_of self ∷ []) (M.gone machine.new) }
     {
         machine.close(self.address, self.runner.into_net());

@@ -1,4 +1,4 @@
-//! Which of two views is the greater one, and which is the greatest of which a node is told (docs/PROTOCOL.md, "Finding").
+//! Which of two views is the greater one, and which is the greatest of which a node is told (docs/RUNNER.md, "Finding").
 
 ghost use Rattle.std.specs.Prelude.{◌≡◌, true, false};
 ghost use Rattle.std.specs.List.{list_any};

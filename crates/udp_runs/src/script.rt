@@ -4,7 +4,7 @@ ghost use Rattle.std.specs.Prelude.{◌≡◌, ℕ, List, [], ◌++◌, map, tak
 ghost use Rattle.std.specs.List.{concat};
 ghost use Rattle.std.specs.Io.KnownBytes.{Appends};
 ghost use Rattle.endings.specs.Outcomes.{IsAnswer};
-ghost use Rattle.deployed_runners.specs.Systems.{Gone};
+ghost use Rattle.law_runners.specs.Systems.{Gone};
 ghost use Rattle.udp_runs.specs.declared.ends.Cut.TheVariants as cut;
 ghost use Rattle.udp_net.specs.Logs.{NetEvent};
 ghost use Rattle.udp_runs.specs.Carrying.{AreListed};
@@ -13,12 +13,12 @@ ghost use Rattle.udp_runs.specs.Playing.{GoesOnBy, RunsLines, WritesStates};
 ghost use Rattle.udp_runs.specs.Scripts.{IsUnreadText, ReadsLines, RunsUdp, StopsAt, state_text};
 ghost use Rattle.udp_runs.specs.Texts.{Line};
 
-use crate::Machine;
+use crate::NodeMachine;
 use crate::ends::{Cut, Stop, end, end_without_net, settle};
 use crate::nodes::Nodes;
 use application::Application;
-use deployed_runners::runners_are_synchronous;
 use endings::{Status, Unreadable, end_in_fault, end_in_memory, read_all};
+use law_runners::runners_are_synchronous;
 use script_reader::{UdpLine, Unread, read_udp_script};
 use std::alloc::Global;
 use std::io::{Read, Write};
@@ -46,7 +46,7 @@ fn lines_from<I: Read, W: Write>(
 }
 
 // Does what a line says, and writes what happened.
-fn play_line<N: Net, C: Application, M: Machine<Net = N>, W: Write>(
+fn play_line<N: Net, C: Application, M: NodeMachine<Net = N>, W: Write>(
     nodes: &mut Nodes<N, C>,
     settings: &Settings,
     machine: &mut M,
@@ -87,7 +87,7 @@ fn write_states<N: Net, C: Application, W: Write>(
 }
 
 // Does what lines say, and writes what happened.
-fn play_lines<N: Net, C: Application, M: Machine<Net = N>, W: Write>(
+fn play_lines<N: Net, C: Application, M: NodeMachine<Net = N>, W: Write>(
     nodes: &mut Nodes<N, C>,
     settings: &Settings,
     machine: &mut M,
@@ -114,7 +114,7 @@ fn play_lines<N: Net, C: Application, M: Machine<Net = N>, W: Write>(
 }
 
 // Does what lines say at nodes where no member runs yet.
-fn play<C: Application, M: Machine, W: Write>(
+fn play<C: Application, M: NodeMachine, W: Write>(
     alloc: Global,
     settings: &Settings,
     machine: &mut M,
@@ -133,14 +133,14 @@ fn play<C: Application, M: Machine, W: Write>(
 
 /// Runs the nodes of the settings in this process by a script from a reader, each over a net of its own, with the chats `C` as their receivers. Writes what
 /// happened to a writer, with each refused event in its place, and then the chat line of each member that runs, by node; or the script's first fault
-/// (docs/FORMATS.md, "Nodes over UDP"). Answers the exit status.
+/// (docs/CLI.md, "Nodes over UDP"). Answers the exit status.
 ///
 /// Where a node that starts can have no socket, it writes the text so far and `fault LINE 51`, status 5. A member that is refused memory has crashed; where memory
 /// is refused elsewhere, it writes the text so far and `# memory`. The nets are given back to the machine at every status.
 ///
 /// With status 0 the lines of the script were carried out, one after the other, each at the node that it names; what is written of a line is what happened by it there, and the answer of its
 /// call. What happened is a history of processes; where their nets list what happens at them, it is virtually synchronous if they gave only what was offered before, in the order of the lines.
-pub fn run_udp<C: Application, M: Machine, I: Read, W: Write>(
+pub fn run_udp<C: Application, M: NodeMachine, I: Read, W: Write>(
     alloc: Global,
     settings: &Settings,
     machine: &mut M,

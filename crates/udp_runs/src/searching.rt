@@ -1,4 +1,4 @@
-//! How a member that runs by itself finds its group (docs/PROTOCOL.md, "Finding").
+//! How a member that runs by itself finds its group (docs/RUNNER.md, "Finding").
 
 ghost use Rattle.std.specs.Prelude.{◌≡◌, ℕ, List, Option, true};
 ghost use Rattle.std.specs.Option.{option_copied};
@@ -10,12 +10,12 @@ ghost use Rattle.udp_runs.specs.Said.{AreSame, MaySay, says_nothing};
 use crate::calls::{Call, do_call};
 use crate::ends::Cut;
 use crate::finding::{Standing, Step, Whereabouts, milliseconds};
-use crate::lone::{Lone, unless_memory};
+use crate::lone::{LoneNode, unless_memory};
 use address::Address;
 use application::Application;
 use udp_net::{MOST_NODES, Neighbour, Net, Settings};
 
-impl<'a, N: Net, C: Application> Lone<'a, N, C> {
+impl<'a, N: Net, C: Application> LoneNode<'a, N, C> {
     // Does a call of its channel that says nothing, in the group of the settings.
     pub(crate) fn call(&mut self, settings: &Settings, call: &Call<'_>) -> Result<(), Cut>
         requires { says_nothing call.now ≡ true }

@@ -10,13 +10,13 @@ ghost use Rattle.node_lines.specs.Came.{Fills, IsEarlier, IsLineOf, IsSentOf, Is
 
 use crate::calls::send;
 use crate::ends::Cut;
-use crate::lone::{Lone, unless_memory};
-use crate::{Lines, LinesError, Notice, Trouble};
+use crate::lone::{LoneNode, unless_memory};
+use crate::{LineTrouble, Lines, LinesError, Notice};
 use address::ViewId;
 use application::Application;
 use node_lines::{OutboxError, Sent};
+use owned_bytes::Bytes;
 use script_reader::{Fault, Unheard};
-use trace_props::Bytes;
 use udp_net::Net;
 
 /// How many lines a node sends at once, at most.
@@ -42,7 +42,7 @@ fn is_id(view: ViewId)
     let _incarnation = creator.incarnation();
 }
 
-impl<'a, N: Net, C: Application> Lone<'a, N, C> {
+impl<'a, N: Net, C: Application> LoneNode<'a, N, C> {
     // Sends, as the coordinator of its view, what that sends first in the view, if it may.
     fn send_first(&mut self) -> Result<(), Cut>
         ensures drives { (group : List ℕ) (start later : Option (List ℕ)) → Quietly N.log N.failed (MaySay (option_copied self.old.once) start later C.payload_within C.first_said) C.meaning group self.old.member self.new.member }
@@ -124,7 +124,7 @@ impl<'a, N: Net, C: Application> Lone<'a, N, C> {
             }
             Said::Waits => Ok(()),
             Said::Bad(fault) => {
-                self.teller.tally.trouble = Some(Trouble::NoPayload(fault));
+                self.teller.tally.trouble = Some(LineTrouble::NoPayload(fault));
                 Err(Cut::Failed)
             }
         }
@@ -292,7 +292,7 @@ impl<'a, N: Net, C: Application> Lone<'a, N, C> {
             Ok(()) => Ok(()),
             Err(LinesError::Memory) => Err(Cut::Memory),
             Err(LinesError::Gone) => {
-                self.teller.tally.trouble = Some(Trouble::NoLines);
+                self.teller.tally.trouble = Some(LineTrouble::NoLines);
                 Err(Cut::Failed)
             }
         }

@@ -5,7 +5,7 @@ use std::alloc::{AllocError, Global};
 use trace_props::{Delivery, Event, Install};
 use vsync_text::put;
 
-/// Writes what is said, and who comes and goes (docs/FORMATS.md, "What a node says as text").
+/// Writes what is said, and who comes and goes (docs/CLI.md, "What a node says as text").
 #[derive(Drop)]
 pub(crate) struct Speaker {
     // The members of its view; none before the first.

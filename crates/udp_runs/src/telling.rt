@@ -15,7 +15,7 @@ use crate::ends::{Cut, settle};
 use crate::process::append_state_of;
 use crate::speaking::Speaker;
 use crate::stable_lines::append_stable;
-use crate::{Lines, Manner, Tally};
+use crate::{Lines, NodeManner, Tally};
 use address::{Address, ViewId};
 use application::Application;
 use channel::Channel;
@@ -86,7 +86,7 @@ fn show<W: Write>(
 
 impl Teller {
     /// Nothing happened yet; it tells in the way of a manner.
-    pub(crate) fn new(alloc: Global, manner: Manner) -> Teller
+    pub(crate) fn new(alloc: Global, manner: NodeManner) -> Teller
         ensures voice { result.voice ≡ record { speaks = manner.speaks; stable = manner.stable } }
         ensures unsaid { result.unsaid ≡ record { sent = []; back = [] } }
     {

@@ -1,4 +1,4 @@
-//! What whoever looks after a node that runs by itself is told of it, and when (docs/FORMATS.md, "Nodes over UDP").
+//! What whoever looks after a node that runs by itself is told of it, and when (docs/CLI.md, "Nodes over UDP").
 
 use crate::Notice;
 use address::ViewId;

@@ -5,7 +5,7 @@ use memory_net::{Wire, Wires};
 use std::cell::RefCell;
 use std::time::Duration;
 use udp_net::BindError;
-use udp_runs::{Machine, Tally};
+use udp_runs::{NodeMachine, Tally};
 
 /// How much later it is each time that the machine is asked for the time, in milliseconds.
 const STEP: u64 = 10;
@@ -26,7 +26,7 @@ impl<'a> Hub<'a> {
     }
 }
 
-impl<'a> Machine for Hub<'a> {
+impl<'a> NodeMachine for Hub<'a> {
     type Net = Wire<'a>;
 
     ghost gone = { λ _. None };

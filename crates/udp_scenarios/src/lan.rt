@@ -2,8 +2,8 @@
 
 use crate::channels::{apart, first_at};
 use chat_log::ChatLog;
+use owned_bytes::Bytes;
 use std::alloc::{AllocError, Global};
-use trace_props::Bytes;
 use udp_member::{Error, Runner};
 use udp_net::{Listed, MemoryNet, Net, Offered};
 

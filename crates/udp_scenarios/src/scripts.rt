@@ -13,7 +13,7 @@ use memory_net::{FOUR, Wires, settings_of};
 use std::alloc::{AllocError, Global};
 use std::cell::RefCell;
 use std::time::Duration;
-use udp_runs::{Lines, LinesError, Manner, MemberPlan, NoLines, Tally, run_member, run_udp};
+use udp_runs::{Lines, LinesError, MemberPlan, NoLines, NodeManner, Tally, run_member, run_udp};
 
 /// The most scripts of a file.
 const SCRIPTS: u8 = 100;
@@ -56,8 +56,8 @@ pub fn all(alloc: Global, told: &mut Vec<u8>, file: &[u8]) -> Result<(), AllocEr
 }
 
 /// The manner of a node that ticks every 20 milliseconds and seeks nobody.
-fn plain() -> Manner {
-    Manner {
+fn plain() -> NodeManner {
+    NodeManner {
         tick: Duration::from_millis(20),
         merge: 0,
         leaves: false,
@@ -140,7 +140,7 @@ fn put_lines(
     told: &mut Vec<u8>,
     lines: &[u8],
     rounds: u64,
-    manner: Manner,
+    manner: NodeManner,
 ) -> Result<(), AllocError> {
     let plan = MemberPlan {
         address: first_at(1),
@@ -148,7 +148,7 @@ fn put_lines(
         contact: None,
         send: None,
     };
-    let manner = Manner {
+    let manner = NodeManner {
         leaves: true,
         ..manner
     };
@@ -165,7 +165,7 @@ fn put_lines(
 /// Node 1 by itself says lines.
 pub fn lines(alloc: Global, told: &mut Vec<u8>) -> Result<(), AllocError> {
     told.extend_from_slice(b"# lines, of which the last one ends it, as text\n")?;
-    let speaking = Manner {
+    let speaking = NodeManner {
         speaks: true,
         ..plain()
     };
@@ -187,14 +187,14 @@ pub fn lines(alloc: Global, told: &mut Vec<u8>) -> Result<(), AllocError> {
 /// Node 1 by itself says a line: where two members are to be there, and where it looks for others first.
 pub fn finding(alloc: Global, told: &mut Vec<u8>) -> Result<(), AllocError> {
     told.extend_from_slice(b"# two members are to be there\n")?;
-    let careful = Manner {
+    let careful = NodeManner {
         quorum: 2,
         stable: false,
         ..plain()
     };
     put_lines(alloc, told, b"one\n", 10, careful)?;
     told.extend_from_slice(b"# it looks for 50 ticks, finds nobody, and makes a group\n")?;
-    let finding = Manner {
+    let finding = NodeManner {
         finds: true,
         ..plain()
     };

@@ -5,7 +5,7 @@ use std::alloc::Global;
 use std::marker::Model;
 use std::time::Duration;
 use udp_net::{BindError, MemoryNet};
-use udp_runs::{Machine, Tally};
+use udp_runs::{NodeMachine, Tally};
 
 /// A net that was given back, and the member that had it.
 #[derive(Drop)]
@@ -57,7 +57,7 @@ impl Shelf {
     }
 }
 
-impl Machine for Shelf {
+impl NodeMachine for Shelf {
     type Net = MemoryNet;
 
     ghost use Rattle.std.specs.Prelude.{map, None};

@@ -2,8 +2,8 @@
 
 use crate::lan::Lan;
 use crate::lines::{put_number, put_truth};
+use owned_bytes::Bytes;
 use std::alloc::{AllocError, Global};
-use trace_props::Bytes;
 
 /// Four in one view, of which 4.1 has no more rounds: the last of its datagrams has been handed in.
 fn without_the_fourth(alloc: Global) -> Result<Lan, AllocError> {

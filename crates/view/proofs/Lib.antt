@@ -1,1 +1,1 @@
-pub mod FactOfMembers
+pub mod MembersListed

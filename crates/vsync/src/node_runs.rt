@@ -1,4 +1,4 @@
-//! One node over datagrams, whose members run one after another (docs/FORMATS.md, "Nodes over UDP").
+//! One node over datagrams, whose members run one after another (docs/CLI.md, "Nodes over UDP").
 
 use crate::http_address::http_address;
 use crate::http_lines::{HttpLines, Stable};
@@ -23,7 +23,7 @@ use std::rt::Files;
 use std::time::{Clock, Duration};
 use std::{io, thread};
 use udp_net::{Hosts, Settings};
-use udp_runs::{Lines, Loopback, Manner, MemberPlan, Tally, Trouble, run_member};
+use udp_runs::{LineTrouble, Lines, Loopback, MemberPlan, NodeManner, Tally, run_member};
 use vsync_words::{Kept, MemberOptions};
 
 // How long a tick takes where it is not given, in milliseconds.
@@ -39,8 +39,8 @@ const QUORUM: u16 = 1;
 const LONGEST_PAUSE: u32 = 6;
 
 // How the options say that a member runs.
-fn manner_of(options: &MemberOptions<'_>) -> Manner {
-    Manner {
+fn manner_of(options: &MemberOptions<'_>) -> NodeManner {
+    NodeManner {
         tick: Duration::from_millis(u64::from(options.tick.unwrap_or(TICK))),
         merge: u32::from(options.merge.unwrap_or(MERGE)),
         leaves: options.leave,
@@ -84,10 +84,10 @@ fn start_of<R: Files + Clock + Print + Eprint + AllocGlobal>(
 // Says, on the standard error, what a member did that has ended, where it is asked for, and why it ended where that was not to be.
 fn report<R: Eprint>(rt: &R, tally: &Tally, stats: bool) {
     match tally.trouble {
-        Some(Trouble::NoLines) => {
+        Some(LineTrouble::NoLines) => {
             let _ = eprintln!(rt; "vsync: the lines to send cannot be read any more");
         }
-        Some(Trouble::NoPayload(fault)) => {
+        Some(LineTrouble::NoPayload(fault)) => {
             let number = fault.number();
             let _ = eprintln!(rt; "vsync: what is to be sent says no command: {number}");
         }

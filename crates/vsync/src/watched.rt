@@ -11,9 +11,9 @@ use std::random::RandomSource;
 use std::rt::Files;
 use std::time::{Clock, Duration};
 use udp_net::{BindError, Net, NodePort};
-use udp_runs::{Loopback, Machine, NodeNet, NodeStatus, Notice, Tally};
+use udp_runs::{Loopback, NodeMachine, NodeNet, NodeStatus, Notice, Tally};
 
-/// This machine, which says on the standard error what whoever looks after a node should know, and writes the node's status to a file where it is given one (docs/FORMATS.md, "Nodes over UDP").
+/// This machine, which says on the standard error what whoever looks after a node should know, and writes the node's status to a file where it is given one (docs/CLI.md, "Nodes over UDP").
 #[derive(Drop)]
 pub(crate) struct Watched<'a, 'b, R> {
     rt: &'a R,
@@ -144,7 +144,7 @@ impl<'a, 'b, R> Watched<'a, 'b, R> {
     }
 }
 
-impl<'a, 'b, R: Files + std::net::Net + RandomSource + Clock + Eprint> Machine
+impl<'a, 'b, R: Files + std::net::Net + RandomSource + Clock + Eprint> NodeMachine
     for Watched<'a, 'b, R> {
     type Net = NodeNet;
 

@@ -1,3 +1,3 @@
 pub mod KeepFront
-pub mod FactOfWriting
-pub mod FactOfPacketLines
+pub mod LinesWritten
+pub mod PacketLinesFollow

@@ -9,8 +9,9 @@ ghost use Rattle.vsync_text.specs.TraceText.{GoesOnFrom, hex_digit, hex_of, text
 
 use address::{Address, ViewId};
 use itoa::Buffer;
+use owned_bytes::Bytes;
 use std::alloc::AllocError;
-use trace_props::{Bytes, Numbered};
+use trace_props::Numbered;
 
 /// Appends bytes. Where memory is refused, what stood before is kept, and a part may have been appended.
 #[tactic(auto, using(crate::proofs::KeepFront::at_once, crate::proofs::KeepFront::same))]

@@ -28,7 +28,7 @@ pub(crate) enum Unwritten {
 /// # Errors
 ///
 /// The writer's own error, or `WriteZero` where it takes no more bytes. Then it took a beginning of them.
-#[tactic(auto, using(crate::proofs::FactOfWriting::took_more))]
+#[tactic(auto, using(crate::proofs::LinesWritten::took_more))]
 pub fn put_all<W: Write>(writer: &mut W, bytes: &[u8]) -> io::Result<()>
     ensures ok { OnOk result (Appends (W.contents writer.old) (W.contents writer.new) bytes.now) }
     ensures err { OnErr result ((count : ℕ) × Appends (W.contents writer.old) (W.contents writer.new) (take count bytes.now)) }

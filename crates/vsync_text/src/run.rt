@@ -89,7 +89,7 @@ fn write_answer<W: Write>(
 }
 
 /// Writes what happened up to a reply, and its refusal.
-#[tactic(auto, using(crate::proofs::FactOfWriting::writes_then, crate::proofs::FactOfWriting::writes_stops))]
+#[tactic(auto, using(crate::proofs::LinesWritten::writes_then, crate::proofs::LinesWritten::writes_stops))]
 fn write_reply<W: Write>(
     writer: &mut W,
     buffer: &mut Vec<u8>,
@@ -134,7 +134,7 @@ fn write_replies<W: Write>(
 }
 
 /// Writes the text of a run through a buffer that holds nothing yet.
-#[tactic(auto, using(crate::proofs::FactOfWriting::all_taken, crate::proofs::FactOfWriting::beginning_taken, crate::proofs::FactOfWriting::lines_taken, crate::proofs::FactOfWriting::text_taken))]
+#[tactic(auto, using(crate::proofs::LinesWritten::all_taken, crate::proofs::LinesWritten::beginning_taken, crate::proofs::LinesWritten::lines_taken, crate::proofs::LinesWritten::text_taken))]
 fn write_through<W: Write>(
     writer: &mut W,
     buffer: &mut Vec<u8>,
@@ -161,7 +161,7 @@ fn write_through<W: Write>(
 ///
 /// It says how the writing ended: all of it was taken; memory was refused, and the writer took whole lines of a beginning;
 /// or the writer failed, and took a beginning.
-#[tactic(auto, using(crate::proofs::FactOfWriting::nothing_taken))]
+#[tactic(auto, using(crate::proofs::LinesWritten::nothing_taken))]
 pub fn write_run<W: Write>(
     alloc: Global,
     writer: &mut W,

@@ -158,7 +158,7 @@ fn parsed<'a>(alloc: Global, words: &'a [String]) -> Result<Invocation<'a>, Erro
 ///
 /// Words that are no command give clap's error, whose text says what is wrong (`error.kind()` says which kind of
 /// mistake), or the help that was asked for. Words that are a command give an error of kind `OutOfMemory` alone.
-/// docs/FORMATS.md, "Exit statuses", says how the program ends then: 2 for a mistake, 0 for help, 4 for memory.
+/// docs/CLI.md, "Exit statuses", says how the program ends then: 2 for a mistake, 0 for help, 4 for memory.
 pub fn command<'a>(alloc: Global, words: &'a [String]) -> Result<Invocation<'a>, Error>
     ensures alone { length words.now ≤ 1 → IsOkAnd result RunsStandardInput }
     ensures said { 1 < length words.now → IfOk result (λ i.

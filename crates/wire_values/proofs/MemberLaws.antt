@@ -23,7 +23,7 @@ use Rattle.big_endian.specs.Spelled.{IsBytes}
 use Rattle.big_endian.proofs.Bytes.{wide1}
 use Rattle.wire_values.proofs.FieldLaws.{bind_ok, ok_is, test_ok, Takes, Takes-then, IsPart, address_part, view_id_part, number_takes, number_again}
 use Rattle.address.proofs.SameIds.{same_address-sym}
-use Rattle.view.proofs.FactOfMembers.{distinct-push}
+use Rattle.view.proofs.MembersListed.{distinct-push}
 
 -- ---- which lists of addresses are a view's
 

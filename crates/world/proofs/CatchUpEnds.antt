@@ -9,9 +9,9 @@ use Rattle.view.specs.Members.{View}
 use Rattle.wire_values.specs.declared.packet.Body.TheVariants as bodies
 use Rattle.state_transfer.specs.Meanings.{Meaning}
 use Rattle.address.proofs.SameIds.{same_address-refl, same_address-true, same_address-sym, same_view_id-true}
-use Rattle.acts.specs.Cores.{Core, is_frozen}
-use Rattle.acts.specs.Acts.{packet}
-use Rattle.agreement.proofs.KeepBySteps
+use Rattle.law_acts.specs.Cores.{Core, is_frozen}
+use Rattle.law_acts.specs.Acts.{packet}
+use Rattle.law_agreement.proofs.KeepBySteps
 use Rattle.traffic.specs.declared.coordinator.Coordinator.{Coordinator}
 use Rattle.traffic.specs.declared.follower.Follower.{Follower}
 use Rattle.traffic.specs.declared.view_state.ViewState.{ViewState}
@@ -27,16 +27,16 @@ use Rattle.world_model.specs.Histories.{last_of, is_connected}
 use Rattle.world.specs.declared.gaps.Pair.{Pair}
 use Rattle.world_step.specs.declared.node_state.NodeState.{NodeState}
 use Rattle.world_step.specs.declared.node_state.NodeState.TheVariants.{Vacant, Ended, Running}
-use Rattle.world_step.proofs.FactOfMembers
-use Rattle.world_step.proofs.FactOfSystem.{system_of}
+use Rattle.world_step.proofs.MembersAtNodes
+use Rattle.world_step.proofs.MembersAsSystem.{system_of}
 use Rattle.world_step.specs.Invariant.{IsWorld, IsNodeStateOf}
 use Rattle.world_step.specs.Worlds.{WorldModel}
 use Rattle.world_step.specs.Pools.{first_for}
 use Rattle.world_plays.specs.Plays.{lacks_memory, Plays}
 use Rattle.world.specs.Gaps.{open_view, is_open_in, pair_of, pair_in, pair_at, Hands, CatchesUp, IsLevel}
-use Rattle.world.proofs.FactOfPairs
+use Rattle.world.proofs.PairsCompared
 use Rattle.world_step.proofs.KeepOfWorlds
-use Rattle.world.proofs.FactOfReplies
+use Rattle.world.proofs.RepliesPlayed
 use Rattle.world_plays.proofs.Standing
 use Rattle.world.proofs.CatchUpLevels
 
@@ -137,10 +137,10 @@ module _ {S : Type 0} (meaning : Meaning S) (laws : KeepBySteps.Laws meaning) wh
   node_state-of w n m keeps node_state = subst (IsNodeStateOf n (last_of n w.history.trace) (is_connected n w.history) w.history.trace) node_state (keeps.node_states n)
 
   runs-open : (w : WorldModel S) (n : ℕ) (p : Address) (m : MemberModel S) (v : View) → Keeps w → w.node_states n ≡ Running m → m.address ≡ p → (o : IsOpen m v)
-      → FactOfReplies.RunsAs meaning w p o.member_state o.view_state
+      → RepliesPlayed.RunsAs meaning w p o.member_state o.view_state
   runs-open w n p m v keeps node_state is o =
       let k = node_state-of w n m keeps node_state in
-      let here = FactOfMembers.is-here meaning laws w.node_states w.history n m keeps node_state k.1 in
+      let here = MembersAtNodes.is-here meaning laws w.node_states w.history n m keeps node_state k.1 in
       let node : p.node ≡ n = ap (λ (q : Address). q.node) (sym is) ∙ k.1 in
       record {
         stands = record {
@@ -157,7 +157,7 @@ module _ {S : Type 0} (meaning : Meaning S) (laws : KeepBySteps.Laws meaning) wh
 
   orderly-of : (w : WorldModel S) (n : ℕ) (p : Address) (m : MemberModel S) (v : View) → Keeps w → w.node_states n ≡ Running m → m.address ≡ p → (o : IsOpen m v) → IsOrderly p o.view_state
   orderly-of w n p m v keeps node_state is o =
-      let k = FactOfMembers.is-here meaning laws w.node_states w.history n m keeps node_state (node_state-of w n m keeps node_state).1 in
+      let k = MembersAtNodes.is-here meaning laws w.node_states w.history n m keeps node_state (node_state-of w n m keeps node_state).1 in
       subst (λ (q : Address). IsOrderly q o.view_state) is ((k.alive o.member_state o.lives).ordered o.view_state o.keeps)
 
   pub record Found (w : WorldModel S) (pair : Pair) : Type 0 where
@@ -175,10 +175,10 @@ module _ {S : Type 0} (meaning : Meaning S) (laws : KeepBySteps.Laws meaning) wh
     abbrev q : Address
     q = pair.member
 
-    joined : (lc lq : MemberState S) (kc : Coordinator) (kq : Follower) → FactOfReplies.RunsAs meaning w c lc (kinds.Coordinator kc)
-        → FactOfReplies.RunsAs meaning w q lq (kinds.Follower kq) → kc.view.id ≡ pair.view → kq.view.id ≡ pair.view → Found w pair
+    joined : (lc lq : MemberState S) (kc : Coordinator) (kq : Follower) → RepliesPlayed.RunsAs meaning w c lc (kinds.Coordinator kc)
+        → RepliesPlayed.RunsAs meaning w q lq (kinds.Follower kq) → kc.view.id ≡ pair.view → kq.view.id ≡ pair.view → Found w pair
     joined lc lq kc kq rc rq ic iq =
-        let one = FactOfPairs.one-view meaning (system_of w.node_states w.history.pool w.history.trace) (FactOfMembers.agreed meaning laws w.node_states w.history keeps).agreed c q (core_at c lc) (core_at q lq) kc.view kq.view
+        let one = PairsCompared.one-view meaning (system_of w.node_states w.history.pool w.history.trace) (MembersAtNodes.agreed meaning laws w.node_states w.history keeps).agreed c q (core_at c lc) (core_at q lq) kc.view kq.view
         (CatchUpLevels.runs-in meaning laws w c lc (kinds.Coordinator kc) rc) (CatchUpLevels.runs-in meaning laws w q lq (kinds.Follower kq) rq)
         (rw rc.view_state refl) (rw rq.view_state refl) (iq ∙ sym ic) in
         record {
@@ -191,7 +191,7 @@ module _ {S : Type 0} (meaning : Meaning S) (laws : KeepBySteps.Laws meaning) wh
         }
 
     -- the coordinator of a view keeps what a coordinator does, and another member what another does
-    kinds-by : (lc lq : MemberState S) (tc tq : ViewState) → FactOfReplies.RunsAs meaning w c lc tc → FactOfReplies.RunsAs meaning w q lq tq → IsOrderly c tc → IsOrderly q tq
+    kinds-by : (lc lq : MemberState S) (tc tq : ViewState) → RepliesPlayed.RunsAs meaning w c lc tc → RepliesPlayed.RunsAs meaning w q lq tq → IsOrderly c tc → IsOrderly q tq
         → (view_of tc).id ≡ pair.view → (view_of tq).id ≡ pair.view → Found w pair
     kinds-by lc lq (kinds.Follower k) tq rc rq oc oq ic iq =
         let bad : true ≡ false = sym (same_address-refl c) ∙ ap (λ (v : ViewId). same_address c v.creator) (sym ic) ∙ oc.0 in
@@ -223,7 +223,7 @@ module _ {S : Type 0} (meaning : Meaning S) (laws : KeepBySteps.Laws meaning) wh
   pub announced-so : (old announced : WorldModel S) (pair : Pair) (f : Found old pair) → Plays meaning old (Tick pair.view.creator.node) announced
       → CatchUpLevels.AnnouncedSo meaning laws old announced pair.view.creator pair.member f.first f.other f.leads f.follows
   announced-so old announced pair f x =
-      let t = CatchUpLevels.sure meaning laws (lacks_memory x.step.answer) x.whole (FactOfReplies.ticked meaning old announced pair.view.creator f.first f.leads f.couple.first x.step) in
+      let t = CatchUpLevels.sure meaning laws (lacks_memory x.step.answer) x.whole (RepliesPlayed.ticked meaning old announced pair.view.creator f.first f.leads f.couple.first x.step) in
       CatchUpLevels.announced-by meaning laws old announced pair.view.creator pair.member f.first f.other f.leads f.follows f.couple
       (keeps-on old announced (Tick pair.view.creator.node) x f.couple.keeps) t
 

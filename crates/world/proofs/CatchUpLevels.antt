@@ -13,12 +13,12 @@ use Rattle.state_transfer.specs.Meanings.{Meaning}
 use Rattle.wire_values.specs.declared.packet.Body.TheVariants as bodies
 use Rattle.trace_props.specs.Observed.{delivered_in}
 use Rattle.address.proofs.SameIds.{same_address-sym}
-use Rattle.acts.specs.Histories.{Posted}
-use Rattle.acts.specs.Cores.{ViewCore}
-use Rattle.acts.specs.Acts.{packet, others_of}
-use Rattle.agreement.specs.Packets.{HoldsAll}
-use Rattle.agreement.proofs.ActBegins.{others-there}
-use Rattle.agreement.proofs.KeepBySteps
+use Rattle.law_acts.specs.Histories.{Posted}
+use Rattle.law_acts.specs.Cores.{ViewCore}
+use Rattle.law_acts.specs.Acts.{packet, others_of}
+use Rattle.law_agreement.specs.Packets.{HoldsAll}
+use Rattle.law_agreement.proofs.ActBegins.{others-there}
+use Rattle.law_agreement.proofs.KeepBySteps
 use Rattle.step_output.specs.declared.output.Output.{Output}
 use Rattle.step_output.specs.Outputs.{Puts, Grows, spelled}
 use Rattle.traffic.specs.declared.coordinator.Coordinator.{Coordinator}
@@ -41,12 +41,12 @@ use Rattle.world_step.specs.Worlds.{WorldModel}
 use Rattle.world_step.specs.Pools.{is_destined, first_for}
 use Rattle.world_plays.specs.Plays.{lacks_memory, Delivers, DeliversPast}
 use Rattle.world.proofs.WindowFills.{MissesWithin, asked-within, nothing-missing, filled}
-use Rattle.world.proofs.FactOfPairs
-use Rattle.world_step.proofs.FactOfMembers
-use Rattle.world_step.proofs.FactOfSystem.{runs, system_of}
-use Rattle.deployment.proofs.FactOfPosts.{EachSound, bytes_for}
+use Rattle.world.proofs.PairsCompared
+use Rattle.world_step.proofs.MembersAtNodes
+use Rattle.world_step.proofs.MembersAsSystem.{runs, system_of}
+use Rattle.law_processes.proofs.PostsAreSpelled.{EachSound, bytes_for}
 use Rattle.world_step.proofs.KeepOfWorlds
-use Rattle.world.proofs.FactOfReplies
+use Rattle.world.proofs.RepliesPlayed
 use Rattle.settling.proofs.FirstPackets.{first-found, each-at}
 use Rattle.world_plays.proofs.Standing
 use Rattle.step_output.specs.Steps.{who}
@@ -58,7 +58,7 @@ use Rattle.world_plays.proofs.Deliveries.{delivers-none, delivers-next}
 -- different members run at different nodes
 module _ {S : Type 0} (meaning : Meaning S) (laws : KeepBySteps.Laws meaning) where
   abbrev pub RunsAs : WorldModel S → Address → MemberState S → ViewState → Type 0
-  RunsAs w p l t = FactOfReplies.RunsAs meaning w p l t
+  RunsAs w p l t = RepliesPlayed.RunsAs meaning w p l t
 
   pub nodes-apart : (w : WorldModel S) (p q : Address) (l k : MemberState S) (t u : ViewState) → RunsAs w p l t → RunsAs w q k u → same_address q p ≡ false → nat_eq p.node q.node ≡ false
   nodes-apart w p q l k t u x y other = Standing.nodes-apart meaning w p q l k x.stands y.stands other
@@ -87,7 +87,7 @@ module _ {S : Type 0} (meaning : Meaning S) (laws : KeepBySteps.Laws meaning) wh
 
   pub numbers : (w : WorldModel S) (c q : Address) (lc lq : MemberState S) (kc : Coordinator) (kq : Follower) → Couple w c q lc lq kc kq → Numbers w c q kc kq
   numbers w c q lc lq kc kq x =
-      let p = FactOfPairs.compared meaning (system_of w.node_states w.history.pool w.history.trace) (FactOfMembers.agreed meaning laws w.node_states w.history x.keeps).agreed c q (core_at c lc) (core_at q lq) kc.view (record {
+      let p = PairsCompared.compared meaning (system_of w.node_states w.history.pool w.history.trace) (MembersAtNodes.agreed meaning laws w.node_states w.history x.keeps).agreed c q (core_at c lc) (core_at q lq) kc.view (record {
         coordinator = runs-in w c lc (kinds.Coordinator kc) x.first;
         member = runs-in w q lq (kinds.Follower kq) x.other;
         own = x.own;
@@ -116,7 +116,7 @@ module _ {S : Type 0} (meaning : Meaning S) (laws : KeepBySteps.Laws meaning) wh
   pub none-next : (w : WorldModel S) (c q : Address) (lc lq : MemberState S) (kc : Coordinator) (kq : Follower) → Couple w c q lc lq kc kq → held_at (kq.window.delivered + 1) kq.window.held ≡ None
   none-next w c q lc lq kc kq x =
       let m = x.other.stands.member in
-      let k = FactOfMembers.is-here meaning laws w.node_states w.history q.node m x.keeps x.other.stands.node_state (ap (λ (p : Address). p.node) x.other.stands.address) in
+      let k = MembersAtNodes.is-here meaning laws w.node_states w.history q.node m x.keeps x.other.stands.node_state (ap (λ (p : Address). p.node) x.other.stands.address) in
       let o : IsOrderly m.address (kinds.Follower kq) = (k.alive lq x.other.stands.member_state).ordered (kinds.Follower kq) x.other.view_state in
       o.1
 
@@ -139,7 +139,7 @@ module _ {S : Type 0} (meaning : Meaning S) (laws : KeepBySteps.Laws meaning) wh
   coordinator-moves old new c q lc lq kc kq x keeps runs others = record {
     keeps = keeps;
     first = runs;
-    other = FactOfReplies.runs-still meaning old q lq (kinds.Follower kq) x.other new c (nodes-apart old c q lc lq (kinds.Coordinator kc) (kinds.Follower kq) x.first x.other x.apart) others;
+    other = RepliesPlayed.runs-still meaning old q lq (kinds.Follower kq) x.other new c (nodes-apart old c q lc lq (kinds.Coordinator kc) (kinds.Follower kq) x.first x.other x.apart) others;
     own = x.own;
     same = x.same;
     apart = x.apart;
@@ -152,7 +152,7 @@ module _ {S : Type 0} (meaning : Meaning S) (laws : KeepBySteps.Laws meaning) wh
       let turned : same_address c q ≡ false = same_address-sym c q ∙ x.apart in
       record {
         keeps = keeps;
-        first = FactOfReplies.runs-still meaning old c lc (kinds.Coordinator kc) x.first new q (nodes-apart old q c lq lc (kinds.Follower kq) (kinds.Coordinator kc) x.other x.first turned) others;
+        first = RepliesPlayed.runs-still meaning old c lc (kinds.Coordinator kc) x.first new q (nodes-apart old q c lq lc (kinds.Follower kq) (kinds.Coordinator kc) x.other x.first turned) others;
         other = runs;
         own = x.own;
         same = view ∙ x.same;
@@ -168,7 +168,7 @@ module _ {S : Type 0} (meaning : Meaning S) (laws : KeepBySteps.Laws meaning) wh
     pub status : Standing.IsFor meaning announced number q (packet c (bodies.Status kc.view.id (progress_of kc.window)) q)
 
   pub announced-by : (old announced : WorldModel S) (c q : Address) (lc lq : MemberState S) (kc : Coordinator) (kq : Follower) → Couple old c q lc lq kc kq → Keeps announced
-      → FactOfReplies.Ticked meaning old announced c lc kc → AnnouncedSo old announced c q lc lq kc kq
+      → RepliesPlayed.Ticked meaning old announced c lc kc → AnnouncedSo old announced c q lc lq kc kq
   announced-by old announced c q lc lq kc kq x keeps t =
       let n = numbers old c q lc lq kc kq x in
       let body = bodies.Status kc.view.id (progress_of kc.window) in
@@ -218,7 +218,7 @@ module _ {S : Type 0} (meaning : Meaning S) (laws : KeepBySteps.Laws meaning) wh
   asked-by announced asked c q lc lq kc kq x keeps h =
       let n = numbers announced c q lc lq kc kq x in
       let a = progress_of kc.window in
-      let r = FactOfReplies.asked meaning announced asked c q lq kq a x.other (own-of kc.view kq.view c x.same x.own) (listed-of kc.view kq.view c x.same n.coordinator)
+      let r = RepliesPlayed.asked meaning announced asked c q lq kq a x.other (own-of kc.view kq.view c x.same x.own) (listed-of kc.view kq.view c x.same n.coordinator)
       (near-by announced c q kc kq n)
       (subst (λ (v : View). Standing.Heard meaning announced asked q lq (packet c (bodies.Status v.id a) q)) (sym x.same) h) in
       record {
@@ -262,7 +262,7 @@ module _ {S : Type 0} (meaning : Meaning S) (laws : KeepBySteps.Laws meaning) wh
       let reach = n.reach in
       let far : g - WINDOW ≤ kq.window.delivered = omega (arith, stable, reach, known) in
       let near : nat_lt kq.window.delivered (g - WINDOW) ≡ false = grind (arith, nat_tests) in
-      let r = FactOfReplies.ordered meaning w mid c q lq kq g e x.other (own-of kc.view kq.view c x.same x.own) (listed-of kc.view kq.view c x.same n.coordinator) near
+      let r = RepliesPlayed.ordered meaning w mid c q lq kq g e x.other (own-of kc.view kq.view c x.same x.own) (listed-of kc.view kq.view c x.same n.coordinator) near
       (subst (λ (v : View). Standing.Heard meaning w mid q lq (packet c (bodies.Order v.id g e) q)) (sym x.same) h) in
       record {
         member_state = r.after;
@@ -397,7 +397,7 @@ module _ {S : Type 0} (meaning : Meaning S) (laws : KeepBySteps.Laws meaning) wh
         let h = sure (lacks_memory d.plays.step.answer) d.plays.whole
         (Standing.heard meaning laws asked d.mid s.couple.keeps (length announced.history.pool + 1) c lc s.couple.first.stands _ nak.packet d.plays.step) in
         let keeps = KeepOfWorlds.step-keeps meaning laws asked d.mid (Deliver (length announced.history.pool + 1)) d.plays.step s.couple.keeps in
-        let r = FactOfReplies.answered meaning asked d.mid c q lc kc k.missing s.couple.first n.listed h in
+        let r = RepliesPlayed.answered meaning asked d.mid c q lc kc k.missing s.couple.first n.listed h in
         let first = k.missing.first in
         let last = k.missing.last in
         let list = orders c q kc first (last + 1 - first) in

@@ -7,9 +7,9 @@ use Rattle.view.specs.Members.{View}
 use Rattle.wire_values.specs.declared.packet.Body.TheVariants as bodies
 use Rattle.state_transfer.specs.Meanings.{Meaning}
 use Rattle.address.proofs.SameIds.{same_address-refl, same_address-sym, same_view_id-refl}
-use Rattle.acts.specs.Histories.{Posted}
-use Rattle.acts.specs.Acts.{packet}
-use Rattle.agreement.proofs.KeepBySteps
+use Rattle.law_acts.specs.Histories.{Posted}
+use Rattle.law_acts.specs.Acts.{packet}
+use Rattle.law_agreement.proofs.KeepBySteps
 use Rattle.traffic.specs.declared.coordinator.Coordinator.{Coordinator}
 use Rattle.traffic.specs.declared.follower.Follower.{Follower}
 use Rattle.traffic.specs.declared.view_state.ViewState.{ViewState}
@@ -29,9 +29,9 @@ use Rattle.world_plays.specs.Plays.{lacks_memory, Plays, Fails, Breaks, BreaksPa
 use Rattle.world.specs.Gaps.{open_view, is_open_in, pair_at, Hands, Stops, BothRun, EndsSo}
 use Rattle.world.specs.Gaps.Stops.{AtTick, AtStatus, AtRequest, AtAnswer}
 use Rattle.world.proofs.WindowFills.{MissesWithin}
-use Rattle.deployment.proofs.FactOfPosts.{EachSound}
+use Rattle.law_processes.proofs.PostsAreSpelled.{EachSound}
 use Rattle.world_step.proofs.KeepOfWorlds
-use Rattle.world.proofs.FactOfReplies
+use Rattle.world.proofs.RepliesPlayed
 use Rattle.world_plays.proofs.Standing
 use Rattle.world.proofs.CatchUpLevels
 use Rattle.world.proofs.CatchUpEnds
@@ -41,7 +41,7 @@ use Rattle.world_plays.proofs.Deliveries.{breaks-none, breaks-next}
 
 module _ {S : Type 0} (meaning : Meaning S) where
   -- who runs in a view is open there
-  open-run : (w : WorldModel S) (p : Address) (l : MemberState S) (t : ViewState) (v : ViewId) (r : FactOfReplies.RunsAs meaning w p l t) → (view_of t).id ≡ v → is_open_in p v (w.node_states p.node) ≡ true
+  open-run : (w : WorldModel S) (p : Address) (l : MemberState S) (t : ViewState) (v : ViewId) (r : RepliesPlayed.RunsAs meaning w p l t) → (view_of t).id ≡ v → is_open_in p v (w.node_states p.node) ≡ true
   open-run w p l t v r id =
       let view : open_view (Running r.stands.member) ≡ Some (view_of t) = rw (Standing.core-is meaning w p l r.stands, r.view_state, r.installed) refl in
       let same : same_address r.stands.member.address p ≡ true = ap (λ z. same_address z p) r.stands.address ∙ same_address-refl p in
@@ -66,7 +66,7 @@ module _ {S : Type 0} (meaning : Meaning S) (laws : KeepBySteps.Laws meaning) wh
       → Fails meaning old (Tick pair.view.creator.node) new → EndsSo pair new
   ends-tick old new pair lc lq kc kq x id (inl same) = inr (subst (BothRun pair) (sym same) (both-run old pair lc lq kc kq x id))
   ends-tick old new pair lc lq kc kq x id (inr f) =
-      let y = CatchUpLevels.lost meaning laws (lacks_memory f.0.answer) f.1 (FactOfReplies.ticked meaning old new pair.view.creator lc kc x.first f.0) in
+      let y = CatchUpLevels.lost meaning laws (lacks_memory f.0.answer) f.1 (RepliesPlayed.ticked meaning old new pair.view.creator lc kc x.first f.0) in
       inl (record { before = old.history.trace; crash = inl y.trace })
 
   -- a packet to the coordinator

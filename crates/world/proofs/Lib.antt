@@ -1,10 +1,10 @@
 pub mod WindowFills
-pub mod FactOfPairs
-pub mod FactOfStable
-pub mod FactOfReplies
+pub mod PairsCompared
+pub mod StableEverywhere
+pub mod RepliesPlayed
 pub mod CatchUpLevels
 pub mod CatchUpEnds
 pub mod CatchUpStops
-pub mod FactOfOpenPairs
+pub mod PairsAreOpen
 pub mod CatchUpIsRun
 pub mod SettlingIsTold

@@ -7,7 +7,7 @@ use Rattle.state_transfer.specs.Meanings.{Meaning}
 use Rattle.trace_props.specs.declared.event.Event.{Event}
 use Rattle.trace_props.specs.declared.event.Event.TheVariants.{Crashed}
 use Rattle.trace_props.specs.Observed.{current_view, is_blocked, delivered_in}
-use Rattle.acts.specs.Cores.{is_frozen}
+use Rattle.law_acts.specs.Cores.{is_frozen}
 use Rattle.member.specs.Members.{core_of}
 use Rattle.world_model.specs.declared.WorldEvent.TheVariants.{Deliver, Tick}
 use Rattle.world_model.specs.Histories.{running}

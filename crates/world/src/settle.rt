@@ -5,10 +5,10 @@ ghost use Rattle.std.specs.Prelude.{◌≡◌, ◌+◌, ◌≤◌, ◌⊎◌, le
 ghost use Rattle.std.specs.Option.{ForSome, IsSomeAnd};
 ghost use Rattle.trace_props.specs.Places.{EachPlace};
 ghost use Rattle.trace_props.specs.Synchrony.{IsWellOrdered, IsVirtuallySynchronous};
-ghost use Rattle.replicas.specs.Replicas.{ReplicasAgree};
+ghost use Rattle.law_copies.specs.Replicas.{ReplicasAgree};
 ghost use Rattle.world_model.specs.Faithful.{IsFaithful};
 ghost use Rattle.world_model.specs.Packets.{world_group};
-ghost use Rattle.deployment.specs.Deployments.{IsPlayed};
+ghost use Rattle.law_processes.specs.Deployments.{IsPlayed};
 ghost use Rattle.world_step.specs.NodeStates.{deployment_of};
 ghost use Rattle.world_step.specs.Worlds.{shown, IsLonger};
 ghost use Rattle.settling.specs.Settles.{Settles, SettlesShort, EndsSettling, IsSettled};

@@ -6,8 +6,8 @@ ghost use Rattle.world_model.specs.Histories.{target_of, starts};
 
 use address::{Address, Node};
 use limits::Refusal;
+use owned_bytes::Bytes;
 use std::alloc::{AllocError, Global};
-use trace_props::Bytes;
 
 /// What a world is given to do (docs/GUARANTEES.md, "Faithful").
 #[derive(Debug, Drop)]

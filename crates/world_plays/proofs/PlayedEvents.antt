@@ -24,7 +24,7 @@ use Rattle.world_step.specs.NodeStates.{bytes_of, answer_to}
 use Rattle.world_step.specs.Turns.{about, OthersStand, CallGives, HandsHere, Hands, HandsOver, Delivers, HandsPacket}
 use Rattle.world_step.specs.Worlds.{WorldModel, WorldStep}
 use Rattle.world_plays.specs.Plays.{lacks_memory}
-use Rattle.world_step.proofs.FactOfTaken.{when-true, when-false}
+use Rattle.world_step.proofs.InputsTaken.{when-true, when-false}
 
 -- what happened is no want of memory
 lacks-nothing : (hs : List Event) → lacks_memory (answer_to hs) ≡ false

@@ -7,7 +7,7 @@ use Rattle.world_step.specs.Worlds.Runs.{Still as NoEvent, Next as OneMore}
 use Rattle.world_plays.specs.Plays.{Fails, Delivers, Breaks}
 use Rattle.world_plays.specs.Plays.Delivers.{Still, Next}
 use Rattle.world_plays.specs.Plays.Breaks.{Here, Later}
-use Rattle.world_step.proofs.FactOfRuns.{runs-longer}
+use Rattle.world_step.proofs.EventsInTurn.{runs-longer}
 
 module _ {S : Type 0} (meaning : Meaning S) where
   -- some events run from one world to another

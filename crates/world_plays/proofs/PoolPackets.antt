@@ -7,15 +7,15 @@ use Rattle.std.proofs.lemmas.Option.{none-some}
 use Rattle.wire.specs.Packets.{IsPacket, spelling, packet_of}
 use Rattle.wire.proofs.OneSpelling.{spelled_read}
 use Rattle.trace_props.specs.declared.event.Event.{Event}
-use Rattle.trace_props.proofs.FactOfPlaces.{slice_get-before}
-use Rattle.acts.specs.Histories.{Posted}
-use Rattle.acts.proofs.Lists.{slice_get-right}
+use Rattle.trace_props.proofs.RulesAlongLists.{slice_get-before}
+use Rattle.law_acts.specs.Histories.{Posted}
+use Rattle.law_acts.proofs.Lists.{slice_get-right}
 use Rattle.step_output.specs.declared.output.Output.{Output}
 use Rattle.step_output.specs.Outputs.{Puts, Grows, packet_in, spelled}
 use Rattle.world_model.specs.Packets.{world_group, packet_numbered, destination_of}
 use Rattle.world_step.specs.NodeStates.{bytes_of}
-use Rattle.world_step.proofs.FactOfFirst.{numbered-at}
-use Rattle.deployment.proofs.FactOfPosts.{bytes_for}
+use Rattle.world_step.proofs.FirstForAddress.{numbered-at}
+use Rattle.law_processes.proofs.PostsAreSpelled.{bytes_for}
 
 -- ---- a packet of the world
 

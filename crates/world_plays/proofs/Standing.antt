@@ -9,10 +9,10 @@ use Rattle.address.specs.Ids.{Address, same_address}
 use Rattle.address.proofs.SameIds.{same_address-refl}
 use Rattle.wire.specs.Packets.{packet_of}
 use Rattle.state_transfer.specs.Meanings.{Meaning}
-use Rattle.acts.specs.Histories.{Posted}
-use Rattle.acts.specs.Cores.{Core}
-use Rattle.acts.specs.Acts.{handed}
-use Rattle.agreement.proofs.KeepBySteps
+use Rattle.law_acts.specs.Histories.{Posted}
+use Rattle.law_acts.specs.Cores.{Core}
+use Rattle.law_acts.specs.Acts.{handed}
+use Rattle.law_agreement.proofs.KeepBySteps
 use Rattle.step_output.specs.declared.output.Output.{Output}
 use Rattle.step_output.specs.Outputs.{Puts, packet_in}
 use Rattle.step_output.specs.Steps.{who}
@@ -29,17 +29,17 @@ use Rattle.member.specs.Handling.{Handled, StaysSo, Replies}
 use Rattle.world_model.specs.declared.WorldEvent.TheVariants.{Deliver, Tick, MergeHint}
 use Rattle.world_model.specs.Packets.{world_group, packet_numbered}
 use Rattle.world_step.specs.declared.node_state.NodeState.TheVariants.{Running}
-use Rattle.agreement.specs.Packets.{PacketFact}
-use Rattle.agreement.specs.Invariant.{Kept}
+use Rattle.law_agreement.specs.Packets.{PacketFact}
+use Rattle.law_agreement.specs.Invariant.{Kept}
 use Rattle.world_step.specs.NodeStates.{bytes_of, deployment_of}
 use Rattle.world_step.specs.Turns.{OthersStand}
 use Rattle.world_step.specs.Invariant.{IsWorld}
 use Rattle.world_step.specs.Worlds.{WorldModel, WorldStep}
 use Rattle.world_plays.specs.Plays.{lacks_memory}
-use Rattle.deployment.proofs.FactOfPosts.{posted_in, post-at}
-use Rattle.deployment.proofs.FactOfReadable
-use Rattle.world_step.proofs.FactOfMembers
-use Rattle.world_step.proofs.FactOfSystem.{core_here, runs, core-running, system_of}
+use Rattle.law_processes.proofs.PostsAreSpelled.{posted_in, post-at}
+use Rattle.law_processes.proofs.StatesAreReadable
+use Rattle.world_step.proofs.MembersAtNodes
+use Rattle.world_step.proofs.MembersAsSystem.{core_here, runs, core-running, system_of}
 use Rattle.world_plays.proofs.PlayedEvents
 use Rattle.world_plays.proofs.PoolPackets.{bytes_as, IsSound, reads-back, goes-to}
 
@@ -91,7 +91,7 @@ module _ {S : Type 0} (meaning : Meaning S) where
     -- what always holds of it
     pub lives : KeepBySteps.Laws meaning → IsWorld meaning w.node_states w.history → IsMemberState (who r.member.address r.member.group) l
     lives laws keeps =
-        ((FactOfMembers.is-here meaning laws w.node_states w.history p.node r.member keeps r.node_state (ap (λ (a : Address). a.node) r.address)).alive l r.member_state).member_state
+        ((MembersAtNodes.is-here meaning laws w.node_states w.history p.node r.member keeps r.node_state (ap (λ (a : Address). a.node) r.address)).alive l r.member_state).member_state
 
   -- ---- what it did by an input that it took
 
@@ -262,8 +262,8 @@ module _ {S : Type 0} (meaning : Meaning S) where
 
     packet-readable : is_unreadable meaning r.member (input.Datagram b) ≡ false
     packet-readable =
-        FactOfReadable.call-readable meaning laws world_group (deployment_of w.node_states w.history.pool w.history.trace) (FactOfMembers.deployed meaning laws w.node_states w.history keeps) r.member.address r.member
-        (FactOfMembers.member-at meaning w.node_states w.history q.node r.member keeps r.node_state (ap (λ (a : Address). a.node) r.address)) (input.Datagram b)
+        StatesAreReadable.call-readable meaning laws world_group (deployment_of w.node_states w.history.pool w.history.trace) (MembersAtNodes.deployed meaning laws w.node_states w.history keeps) r.member.address r.member
+        (MembersAtNodes.member-at meaning w.node_states w.history q.node r.member keeps r.node_state (ap (λ (a : Address). a.node) r.address)) (input.Datagram b)
         (inl (k - 1, numbered-by k w.history.pool b.now (nat_eq k 0) refl (f.there ∙ ap Some (sym is))))
 
   heard-by : (laws : KeepBySteps.Laws meaning) (old new : WorldModel S) (keeps : IsWorld meaning old.node_states old.history) (k : ℕ) (q : Address) (l : MemberState S) (r : Stands old q l) (m : Posted) (f : IsFor old k q m)
@@ -308,12 +308,12 @@ module _ {S : Type 0} (meaning : Meaning S) where
 
   -- what agreement knows
   pub agreed-in : (laws : KeepBySteps.Laws meaning) (w : WorldModel S) → IsWorld meaning w.node_states w.history → Kept meaning (system_of w.node_states w.history.pool w.history.trace)
-  agreed-in laws w keeps = FactOfMembers.agreed meaning laws w.node_states w.history keeps
+  agreed-in laws w keeps = MembersAtNodes.agreed meaning laws w.node_states w.history keeps
 
   -- what holds of a packet of the pool
   pub fact-at : (laws : KeepBySteps.Laws meaning) (w : WorldModel S) → IsWorld meaning w.node_states w.history → (k : ℕ) (m : Posted) → packet_numbered k w.history.pool ≡ Some (bytes_as m) → IsSound m
       → PacketFact (system_of w.node_states w.history.pool w.history.trace).history m
   fact-at laws w keeps k m there sound =
-      let d = FactOfMembers.deployed meaning laws w.node_states w.history keeps in
+      let d = MembersAtNodes.deployed meaning laws w.node_states w.history keeps in
       d.agreed.agreed.packets (k - 1) m
       (post-at world_group w.history.pool (k - 1) (bytes_as m) d.spelled (numbered-by k w.history.pool (bytes_as m) (nat_eq k 0) refl there) ∙ ap posted_in (reads-back m sound))

@@ -6,8 +6,8 @@ use Rattle.address.specs.Ids.{Address}
 use Rattle.state_transfer.specs.Meanings.{Meaning}
 use Rattle.trace_props.specs.declared.event.Event.{Event}
 use Rattle.trace_props.specs.declared.event.Event.TheVariants.{Crashed}
-use Rattle.acts.specs.Cores.{Core}
-use Rattle.agreement.proofs.KeepBySteps
+use Rattle.law_acts.specs.Cores.{Core}
+use Rattle.law_agreement.proofs.KeepBySteps
 use Rattle.member.specs.declared.input.Input.{Input}
 use Rattle.member.specs.declared.input.Input.TheVariants as input
 use Rattle.member.specs.Members.{MemberModel}
@@ -24,19 +24,19 @@ use Rattle.world_step.specs.declared.node_state.NodeState.{NodeState}
 use Rattle.world_step.specs.declared.node_state.NodeState.TheVariants.{Vacant, Ended, Running}
 use Rattle.world_step.specs.Turns.{about, OthersStand, Stays, Hands, HandsLent, CrashGives, Acts}
 use Rattle.world_step.specs.Invariant.{IsNodeStateOf}
-use Rattle.world_step.proofs.FactOfConnected.{refused-connects, refused-prompt, connects_after-other}
-use Rattle.world_step.proofs.FactOfSystem.{same-at}
+use Rattle.world_step.proofs.NodesConnected.{refused-connects, refused-prompt, connects_after-other}
+use Rattle.world_step.proofs.MembersAsSystem.{same-at}
 use Rattle.world_step.proofs.KeepByTurn
-use Rattle.world_step.proofs.FactOfMembers
-use Rattle.world_step.proofs.FactOfTaken
-use Rattle.world_step.proofs.FactOfTables
+use Rattle.world_step.proofs.MembersAtNodes
+use Rattle.world_step.proofs.InputsTaken
+use Rattle.world_step.proofs.EventsInTable
 use Rattle.world_step.proofs.KeepByStart
 
 module _ {S : Type 0} (meaning : Meaning S)
     (laws : KeepBySteps.Laws meaning) (at new : ℕ → NodeState S) (n : ℕ) (h : History) (w : KeepByTurn.World meaning at h)
     (others : OthersStand n at new) where
   abbrev Turned : WorldEvent → Answer → List Event → List (List ℕ) → Type 0
-  Turned e a t pool = FactOfTaken.Turned meaning new n h e a t pool
+  Turned e a t pool = InputsTaken.Turned meaning new n h e a t pool
 
   -- ---- where no member runs
 
@@ -57,15 +57,15 @@ module _ {S : Type 0} (meaning : Meaning S)
   record Handed (e : WorldEvent) (i : Input) : Type 0 where
     never : last_of n h.trace ≡ None → Answers h e (Refused NotConnected) []
     over : (p : Address) → last_of n h.trace ≡ Some p → IsNodeStateOf {S = S} n (last_of n h.trace) (is_connected n h) h.trace (Ended p) → Answers h e (Refused Closed) []
-    table : (m : MemberModel S) (c : Core S) → FactOfMembers.Runs meaning h n m c → FactOfTaken.Tabled meaning h n m c e i
+    table : (m : MemberModel S) (c : Core S) → MembersAtNodes.Runs meaning h n m c → InputsTaken.Tabled meaning h n m c e i
 
   handed-at : (e : WorldEvent) (i : Input) (old now : NodeState S) (a : Answer) (t : List Event) (pool : List (List ℕ)) → Handed e i → at n ≡ old → new n ≡ now
       → IsNodeStateOf n (last_of n h.trace) (is_connected n h) h.trace old → Hands meaning i a (about old h.trace h.pool) (about now t pool) → Turned e a t pool
   handed-at e i Vacant now a t pool x was is k g = refused e NotConnected Vacant now a t pool was is (x.never k) g.0 g.1
   handed-at e i (Ended p) now a t pool x was is k g = refused e Closed (Ended p) now a t pool was is (x.over p k.0 k) g.0 g.1
   handed-at e i (Running m) now a t pool x was is k g =
-      let y = FactOfMembers.running-here meaning laws at h n m w was in
-      FactOfTaken.hands-turn meaning laws at new n h e i m y.0 w was y.1 (x.table m y.0 y.1) others a now t pool is g
+      let y = MembersAtNodes.running-here meaning laws at h n m w was in
+      InputsTaken.hands-turn meaning laws at new n h e i m y.0 w was y.1 (x.table m y.0 y.1) others a now t pool is g
 
   handed : (e : WorldEvent) (i : Input) (a : Answer) (t : List Event) (pool : List (List ℕ)) → Handed e i → Hands meaning i a (about (at n) h.trace h.pool) (about (new n) t pool)
       → Turned e a t pool
@@ -81,49 +81,49 @@ module _ {S : Type 0} (meaning : Meaning S)
   create-handed = record {
     never = at-none _;
     over = λ p e k. at-ended _ p k;
-    table = λ m c x. FactOfTables.create-table meaning h n m c x;
+    table = λ m c x. EventsInTable.create-table meaning h n m c x;
   }
 
   join-handed : (contact : Address) → Handed (Join n contact) (input.Join contact)
   join-handed contact = record {
     never = at-none _;
     over = λ p e k. at-ended _ p k;
-    table = λ m c x. FactOfTables.join-table meaning h n m c x contact;
+    table = λ m c x. EventsInTable.join-table meaning h n m c x contact;
   }
 
   send-handed : (b : Bor (List ℕ)) → Handed (Send n b.now) (input.Send b)
   send-handed b = record {
     never = at-none _;
     over = λ p e k. at-ended _ p k;
-    table = λ m c x. FactOfTables.send-table meaning h n m c x b;
+    table = λ m c x. EventsInTable.send-table meaning h n m c x b;
   }
 
   tick-handed : Handed (Tick n) input.Tick
   tick-handed = record {
     never = at-none _;
     over = λ p e k. at-ended _ p k;
-    table = λ m c x. FactOfTables.tick-table meaning h n m c x;
+    table = λ m c x. EventsInTable.tick-table meaning h n m c x;
   }
 
   suspect-handed : (q : Address) → Handed (Suspect n q) (input.Suspect q)
   suspect-handed q = record {
     never = at-none _;
     over = λ p e k. at-ended _ p k;
-    table = λ m c x. FactOfTables.suspect-table meaning h n m c x q;
+    table = λ m c x. EventsInTable.suspect-table meaning h n m c x q;
   }
 
   hint-handed : (q : Address) → Handed (MergeHint n q) (input.MergeHint q)
   hint-handed q = record {
     never = at-none _;
     over = λ p e k. at-ended _ p k;
-    table = λ m c x. FactOfTables.hint-table meaning h n m c x q;
+    table = λ m c x. EventsInTable.hint-table meaning h n m c x q;
   }
 
   leave-handed : Handed (Leave n) input.Leave
   leave-handed = record {
     never = at-none _;
     over = λ p e k. at-ended _ p k;
-    table = λ m c x. FactOfTables.leave-table meaning h n m c x;
+    table = λ m c x. EventsInTable.leave-table meaning h n m c x;
   }
 
   -- ---- a crash
@@ -133,14 +133,14 @@ module _ {S : Type 0} (meaning : Meaning S)
   crash-at Vacant now a t pool was is k g same = refused (Crash n) NotConnected Vacant now a t pool was is (at-none _ k) g same
   crash-at (Ended p) now a t pool was is k g same = refused (Crash n) Closed (Ended p) now a t pool was is (at-ended _ p k) g same
   crash-at (Running m) now a t pool was is k g same =
-      let y = FactOfMembers.running-here meaning laws at h n m w was in
+      let y = MembersAtNodes.running-here meaning laws at h n m w was in
       subst (λ (b : Answer). Turned (Crash n) b t pool) (sym g.0) (record {
         ps = [];
         s = Crashed m.address ∷ [];
         trace = g.2;
         puts = same ∙ sym (append-nil h.pool);
-        turn = FactOfTaken.crash-turn meaning laws at new n h (Crash n) m y.0 w was y.1 others (λ b k o. connects_after-other k (is_connected k h) (Crash n) b o) Done (is ∙ g.1)
-            (FactOfMembers.at-member meaning h n m y.0 y.1 Done (Crashed m.address ∷ []) (λ p. AnswersCrash p Done (Crashed m.address ∷ [])) (refl, refl)) tt;
+        turn = InputsTaken.crash-turn meaning laws at new n h (Crash n) m y.0 w was y.1 others (λ b k o. connects_after-other k (is_connected k h) (Crash n) b o) Done (is ∙ g.1)
+            (MembersAtNodes.at-member meaning h n m y.0 y.1 Done (Crashed m.address ∷ []) (λ p. AnswersCrash p Done (Crashed m.address ∷ [])) (refl, refl)) tt;
       })
 
   -- ---- any event of the node's member

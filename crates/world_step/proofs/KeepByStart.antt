@@ -8,9 +8,9 @@ use Rattle.state_transfer.specs.Meanings.{Meaning}
 use Rattle.trace_props.specs.declared.event.Event.{Event}
 use Rattle.trace_props.specs.declared.event.Event.TheVariants.{Started, Crashed}
 use Rattle.trace_props.specs.Observed.{has_started, has_ended}
-use Rattle.trace_props.proofs.FactOfObserved.{has_ended-now}
-use Rattle.acts.specs.Cores.{Core}
-use Rattle.agreement.proofs.KeepBySteps
+use Rattle.trace_props.proofs.ObservedGrow.{has_ended-now}
+use Rattle.law_acts.specs.Cores.{Core}
+use Rattle.law_agreement.proofs.KeepBySteps
 use Rattle.world_model.specs.declared.WorldEvent.TheVariants.{Start}
 use Rattle.world_model.specs.declared.Answer.{Answer}
 use Rattle.world_model.specs.declared.Answer.TheVariants.{Done, Sent, Refused}
@@ -23,14 +23,14 @@ use Rattle.world_step.specs.declared.node_state.NodeState.TheVariants.{Vacant, E
 use Rattle.world_step.specs.NodeStates.{member_here}
 use Rattle.world_step.specs.Turns.{Begun, BeginsSo, Begins, Stays, StartGives, OthersStand}
 use Rattle.world_step.specs.Invariant.{IsNodeStateOf, StartsInTurn, top_of}
-use Rattle.world_step.proofs.FactOfConnected.{connects_after-other, refused-connects}
-use Rattle.world_step.proofs.FactOfTraces.{last_of-push, last_of-still, last_of-other, starts-push}
-use Rattle.world_step.proofs.FactOfSystem.{OnlyHere, only-ended, only-running, member-running, same-at}
-use Rattle.world_step.proofs.FactOfAnswers.{done-here}
+use Rattle.world_step.proofs.NodesConnected.{connects_after-other, refused-connects}
+use Rattle.world_step.proofs.TracesOfNodes.{last_of-push, last_of-still, last_of-other, starts-push}
+use Rattle.world_step.proofs.MembersAsSystem.{OnlyHere, only-ended, only-running, member-running, same-at}
+use Rattle.world_step.proofs.AnswersByTable.{done-here}
 use Rattle.world_step.proofs.KeepByTurn
-use Rattle.world_step.proofs.FactOfMembers
+use Rattle.world_step.proofs.MembersAtNodes
 use Rattle.world_step.proofs.KeepPlayed
-use Rattle.world_step.proofs.FactOfTaken
+use Rattle.world_step.proofs.InputsTaken
 
 -- an incarnation above all of its node has not started
 unstarted : (q : Address) (t : List Event) → StartsInTurn t → top_of q.node t < q.incarnation → (b : Bool) → has_started q t ≡ b → b ≡ false
@@ -44,7 +44,7 @@ module _ {S : Type 0} (meaning : Meaning S)
     (laws : KeepBySteps.Laws meaning) (at new : ℕ → NodeState S) (n : ℕ) (h : History) (w : KeepByTurn.World meaning at h)
     (others : OthersStand n at new) where
   abbrev Turned : Answer → List Event → List (List ℕ) → Type 0
-  Turned a t pool = FactOfTaken.Turned meaning new n h (Start n) a t pool
+  Turned a t pool = InputsTaken.Turned meaning new n h (Start n) a t pool
 
   -- the next member of the node, which nobody is yet
   record IsNext (q : Address) (old : NodeState S) : Type 0 where
@@ -190,8 +190,8 @@ module _ {S : Type 0} (meaning : Meaning S)
   start-here Vacant a now t was is k g = first-at a now t was is k g
   start-here (Ended p) a now t was is k g = after-ended p a now t was is k (nat_lt (p.incarnation + 1) (2 ^ 32)) refl g
   start-here (Running m) a now t was is k g =
-      let x = FactOfMembers.running-here meaning laws at h n m w was in
-      refused AlreadyConnected (Running m) now a t was is (rw (k.0, FactOfMembers.going meaning h n m x.0 x.1) (refl, refl)) g
+      let x = MembersAtNodes.running-here meaning laws at h n m w was in
+      refused AlreadyConnected (Running m) now a t was is (rw (k.0, MembersAtNodes.going meaning h n m x.0 x.1) (refl, refl)) g
 
   pub start-turns : (a : Answer) (t : List Event) → StartGives meaning n a (at n) h.trace (new n) t → Turned a t h.pool
   start-turns a t g = start-here (at n) a (new n) t refl refl (w.node_states n) g

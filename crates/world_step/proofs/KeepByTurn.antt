@@ -5,7 +5,7 @@ use Rattle.std.proofs.lemmas.List.{append-nil}
 use Rattle.address.specs.Ids.{Address}
 use Rattle.state_transfer.specs.Meanings.{Meaning}
 use Rattle.trace_props.specs.declared.event.Event.{Event}
-use Rattle.trace_props.proofs.FactOfObserved.{has_ended-stays}
+use Rattle.trace_props.proofs.ObservedGrow.{has_ended-stays}
 use Rattle.world_model.specs.declared.WorldEvent.{WorldEvent}
 use Rattle.world_model.specs.declared.Answer.{Answer}
 use Rattle.world_model.specs.Histories.{History, last_of, is_connected, connects_after, after}
@@ -15,7 +15,7 @@ use Rattle.world_step.specs.declared.node_state.NodeState.{NodeState}
 use Rattle.world_step.specs.declared.node_state.NodeState.TheVariants.{Vacant, Ended, Running}
 use Rattle.world_step.specs.Turns.{SameNodeStates, OthersStand}
 use Rattle.world_step.specs.Invariant.{IsNodeStateOf, IsWorld, StartsInTurn}
-use Rattle.world_step.proofs.FactOfConnected.{is_connected-push}
+use Rattle.world_step.proofs.NodesConnected.{is_connected-push}
 use Rattle.world_step.proofs.KeepPlayed.{Plays, same-plays}
 
 -- what stands at another node stays what it was

@@ -1,14 +1,14 @@
 -- What every world keeps, from the steps of a world alone: nothing of the code is asked.
 use Rattle.std.proofs.Common.{List, sym, subst}
 use Rattle.state_transfer.specs.Meanings.{Meaning}
-use Rattle.agreement.proofs.KeepBySteps
+use Rattle.law_agreement.proofs.KeepBySteps
 use Rattle.world_model.specs.declared.WorldEvent.{WorldEvent}
 use Rattle.world_model.specs.Histories.{History, target_of, after}
 use Rattle.world_step.specs.Turns.{about, Carries}
 use Rattle.world_step.specs.Invariant.{IsWorld}
 use Rattle.world_step.specs.Worlds.{WorldModel, WorldStep, Runs, IsReached, no_world}
 use Rattle.world_step.specs.Worlds.Runs.{Still, Next}
-use Rattle.world_step.proofs.FactOfWorlds
+use Rattle.world_step.proofs.WorldsAfterEvents
 
 module _ {S : Type 0} (meaning : Meaning S) (laws : KeepBySteps.Laws meaning) where
   -- what every world keeps
@@ -20,7 +20,7 @@ module _ {S : Type 0} (meaning : Meaning S) (laws : KeepBySteps.Laws meaning) wh
   step-keeps old new e g w =
       let h = after old.history e g.answer g.packets g.stretch in
       subst (IsWorld meaning new.node_states) (sym g.goes_on)
-      (FactOfWorlds.world-carries meaning laws old.node_states new.node_states old.history e g.answer h.trace h.pool w
+      (WorldsAfterEvents.world-carries meaning laws old.node_states new.node_states old.history e g.answer h.trace h.pool w
       (subst (λ (k : History). Carries meaning (target_of e) e g.answer (about old.node_states old.history.trace old.history.pool) (about new.node_states k.trace k.pool)) g.goes_on g.does))
 
   -- and so do steps one after another
@@ -30,4 +30,4 @@ module _ {S : Type 0} (meaning : Meaning S) (laws : KeepBySteps.Laws meaning) wh
 
   -- so every world keeps it
   pub reached-keeps : (w : WorldModel S) → IsReached meaning w → Keeps w
-  reached-keeps w r = runs-keep no_world w r.events r.runs (FactOfWorlds.no-world meaning)
+  reached-keeps w r = runs-keep no_world w r.events r.runs (WorldsAfterEvents.no-world meaning)

@@ -11,14 +11,14 @@ use Rattle.member.specs.declared.input.Input.{Input}
 use Rattle.member.specs.Members.{MemberModel}
 use Rattle.member.specs.Handling.{Handled}
 use Rattle.step_output.specs.declared.output.Output.{Output}
-use Rattle.deployment.specs.Deployments.{Step, Start, Call, Crash, Deployment, with_member, whose, left_with, puts_of, happens_by, after, running_on, IsNew, DoesSo, StartsOnce, HandsOver, MayBeHanded, IsPlayed, bytes_of}
+use Rattle.law_processes.specs.Deployments.{Step, Start, Call, Crash, Deployment, with_member, whose, left_with, puts_of, happens_by, after, running_on, IsNew, DoesSo, StartsOnce, HandsOver, MayBeHanded, IsPlayed, bytes_of}
 use Rattle.world_model.specs.Packets.{world_group}
 use Rattle.world_step.specs.declared.node_state.NodeState.{NodeState}
 use Rattle.world_step.specs.NodeStates.{member_here, deployment_of}
 use Rattle.world_step.specs.Turns.{SameNodeStates, OthersStand}
-use Rattle.world_step.proofs.FactOfSystem.{OnlyHere, members, members-with, members-same}
-use Rattle.deployment.proofs.FactOfPlayed.{step-plays}
-use Rattle.deployment.proofs.NewMembers.{new_member, is-new}
+use Rattle.world_step.proofs.MembersAsSystem.{OnlyHere, members, members-with, members-same}
+use Rattle.law_processes.proofs.DeploymentsGoOn.{step-plays}
+use Rattle.law_processes.proofs.NewMembers.{new_member, is-new}
 
 module _ {S : Type 0} (meaning : Meaning S) where
   -- a world's deployment was played

@@ -12,7 +12,7 @@ use Rattle.world_model.specs.Packets.{packet_numbered, destination_of}
 use Rattle.world_step.specs.declared.node_state.NodeState.{NodeState}
 use Rattle.world_step.specs.Turns.{about, HandsOver, Delivers, Carries}
 use Rattle.world_step.specs.Worlds.{WorldStep}
-use Rattle.world_step.proofs.FactOfWidening.{then, Wider, still, acts-widen, hears-widens}
+use Rattle.world_step.proofs.WorldsWiden.{then, Wider, still, acts-widen, hears-widens}
 
 module _ {S : Type 0} (meaning : Meaning S) where
   -- whatever an event does, what happened joins the trace and what is put out joins the pool: with some bytes,

@@ -5,7 +5,7 @@ use Rattle.address.specs.Ids.{Address}
 use Rattle.state_transfer.specs.Meanings.{Meaning}
 use Rattle.trace_props.specs.declared.event.Event.{Event}
 use Rattle.trace_props.specs.Observed.{has_started, has_ended}
-use Rattle.deployment.specs.Deployments.{IsPlayed}
+use Rattle.law_processes.specs.Deployments.{IsPlayed}
 use Rattle.member.specs.Members.{MemberModel, core_of}
 use Rattle.world_model.specs.Histories.{History, last_of, is_connected}
 use Rattle.world_model.specs.Faithful.{IsFaithful}

@@ -8,8 +8,8 @@ use Rattle.member.specs.declared.error.Error.{Error}
 use Rattle.member.specs.declared.error.Error.TheVariants as error
 pub use Rattle.member.specs.Errors.{is_closed}
 use Rattle.member.specs.Members.{MemberModel}
-pub use Rattle.deployment.specs.Deployments.{bytes_of}
-use Rattle.deployment.specs.Deployments.{Deployment}
+pub use Rattle.law_processes.specs.Deployments.{bytes_of}
+use Rattle.law_processes.specs.Deployments.{Deployment}
 use Rattle.world_model.specs.declared.Answer.{Answer}
 use Rattle.world_model.specs.declared.Answer.TheVariants.{Done, Sent, Refused}
 use Rattle.world_step.specs.declared.node_state.NodeState.{NodeState}

@@ -7,7 +7,7 @@ use Rattle.address.specs.Ids.{Address, IsAddress}
 use Rattle.state_transfer.specs.Meanings.{Meaning}
 use Rattle.trace_props.specs.declared.event.Event.{Event}
 use Rattle.trace_props.specs.declared.event.Event.TheVariants.{Started, Crashed}
-use Rattle.acts.specs.Cores.{idle}
+use Rattle.law_acts.specs.Cores.{idle}
 use Rattle.membership.specs.MemberStates.{idle_member}
 use Rattle.member.specs.Running.{IsAlive}
 use Rattle.member.specs.declared.error.Error.{Error}

@@ -8,10 +8,10 @@ ghost use Rattle.world_step.specs.NodeStates.{bytes_of};
 ghost use Rattle.world_step.specs.Outputs.{AreAddressed};
 
 use address::Address;
+use owned_bytes::Bytes;
 use std::alloc::{AllocError, Global};
 use std::marker::Model;
 use step_output::Outgoing;
-use trace_props::Bytes;
 
 /// Packets as bytes, numbered from 1 in the order in which they were put out. Nothing is ever removed. To whom each goes is kept beside it.
 #[derive(Debug, Drop)]

@@ -2,8 +2,9 @@
 
 use address::{Address, Node};
 use chat_log::ChatLog;
+use owned_bytes::Bytes;
 use std::alloc::Global;
-use trace_props::{Bytes, Event};
+use trace_props::Event;
 use wire::decode;
 use world::World;
 use world_model::WorldEvent;

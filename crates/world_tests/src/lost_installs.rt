@@ -2,9 +2,10 @@
 
 use address::{Address, Node};
 use chat_log::{ChatLog, LongChat};
+use owned_bytes::Bytes;
 use state_transfer::Receiver;
 use std::alloc::Global;
-use trace_props::{Bytes, Event};
+use trace_props::Event;
 use world::World;
 use world_model::WorldEvent;
 

@@ -4,7 +4,8 @@
 use address::{Address, Node, ViewId};
 use chat_log::ChatLog;
 use law_dead_ends::nothing_is_a_dead_end;
-use trace_props::{Bytes, Event, Install};
+use owned_bytes::Bytes;
+use trace_props::{Event, Install};
 use world::World;
 use world_model::WorldEvent;
 

@@ -5,7 +5,7 @@ use Rattle.std.proofs.lemmas.Option.{slice_get_read}
 use Rattle.std.specs.declared.cmp.Ordering.TheVariants.{Equal, Greater}
 use Rattle.keyed_entries.specs.Entries.{key_cmp}
 use Rattle.keyed_entries.specs.EntryLaws.{flipped}
-use Rattle.keyed_entries.proofs.FactOfPlaces.{AllBelow, StopsAt, same-order, below-before, below-more, held-at, free-at}
+use Rattle.keyed_entries.proofs.KeysHavePlaces.{AllBelow, StopsAt, same-order, below-before, below-more, held-at, free-at}
 use Rattle.keyed_entries.proofs.find.Goals as goal
 
 pub returns-in-Equal : goal.returns-in-Equal

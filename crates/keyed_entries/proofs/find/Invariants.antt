@@ -1,5 +1,5 @@
 use Rattle.std.proofs.Common.{◌-◌, ◌≤◌, take, length}
-use Rattle.keyed_entries.proofs.FactOfPlaces.{AllBelow, StopsAt}
+use Rattle.keyed_entries.proofs.KeysHavePlaces.{AllBelow, StopsAt}
 use Rattle.keyed_entries.proofs.find.Given as goal
 
 abbrev pub decreases-loop-low : goal.decreases-loop-low

@@ -1,6 +1,6 @@
 use Rattle.std.proofs.Common.{◌-◌, ◌≤◌, drop, length, sym, ◌∙◌, arith}
 use Rattle.std.proofs.lemmas.List.{length-drop}
-use Rattle.keyed_entries.proofs.FactOfPlaces.{rises-short}
+use Rattle.keyed_entries.proofs.KeysHavePlaces.{rises-short}
 use Rattle.keyed_entries.proofs.is_rising.Goals as goal
 
 pub returns : goal.returns

@@ -1,4 +1,4 @@
-use Rattle.keyed_entries.proofs.FactOfLookUps.{found-put, found-without, alike}
+use Rattle.keyed_entries.proofs.LookUpsFind.{found-put, found-without, alike}
 use Rattle.keyed_entries.proofs.look_ups.Goals as goal
 
 pub returns-clause-put : goal.returns-clause-put

@@ -12,10 +12,11 @@ ghost use Rattle.trace_checker.specs.Copies.{EntersWith, KnowsStates};
 
 use super::notes::{delivery_in, install_in};
 use address::{Address, ViewId};
+use owned_bytes::Bytes;
 use state_transfer::Receiver;
 use std::alloc::{AllocError, Global};
 use std::collections::HashMap;
-use trace_props::{Bytes, Delivery, Event, Install};
+use trace_props::{Delivery, Event, Install};
 
 /// An address that a program holds is one.
 pub fn known_address(address: Address)

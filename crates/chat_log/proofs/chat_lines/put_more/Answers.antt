@@ -1,5 +1,5 @@
 use Rattle.std.proofs.Common.{rules, sym}
-use Rattle.chat_log.proofs.FactOfLinesLeft.{printed-one, printed-all}
+use Rattle.chat_log.proofs.LinesNotPrinted.{printed-one, printed-all}
 use Rattle.chat_log.proofs.chat_lines.put_more.Goals as goal
 
 pub loop-sender-preserved : goal.loop-sender-preserved

@@ -1,5 +1,5 @@
 use Rattle.std.proofs.Common.{arith}
-use Rattle.chat_log.proofs.FactOfHalves.{halves}
+use Rattle.chat_log.proofs.HalvesOfChats.{halves}
 use Rattle.chat_log.proofs.writing.put_chat.Goals as goal
 
 pub overflow_add-WIDTH : goal.overflow_add-WIDTH

@@ -1,6 +1,6 @@
 use Rattle.std.proofs.Common.{take_all}
 use Rattle.world_step.specs.Worlds.{shown}
-use Rattle.commands.proofs.FactOfAsides.{none-beside, more-beside, all-beside}
+use Rattle.commands.proofs.AsidesGrow.{none-beside, more-beside, all-beside}
 use Rattle.commands.proofs.asides.play_events.Goals as goal
 
 -- no event yet

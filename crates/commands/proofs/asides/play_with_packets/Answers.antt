@@ -2,7 +2,7 @@ use Rattle.std.proofs.Common.{◌∙◌, ◌++◌, [], sym, ap, length}
 use Rattle.std.specs.List.{cons_option}
 use Rattle.world_model.specs.Histories.{target_of}
 use Rattle.commands.specs.Asides.{site_of, handed_over, refused_between, put_out_between}
-use Rattle.commands.proofs.FactOfAsides.{added-all, put-out-same}
+use Rattle.commands.proofs.AsidesGrow.{added-all, put-out-same}
 use Rattle.commands.proofs.asides.play_with_packets.Goals as goal
 
 -- what was handed over, refused and put out

@@ -1,4 +1,4 @@
-use Rattle.commands.proofs.FactOfVerdicts.{judged-text, unjudged-text}
+use Rattle.commands.proofs.ChecksEnd.{judged-text, unjudged-text}
 use Rattle.commands.proofs.checks.judge.Goals as goal
 
 pub returns-in-Ok : goal.returns-in-Ok

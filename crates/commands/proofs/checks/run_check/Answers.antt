@@ -1,9 +1,9 @@
 use Rattle.std.proofs.Common.{◌∙◌, ap, sym}
 use Rattle.trace_reader.specs.Traces.{trace_of}
 use Rattle.endings.specs.Outcomes.IsAnswer.{ReaderFails}
-use Rattle.commands.proofs.FactOfVerdicts.{checked-text, faulty-text, unread-trace}
+use Rattle.commands.proofs.ChecksEnd.{checked-text, faulty-text, unread-trace}
 use Rattle.commands.proofs.checks.run_check.Goals as goal
-use Rattle.vsync_text.proofs.FactOfWriting.{appends_nothing}
+use Rattle.vsync_text.proofs.LinesWritten.{appends_nothing}
 
 pub returns-in-Err-Memory : goal.returns-in-Err-Memory
 returns-in-Err-Memory g c = unread-trace g.R.Receiver.meaning _ _ _ _ c.end_in_memory.ensures

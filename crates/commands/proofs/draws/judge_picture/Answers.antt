@@ -1,6 +1,6 @@
 use Rattle.std.proofs.Common.{refl, []}
 use Rattle.commands.specs.Draws.{IsJudgedAs}
-use Rattle.commands.proofs.FactOfDrawings.{drawn-as, unread-as, picture-of-same}
+use Rattle.commands.proofs.DrawingsEnd.{drawn-as, unread-as, picture-of-same}
 use Rattle.commands.proofs.draws.judge_picture.Goals as goal
 
 pub returns-in-Ok : goal.returns-in-Ok

@@ -1,8 +1,8 @@
 use Rattle.trace_props.specs.declared.verdict.Verdict.TheVariants.{Holds}
 use Rattle.world_step.specs.Worlds.{shown}
 use Rattle.commands.specs.Draws.{TellsRun}
-use Rattle.commands.proofs.FactOfAsides.{ran-beside}
-use Rattle.commands.proofs.FactOfDrawings.{drawn-as, unread-as}
+use Rattle.commands.proofs.AsidesGrow.{ran-beside}
+use Rattle.commands.proofs.DrawingsEnd.{drawn-as, unread-as}
 use Rattle.commands.proofs.draws.play_picture.Goals as goal
 
 pub returns-in-Ok : goal.returns-in-Ok

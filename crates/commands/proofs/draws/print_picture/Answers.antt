@@ -1,4 +1,4 @@
-use Rattle.commands.proofs.FactOfDrawings.{drawn-picture, undrawn-picture}
+use Rattle.commands.proofs.DrawingsEnd.{drawn-picture, undrawn-picture}
 use Rattle.commands.proofs.draws.print_picture.Goals as goal
 
 pub returns-in-Ok : goal.returns-in-Ok

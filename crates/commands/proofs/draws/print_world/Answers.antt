@@ -1,6 +1,6 @@
 use Rattle.std.proofs.Common.{◌∙◌}
 use Rattle.trace_props.specs.declared.verdict.Verdict.TheVariants.{Holds}
-use Rattle.commands.proofs.FactOfDrawings.{picture-of-same}
+use Rattle.commands.proofs.DrawingsEnd.{picture-of-same}
 use Rattle.commands.proofs.draws.print_world.Goals as goal
 
 pub returns : goal.returns

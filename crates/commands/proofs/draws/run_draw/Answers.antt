@@ -2,9 +2,9 @@ use Rattle.std.proofs.Common.{◌≡◌, ◌∙◌, ap, sym, Err}
 use Rattle.script_reader.specs.Script.{script_of}
 use Rattle.endings.specs.Outcomes.IsAnswer.{ReaderFails, Answers}
 use Rattle.commands.specs.Draws.{IsDrawnScript, TellsScript}
-use Rattle.commands.proofs.FactOfDrawings.{drawn-run, faulty-as, unread-as, unread-answer}
+use Rattle.commands.proofs.DrawingsEnd.{drawn-run, faulty-as, unread-as, unread-answer}
 use Rattle.commands.proofs.draws.run_draw.Goals as goal
-use Rattle.vsync_text.proofs.FactOfWriting.{appends_nothing}
+use Rattle.vsync_text.proofs.LinesWritten.{appends_nothing}
 
 pub returns-in-Err-Memory : goal.returns-in-Err-Memory
 returns-in-Err-Memory g c = unread-answer (IsDrawnScript g.R.Receiver.meaning c.args.packets) _ _ _ _ (λ bytes. unread-as (TellsScript g.R.Receiver.meaning c.args.packets bytes) _ _ _ _ c.end_undrawn.ensures)

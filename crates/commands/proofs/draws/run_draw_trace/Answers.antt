@@ -2,9 +2,9 @@ use Rattle.std.proofs.Common.{◌≡◌, ◌∙◌, ap, sym, Err}
 use Rattle.trace_reader.specs.Traces.{trace_of}
 use Rattle.endings.specs.Outcomes.IsAnswer.{ReaderFails, Answers}
 use Rattle.commands.specs.Draws.{IsDrawnTrace, TellsTrace}
-use Rattle.commands.proofs.FactOfDrawings.{drawn-judged, faulty-as, unread-as, unread-answer}
+use Rattle.commands.proofs.DrawingsEnd.{drawn-judged, faulty-as, unread-as, unread-answer}
 use Rattle.commands.proofs.draws.run_draw_trace.Goals as goal
-use Rattle.vsync_text.proofs.FactOfWriting.{appends_nothing}
+use Rattle.vsync_text.proofs.LinesWritten.{appends_nothing}
 
 pub returns-in-Err-Memory : goal.returns-in-Err-Memory
 returns-in-Err-Memory g c = unread-answer (IsDrawnTrace g.R.Receiver.meaning) _ _ _ _ (λ bytes. unread-as (TellsTrace g.R.Receiver.meaning bytes) _ _ _ _ c.end_undrawn.ensures)

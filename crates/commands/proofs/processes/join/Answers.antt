@@ -2,7 +2,7 @@ use Rattle.std.proofs.Common.{List, sym, subst}
 use Rattle.trace_props.specs.declared.event.Event.{Event}
 use Rattle.trace_props.specs.Verdicts.{IsVerdict}
 use Rattle.trace_merge.specs.Merges.{lists_of, IsOrderedMerge}
-use Rattle.commands.proofs.FactOfProcesses.{judged, unordered, unjudged}
+use Rattle.commands.proofs.ProcessesWrite.{judged, unordered, unjudged}
 use Rattle.commands.proofs.processes.join.Goals as goal
 
 pub returns-in-Ok-check : goal.returns-in-Ok-check

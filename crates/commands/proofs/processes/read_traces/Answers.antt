@@ -6,7 +6,7 @@ use Rattle.trace_merge.specs.Merges.{lists_of}
 use Rattle.script_reader.specs.Texts.{IsUnread}
 use Rattle.commands.specs.MemberTexts.{member_trace_of}
 use Rattle.commands.specs.Processes.{texts_of, AreTracesOf, IsUnreadIn}
-use Rattle.commands.proofs.FactOfProcesses.{one-more-read, is-unread}
+use Rattle.commands.proofs.ProcessesWrite.{one-more-read, is-unread}
 use Rattle.commands.proofs.processes.read_traces.Goals as goal
 
 pub loop-text-preserved : goal.loop-text-preserved

@@ -2,7 +2,7 @@ use Rattle.std.proofs.Common.{List, sym, subst}
 use Rattle.trace_props.specs.Recorded.{Recorded}
 use Rattle.trace_merge.specs.Merges.{lists_of}
 use Rattle.commands.specs.Processes.{texts_of, AreTracesOf}
-use Rattle.commands.proofs.FactOfProcesses.{reads, faulty, unread}
+use Rattle.commands.proofs.ProcessesWrite.{reads, faulty, unread}
 use Rattle.commands.proofs.processes.run_check_processes.Goals as goal
 
 pub returns-in-Ok : goal.returns-in-Ok

@@ -1,5 +1,5 @@
 use Rattle.world_step.specs.Worlds.{shown}
-use Rattle.commands.proofs.FactOfRuns.{played}
+use Rattle.commands.proofs.RunsPrint.{played}
 use Rattle.commands.proofs.scripts.play.Goals as goal
 
 pub returns : goal.returns

@@ -1,6 +1,6 @@
 use Rattle.std.proofs.Common.{◌∙◌}
-use Rattle.endings.proofs.FactOfTexts.{prints-failed, prints-some, prints-part, prints-all}
-use Rattle.commands.proofs.FactOfRuns.{printed-as}
+use Rattle.endings.proofs.TextsFollow.{prints-failed, prints-some, prints-part, prints-all}
+use Rattle.commands.proofs.RunsPrint.{printed-as}
 use Rattle.commands.proofs.scripts.print_run.Goals as goal
 
 pub returns-in-Failed : goal.returns-in-Failed

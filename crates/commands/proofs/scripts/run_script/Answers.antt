@@ -1,6 +1,6 @@
 use Rattle.script_reader.specs.Script.{as_written}
 use Rattle.commands.specs.Outcomes.{IsRunText}
-use Rattle.endings.proofs.FactOfTexts.{ran-text, unrun-text}
+use Rattle.endings.proofs.TextsFollow.{ran-text, unrun-text}
 use Rattle.commands.proofs.scripts.run_script.Goals as goal
 
 pub returns-in-Ok : goal.returns-in-Ok

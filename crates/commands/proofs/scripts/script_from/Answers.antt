@@ -1,9 +1,9 @@
 use Rattle.std.proofs.Common.{◌∙◌, ap, sym}
 use Rattle.script_reader.specs.Script.{script_by}
 use Rattle.endings.specs.Outcomes.IsAnswer.{ReaderFails}
-use Rattle.endings.proofs.FactOfTexts.{unread-text, fault-text}
+use Rattle.endings.proofs.TextsFollow.{unread-text, fault-text}
 use Rattle.commands.proofs.scripts.script_from.Goals as goal
-use Rattle.vsync_text.proofs.FactOfWriting.{appends_nothing}
+use Rattle.vsync_text.proofs.LinesWritten.{appends_nothing}
 
 pub returns-in-Err-Memory : goal.returns-in-Err-Memory
 returns-in-Err-Memory g c = unread-text g.P.Payloads.payload_of _ _ _ _ c.end_in_memory.ensures

@@ -1,5 +1,5 @@
 use Rattle.std.proofs.Common.{◌≡◌, ◌∙◌, arith, rules}
-use Rattle.commands.proofs.FactOfStateLines.{printed-next, printed-some, printed-all}
+use Rattle.commands.proofs.StateLinesFollow.{printed-next, printed-some, printed-all}
 use Rattle.commands.proofs.states.append_states.Goals as goal
 use Rattle.address.proofs.Plain.{on-err}
 use Rattle.limits.specs.declared.TheConstants.{GREATEST_NODE}

@@ -1,5 +1,5 @@
 use Rattle.endings.specs.Outcomes.Ends.{Whole, Cut}
-use Rattle.endings.proofs.FactOfTexts.{appends-kept, ends-late}
+use Rattle.endings.proofs.TextsFollow.{appends-kept, ends-late}
 use Rattle.endings.proofs.ends.end_with.Goals as goal
 
 -- the writer took a beginning and failed

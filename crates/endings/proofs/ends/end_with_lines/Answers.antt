@@ -1,4 +1,4 @@
-use Rattle.endings.proofs.FactOfTexts.{lines-ended, lines-cut, lines-failed, of-error, of-success}
+use Rattle.endings.proofs.TextsFollow.{lines-ended, lines-cut, lines-failed, of-error, of-success}
 use Rattle.endings.proofs.ends.end_with_lines.Goals as goal
 
 pub returns-then-is_ok : goal.returns-then-is_ok

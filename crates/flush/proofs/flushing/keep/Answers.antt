@@ -1,5 +1,5 @@
 use Rattle.std.proofs.Common.{◌∙◌}
-use Rattle.flush.proofs.FactOfOwnedReports.{comes-last}
+use Rattle.flush.proofs.ReportsKept.{comes-last}
 use Rattle.flush.proofs.flushing.keep.Goals as goal
 
 pub returns-clause-ok : goal.returns-clause-ok

@@ -1,4 +1,4 @@
-use Rattle.lock_fencing.proofs.FactOfStamped.{said-spell, stamped-spell}
+use Rattle.lock_fencing.proofs.CommandsAreStamped.{said-spell, stamped-spell}
 use Rattle.lock_fencing.proofs.law.deployments_fence.Goals as goal
 
 pub returns-clause-of_tables : goal.returns-clause-of_tables

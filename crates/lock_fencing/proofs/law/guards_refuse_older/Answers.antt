@@ -1,4 +1,4 @@
-use Rattle.lock_fencing.proofs.FactOfGuards.{refuses-below, never-back, none-below, none-older}
+use Rattle.lock_fencing.proofs.GuardsRise.{refuses-below, never-back, none-below, none-older}
 use Rattle.lock_fencing.proofs.law.guards_refuse_older.Goals as goal
 
 pub returns-clause-below : goal.returns-clause-below

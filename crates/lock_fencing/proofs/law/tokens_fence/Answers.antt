@@ -1,5 +1,5 @@
-use Rattle.lock_fencing.proofs.FactOfAcross.{tokens-of-views}
-use Rattle.lock_fencing.proofs.FactOfFencing.{fenced, fenced-in-views, tokens-rise}
+use Rattle.lock_fencing.proofs.TokensAcrossViews.{tokens-of-views}
+use Rattle.lock_fencing.proofs.TokensRiseInViews.{fenced, fenced-in-views, tokens-rise}
 use Rattle.lock_fencing.proofs.law.tokens_fence.Goals as goal
 
 pub returns-clause-within : goal.returns-clause-within

@@ -1,4 +1,4 @@
-use Rattle.lock_service.proofs.FactOfQueue.{forgets-nobody}
+use Rattle.lock_service.proofs.WaitersAreKept.{forgets-nobody}
 use Rattle.lock_service.proofs.law.forgets_nobody.Goals as goal
 
 pub returns : goal.returns

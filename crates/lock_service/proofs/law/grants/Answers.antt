@@ -1,5 +1,5 @@
-use Rattle.lock_service.proofs.FactOfEvents.{answers-stay}
-use Rattle.lock_service.proofs.FactOfGrants.{true-grants}
+use Rattle.lock_service.proofs.EventsServed.{answers-stay}
+use Rattle.lock_service.proofs.GrantsWereAsked.{true-grants}
 use Rattle.lock_service.proofs.law.grants.Goals as goal
 
 pub returns-clause-stay : goal.returns-clause-stay

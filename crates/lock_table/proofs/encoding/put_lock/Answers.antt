@@ -1,7 +1,7 @@
 use Rattle.big_endian.specs.Spelled.{address_bytes}
 use Rattle.tokens.specs.Spelling.{token_bytes}
 use Rattle.lock_table.specs.Forms.{waiters_bytes}
-use Rattle.lock_table.proofs.FactOfAppends.{three-parts}
+use Rattle.lock_table.proofs.PartsAppend.{three-parts}
 use Rattle.lock_table.proofs.encoding.put_lock.Goals as goal
 
 pub returns-clause-items : goal.returns-clause-items

@@ -1,6 +1,6 @@
 use Rattle.byteorder.specs.Endian.{big_bytes}
 use Rattle.lock_table.specs.Commands.{view_bytes}
-use Rattle.lock_table.proofs.FactOfAppends.{two-parts}
+use Rattle.lock_table.proofs.PartsAppend.{two-parts}
 use Rattle.lock_table.proofs.encoding.put_roll.Goals as goal
 
 pub returns-clause-items : goal.returns-clause-items

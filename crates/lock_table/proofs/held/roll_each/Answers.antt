@@ -1,6 +1,6 @@
 use Rattle.std.proofs.Common.{refl, sym, ap, arith}
 use Rattle.lock_table.specs.Locks.{members, rolled}
-use Rattle.lock_table.proofs.FactOfRolls.{left-at, rolls-on, rolls-end}
+use Rattle.lock_table.proofs.LocksRoll.{left-at, rolls-on, rolls-end}
 use Rattle.lock_table.proofs.held.roll_each.Goals as goal
 
 pub loop-entry-init : goal.loop-entry-init

@@ -1,5 +1,5 @@
 use Rattle.lock_table.specs.Locks.{members, rolled}
-use Rattle.lock_table.proofs.FactOfRolls.{Rolls}
+use Rattle.lock_table.proofs.LocksRoll.{Rolls}
 use Rattle.lock_table.proofs.held.roll_each.Given as goal
 
 -- the locks so far that are held, and what becomes of the others, are what becomes of all

@@ -1,4 +1,4 @@
-use Rattle.lock_table.proofs.FactOfQueues.{queue-after, stands-on, granted-first}
+use Rattle.lock_table.proofs.QueuesKeepOrder.{queue-after, stands-on, granted-first}
 use Rattle.lock_table.proofs.law.in_turn.Goals as goal
 
 pub returns-clause-turns : goal.returns-clause-turns

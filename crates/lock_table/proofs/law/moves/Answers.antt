@@ -1,4 +1,4 @@
-use Rattle.lock_table.proofs.FactOfMoves.{free-granted, held-waits, release-leaves, roll-leaves}
+use Rattle.lock_table.proofs.MovesAreMade.{free-granted, held-waits, release-leaves, roll-leaves}
 use Rattle.lock_table.proofs.law.moves.Goals as goal
 
 pub returns-clause-grants : goal.returns-clause-grants

@@ -1,6 +1,6 @@
 use Rattle.lock_table.specs.Turns.{after_all}
 use Rattle.lock_table.specs.Locks.{lock_of}
-use Rattle.lock_table.proofs.FactOfHolders.{holds-on, holds-said, leaves-between}
+use Rattle.lock_table.proofs.HoldersHold.{holds-on, holds-said, leaves-between}
 use Rattle.lock_table.proofs.law.one_holder.Goals as goal
 
 pub returns-clause-holds_on : goal.returns-clause-holds_on

@@ -1,4 +1,4 @@
-use Rattle.lock_table.proofs.FactOfReleases.{other-release}
+use Rattle.lock_table.proofs.OthersRelease.{other-release}
 use Rattle.lock_table.proofs.law.release_by_another.Goals as goal
 
 pub returns : goal.returns

@@ -1,4 +1,4 @@
-use Rattle.lock_table.proofs.FactOfStamps.{stamped-spells, said-spells, first-spells}
+use Rattle.lock_table.proofs.StampsSpellViews.{stamped-spells, said-spells, first-spells}
 use Rattle.lock_table.proofs.law.stamps_spell.Goals as goal
 
 pub returns-clause-stamped : goal.returns-clause-stamped

@@ -1,5 +1,5 @@
-use Rattle.lock_table.proofs.FactOfTokens.{later-above}
-use Rattle.lock_table.proofs.FactOfOneMessage.{one-message-rises}
+use Rattle.lock_table.proofs.GrantsRise.{later-above}
+use Rattle.lock_table.proofs.OneMessageGrants.{one-message-rises}
 use Rattle.lock_table.proofs.law.tokens_rise.Goals as goal
 
 pub returns-clause-along : goal.returns-clause-along

@@ -1,5 +1,5 @@
-use Rattle.map_service.proofs.FactOfEvents.{answers-stay}
-use Rattle.map_service.proofs.FactOfAnswers.{true-answers, each-delivery}
+use Rattle.map_service.proofs.EventsKnown.{answers-stay}
+use Rattle.map_service.proofs.AnswersSayWhat.{true-answers, each-delivery}
 use Rattle.map_service.proofs.law.answers.Goals as goal
 
 pub returns-clause-stay : goal.returns-clause-stay

@@ -1,4 +1,4 @@
-use Rattle.map_service.proofs.FactOfTickets.{forgets-nobody}
+use Rattle.map_service.proofs.TicketsAreKept.{forgets-nobody}
 use Rattle.map_service.proofs.law.forgets_nobody.Goals as goal
 
 pub returns : goal.returns

@@ -1,7 +1,7 @@
 use Rattle.std.proofs.Common.{sym, ap, ◌∙◌}
 use Rattle.membership.specs.declared.member_state.MemberState.{MemberState}
 use Rattle.member_views.proofs.KeepSteady.{Fresh}
-use Rattle.member.proofs.FactOfStep.{from-some, steady-runs, connected-handled, create-handled}
+use Rattle.member.proofs.StepsPromise.{from-some, steady-runs, connected-handled, create-handled}
 use Rattle.member.proofs.handling.create_group.Goals as goal
 
 pub returns-then-is_connected-clause-handled : goal.returns-then-is_connected-clause-handled

@@ -1,5 +1,5 @@
 use Rattle.std.proofs.Common.{sym, ◌∙◌}
-use Rattle.member.proofs.FactOfStep.{leave-handled, left-none}
+use Rattle.member.proofs.StepsPromise.{leave-handled, left-none}
 use Rattle.member.proofs.handling.leave_group.Goals as goal
 
 pub returns-in-Ok-clause-handled : goal.returns-in-Ok-clause-handled

@@ -1,4 +1,4 @@
-use Rattle.member.proofs.FactOfStep.{from-some, hint-handled}
+use Rattle.member.proofs.StepsPromise.{from-some, hint-handled}
 use Rattle.member.proofs.handling.merge_hint.Goals as goal
 
 pub returns-in-Ok-clause-handled : goal.returns-in-Ok-clause-handled

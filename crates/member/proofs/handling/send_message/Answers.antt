@@ -1,5 +1,5 @@
 use Rattle.std.proofs.Common.{sym, ◌∙◌}
-use Rattle.member.proofs.FactOfStep.{from-some, still, unsent-handled, send-handled, unsaid-handled}
+use Rattle.member.proofs.StepsPromise.{from-some, still, unsent-handled, send-handled, unsaid-handled}
 use Rattle.member.proofs.handling.send_message.Goals as goal
 
 pub returns-in-Some-send_refusal-clause-alive : goal.returns-in-Some-send_refusal-clause-alive

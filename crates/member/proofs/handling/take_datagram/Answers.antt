@@ -1,7 +1,7 @@
 use Rattle.std.proofs.Common.{sym, ap, ◌∙◌, Err}
 use Rattle.membership.specs.declared.stop.Stop.{Stop}
-use Rattle.member.proofs.FactOfStep.{from-some, still}
-use Rattle.member.proofs.FactOfDatagram.{wire-handled, packet-handled, packet-stopped}
+use Rattle.member.proofs.StepsPromise.{from-some, still}
+use Rattle.member.proofs.DatagramsStep.{wire-handled, packet-handled, packet-stopped}
 use Rattle.member.proofs.handling.take_datagram.Goals as goal
 
 pub take_packet-requires : goal.take_packet-requires

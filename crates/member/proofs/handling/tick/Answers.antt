@@ -1,4 +1,4 @@
-use Rattle.member.proofs.FactOfStep.{from-some, tick-handled}
+use Rattle.member.proofs.StepsPromise.{from-some, tick-handled}
 use Rattle.member.proofs.handling.tick.Goals as goal
 
 pub pass_time-requires : goal.pass_time-requires

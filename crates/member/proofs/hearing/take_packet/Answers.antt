@@ -1,7 +1,7 @@
 use Rattle.std.proofs.Common.{sym, ◌∙◌}
-use Rattle.member.proofs.FactOfStep.{stays-connected}
-use Rattle.member.proofs.FactOfDatagram.{handed, take-did, take-ignored}
-use Rattle.member_messages.proofs.FactOfOpen.{nothing-did}
+use Rattle.member.proofs.StepsPromise.{stays-connected}
+use Rattle.member.proofs.DatagramsStep.{handed, take-did, take-ignored}
+use Rattle.member_messages.proofs.MembersAreOpen.{nothing-did}
 use Rattle.member.proofs.hearing.take_packet.Goals as goal
 
 pub returns-in_ok-hear-clause-did : goal.returns-in_ok-hear-clause-did

@@ -1,5 +1,5 @@
 use Rattle.std.proofs.Common.{◌≡◌, ◌≤◌, length, take}
-use Rattle.acts.specs.Acts.{others_of}
+use Rattle.law_acts.specs.Acts.{others_of}
 use Rattle.member.proofs.member.others_listed.Given as goal
 
 abbrev pub invariant-loop-member : goal.invariant-loop-member

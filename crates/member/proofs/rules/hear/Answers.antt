@@ -1,13 +1,13 @@
 -- By the rule of each kind of packet.
 use Rattle.std.proofs.Common.{Some, sym, ap, ◌∙◌, refl}
 use Rattle.wire_values.specs.declared.packet.Body.{Body}
-use Rattle.acts.specs.Acts.{packet}
+use Rattle.law_acts.specs.Acts.{packet}
 use Rattle.membership.proofs.ActsOfChanges.{takes-install-did, takes-chunk-did}
 use Rattle.member.specs.Hearing.{ignores}
 use Rattle.member.proofs.KeepOrder.{steady-ordered, items-few}
 use Rattle.member_views.proofs.KeepSteady as steady
 use Rattle.member_views.proofs.ActsOfRules as acts
-use Rattle.member_views.proofs.FactOfCalm as calm
+use Rattle.member_views.proofs.ViewsAreCalm as calm
 use Rattle.member.proofs.rules.hear.Goals as goal
 use Rattle.std.proofs.lemmas.Bool.{not-true}
 use Rattle.step_output.specs.Steps.{who_of}

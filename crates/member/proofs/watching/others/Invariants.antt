@@ -1,5 +1,5 @@
 use Rattle.std.proofs.Common.{take, ◌≡◌}
-use Rattle.acts.specs.Acts.{others_of}
+use Rattle.law_acts.specs.Acts.{others_of}
 use Rattle.member.proofs.watching.others.Given as goal
 
 abbrev pub invariant-loop-member : goal.invariant-loop-member

@@ -1,9 +1,9 @@
 use Rattle.std.proofs.Common.{Some, sym}
 use Rattle.wire_values.specs.declared.packet.Body.TheVariants as bodies
-use Rattle.acts.specs.Acts.{packet}
+use Rattle.law_acts.specs.Acts.{packet}
 use Rattle.traffic.proofs.ActsOfAnswers.{nak-goes}
-use Rattle.member_messages.proofs.FactOfOpen.{there-is, orderly-in, nothing-did}
-use Rattle.member_messages.proofs.FactOfHeard.{heard-in, heard-same}
+use Rattle.member_messages.proofs.MembersAreOpen.{there-is, orderly-in, nothing-did}
+use Rattle.member_messages.proofs.PacketsHeard.{heard-in, heard-same}
 use Rattle.member_messages.proofs.ordering.on_nak.Goals as goal
 
 pub returns-then-not-takes_forward-clause-did : goal.returns-then-not-takes_forward-clause-did

@@ -3,8 +3,8 @@ use Rattle.traffic.specs.declared.follower.Follower.{Follower}
 use Rattle.traffic.specs.declared.view_state.ViewState.TheVariants as kinds
 use Rattle.traffic.proofs.ActsOfAnswers.{send-goes}
 use Rattle.member_messages.specs.Ordered.{IsOrderly}
-use Rattle.member_messages.proofs.FactOfOpen.{there-is, orderly-in, ordered-by, member_state-kept, goes-did}
-use Rattle.member_messages.proofs.FactOfSent.{promised-in, sends-first, sends-other, delivers-first}
+use Rattle.member_messages.proofs.MembersAreOpen.{there-is, orderly-in, ordered-by, member_state-kept, goes-did}
+use Rattle.member_messages.proofs.OwnMessagesGo.{promised-in, sends-first, sends-other, delivers-first}
 use Rattle.member_messages.proofs.sending.send.Goals as goal
 
 pub send-requires-clause-coordinator : goal.send-requires-clause-coordinator

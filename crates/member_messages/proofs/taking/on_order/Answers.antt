@@ -2,11 +2,11 @@ use Rattle.std.proofs.Common.{◌-◌, Some, not, sym}
 use Rattle.std.specs.Prelude.{nat_lt}
 use Rattle.limits.specs.declared.TheConstants.{WINDOW}
 use Rattle.wire_values.specs.declared.packet.Body.TheVariants as bodies
-use Rattle.acts.specs.Acts.{packet}
-use Rattle.member_messages.proofs.FactOfOpen.{there-is, orderly-in, ordered-by, nothing-did}
-use Rattle.member_messages.proofs.FactOfHeard.{heard-in, heard-member_state, from-in, other-did}
-use Rattle.member_messages.proofs.FactOfCalm.{takes-calm}
-use Rattle.member_messages.proofs.FactOfNext.{order-orderly}
+use Rattle.law_acts.specs.Acts.{packet}
+use Rattle.member_messages.proofs.MembersAreOpen.{there-is, orderly-in, ordered-by, nothing-did}
+use Rattle.member_messages.proofs.PacketsHeard.{heard-in, heard-member_state, from-in, other-did}
+use Rattle.member_messages.proofs.MessagesAreCalm.{takes-calm}
+use Rattle.member_messages.proofs.NumbersNotHeld.{order-orderly}
 use Rattle.member_messages.proofs.taking.on_order.Goals as goal
 
 pub returns-then-not-takes_order-clause-did : goal.returns-then-not-takes_order-clause-did

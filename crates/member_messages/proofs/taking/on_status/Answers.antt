@@ -1,11 +1,11 @@
 use Rattle.std.proofs.Common.{Some, sym}
 use Rattle.wire_values.specs.declared.packet.Body.TheVariants as bodies
-use Rattle.acts.specs.Acts.{packet}
+use Rattle.law_acts.specs.Acts.{packet}
 use Rattle.traffic.proofs.ActsOfAnswers.{status-goes}
 use Rattle.member_messages.specs.Heard.{is_near}
-use Rattle.member_messages.proofs.FactOfOpen.{there-is, orderly-in, ordered-by, nothing-did}
-use Rattle.member_messages.proofs.FactOfHeard.{heard-in, heard-member_state, from-in, other-did}
-use Rattle.member_messages.proofs.FactOfNext.{status-orderly}
+use Rattle.member_messages.proofs.MembersAreOpen.{there-is, orderly-in, ordered-by, nothing-did}
+use Rattle.member_messages.proofs.PacketsHeard.{heard-in, heard-member_state, from-in, other-did}
+use Rattle.member_messages.proofs.NumbersNotHeld.{status-orderly}
 use Rattle.member_messages.proofs.taking.on_status.Goals as goal
 
 pub returns-then-not-takes_status-clause-did : goal.returns-then-not-takes_status-clause-did

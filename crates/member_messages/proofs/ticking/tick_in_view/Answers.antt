@@ -1,5 +1,5 @@
 use Rattle.traffic.proofs.ActsOfAnswers.{tick-goes, status-tick-goes}
-use Rattle.member_messages.proofs.FactOfOpen.{there-is, orderly-in, goes-same, nothing-did}
+use Rattle.member_messages.proofs.MembersAreOpen.{there-is, orderly-in, goes-same, nothing-did}
 use Rattle.member_messages.proofs.ticking.tick_in_view.Goals as goal
 
 pub returns-in_ok-tick-in-Coordinator-clause-did : goal.returns-in_ok-tick-in-Coordinator-clause-did

@@ -1,6 +1,6 @@
 use Rattle.std.proofs.Common.{map, take, []}
 use Rattle.wire_values.specs.declared.packet.Body.TheVariants as bodies
-use Rattle.acts.specs.Acts.{packet, others_of}
+use Rattle.law_acts.specs.Acts.{packet, others_of}
 use Rattle.step_output.specs.Outputs.{Grows}
 use Rattle.member_views.proofs.leaving.say_to.Given as goal
 

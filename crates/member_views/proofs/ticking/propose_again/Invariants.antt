@@ -2,7 +2,7 @@ use Rattle.std.proofs.Common.{map, take, [], not}
 use Rattle.std.specs.Prelude.{filter}
 use Rattle.wire_values.specs.declared.packet.Body.TheVariants as bodies
 use Rattle.flush.specs.Flushes.{has_reported}
-use Rattle.acts.specs.Acts.{packet, proposed}
+use Rattle.law_acts.specs.Acts.{packet, proposed}
 use Rattle.step_output.specs.Outputs.{Grows}
 use Rattle.member_views.proofs.ticking.propose_again.Given as goal
 

@@ -4,11 +4,11 @@ use Rattle.address.specs.Ids.{Address, ViewId}
 use Rattle.state_transfer.specs.Meanings.{Meaning}
 use Rattle.flush.specs.Flushes.{FlushModel}
 use Rattle.traffic.specs.declared.view_state.ViewState.{ViewState}
-use Rattle.acts.specs.Acts.{others_of, delivery}
+use Rattle.law_acts.specs.Acts.{others_of, delivery}
 use Rattle.traffic.specs.ViewStates.{view_of}
 use Rattle.step_output.specs.Outputs.{Grows}
 use Rattle.step_output.specs.Steps.{who_of}
-use Rattle.step_output.proofs.FactOfGrows.{grows-then}
+use Rattle.step_output.proofs.GrowthAdds.{grows-then}
 use Rattle.membership.specs.MemberStates.{sent_install}
 use Rattle.membership.specs.Installs.{given_to, instruction_to, instructing, delivered_by, own_of, going, finished_state, finished_given}
 use Rattle.membership.proofs.finishing.finish.Goals as goal

@@ -2,9 +2,9 @@ use Rattle.std.proofs.Common.{◌≡◌, [], ◌∷◌, subst}
 use Rattle.std.specs.Prelude.{unwrap_or}
 use Rattle.wire_values.specs.Values as wire
 use Rattle.wire_values.specs.declared.packet.Body.TheVariants as bodies
-use Rattle.acts.specs.Acts.{packet, chunk_packets}
+use Rattle.law_acts.specs.Acts.{packet, chunk_packets}
 use Rattle.step_output.specs.Outputs.{Grows}
-use Rattle.step_output.proofs.FactOfGrows.{grows-then}
+use Rattle.step_output.proofs.GrowthAdds.{grows-then}
 use Rattle.membership.specs.Installs.{instruction_to}
 use Rattle.membership.proofs.finishing.instruct.Goals as goal
 

@@ -2,10 +2,10 @@ use Rattle.std.proofs.Common.{◌≡◌, ℕ, ◌≤◌, ◌+◌, ◌-◌, List,
 use Rattle.std.specs.List.{range_with_len}
 use Rattle.wire_values.specs.Values as wire
 use Rattle.wire_values.specs.declared.packet.Body.TheVariants as bodies
-use Rattle.acts.specs.Acts.{packet}
-use Rattle.acts.specs.Given.{chunk_at}
+use Rattle.law_acts.specs.Acts.{packet}
+use Rattle.law_acts.specs.Given.{chunk_at}
 use Rattle.step_output.specs.Outputs.{Grows}
-use Rattle.step_output.proofs.FactOfGrows.{grows-then}
+use Rattle.step_output.proofs.GrowthAdds.{grows-then}
 use Rattle.state_chunks.proofs.Pieces.{range_next}
 use Rattle.membership.proofs.giving.+put_chunks.Goals as goal
 

@@ -5,7 +5,7 @@ use Rattle.keyed_entries.specs.declared.Entry.{Entry}
 use Rattle.keyed_entries.specs.Entries.{IsHeldAt, value_of}
 use Rattle.replicated_map.specs.declared.entries.Held.{Held}
 use Rattle.replicated_map.specs.Entries.{held}
-use Rattle.replicated_map.proofs.FactOfEntries.{new-value}
+use Rattle.replicated_map.proofs.EntriesChange.{new-value}
 use Rattle.replicated_map.proofs.changing.size_with.Goals as goal
 
 pub returns-in-Held-clause-size : goal.returns-in-Held-clause-size

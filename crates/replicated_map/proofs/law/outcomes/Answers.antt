@@ -1,4 +1,4 @@
-use Rattle.replicated_map.proofs.FactOfOutcomes.{stored-stands, replace-stands, version-stands, removal-stands, version-removal, full-kept-out, different, other-version, not-removed, missing, clears, no-command}
+use Rattle.replicated_map.proofs.OutcomesSay.{stored-stands, replace-stands, version-stands, removal-stands, version-removal, full-kept-out, different, other-version, not-removed, missing, clears, no-command}
 use Rattle.replicated_map.proofs.law.outcomes.Goals as goal
 
 pub returns-clause-stored : goal.returns-clause-stored

@@ -1,4 +1,4 @@
-use Rattle.replicated_map.proofs.FactOfChanges.{replaced, not-replaced, replaced-once, replaced-at, kept-at-another, removed-at, not-removed}
+use Rattle.replicated_map.proofs.ReplacementsChange.{replaced, not-replaced, replaced-once, replaced-at, kept-at-another, removed-at, not-removed}
 use Rattle.replicated_map.proofs.law.replaces.Goals as goal
 
 pub returns-clause-puts : goal.returns-clause-puts

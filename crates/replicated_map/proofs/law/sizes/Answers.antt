@@ -1,4 +1,4 @@
-use Rattle.replicated_map.proofs.FactOfChanges.{put-fits, put-kept-out, replace-kept-out, version-kept-out, key-takes, value-takes, removal}
+use Rattle.replicated_map.proofs.ReplacementsChange.{put-fits, put-kept-out, replace-kept-out, version-kept-out, key-takes, value-takes, removal}
 use Rattle.replicated_map.proofs.law.sizes.Goals as goal
 
 pub returns-clause-fits : goal.returns-clause-fits

@@ -1,4 +1,4 @@
-use Rattle.replicated_map.proofs.FactOfStamps.{stamped-spells, said-spells}
+use Rattle.replicated_map.proofs.StampsSpellViews.{stamped-spells, said-spells}
 use Rattle.replicated_map.proofs.law.stamps_spell.Goals as goal
 
 pub returns-clause-stamped : goal.returns-clause-stamped

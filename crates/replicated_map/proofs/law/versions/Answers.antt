@@ -1,4 +1,4 @@
-use Rattle.replicated_map.proofs.FactOfVersions.{above-all, above-views, rise, one-value, gone}
+use Rattle.replicated_map.proofs.VersionsOnlyRise.{above-all, above-views, rise, one-value, gone}
 use Rattle.replicated_map.proofs.law.versions.Goals as goal
 
 pub returns-clause-above : goal.returns-clause-above

@@ -1,7 +1,7 @@
 use Rattle.std.proofs.Common.{◌≡◌, ◌+◌, ◌≤◌, length}
 use Rattle.script_reader.specs.Script.{script_by, event_in_line, with_event}
 use Rattle.script_reader.specs.Lines.{lines_of}
-use Rattle.script_reader.proofs.FactOfTexts.{going_on}
+use Rattle.script_reader.proofs.TextsRead.{going_on}
 use Rattle.script_reader.proofs.script.read_script_by.Given as goal
 
 -- what was read goes on with the lines that are left

@@ -2,7 +2,7 @@ use Rattle.std.proofs.Common.{◌≡◌, ◌+◌, ◌≤◌, length}
 use Rattle.script_reader.specs.UdpScript.{udp_script_of, udp_said, numbered}
 use Rattle.script_reader.specs.Texts.{and_then}
 use Rattle.script_reader.specs.Lines.{lines_of}
-use Rattle.script_reader.proofs.FactOfTexts.{going_on}
+use Rattle.script_reader.proofs.TextsRead.{going_on}
 use Rattle.script_reader.proofs.udp_script.read_udp_script.Given as goal
 
 -- what was read goes on with the lines that are left

@@ -2,7 +2,7 @@ use Rattle.std.proofs.Common.{◌≡◌, List, Option, Some, None, false, sym, a
 use Rattle.std.specs.Prelude.{IfOk, OnErr, IsTrue}
 use Rattle.std.specs.Option.{option_map_or}
 use Rattle.sequencer.specs.Queues.{Queue, is_from, takes, offered}
-use Rattle.sequencer.proofs.FactOfFirst.{IsFirst, first-is, none-is, find-none, find-at, change-none}
+use Rattle.sequencer.proofs.FirstThatPasses.{IsFirst, first-is, none-is, find-none, find-at, change-none}
 use Rattle.sequencer.proofs.Queues.{offered-at}
 use Rattle.sequencer.proofs.orderer.offer_to.Goals as goal
 

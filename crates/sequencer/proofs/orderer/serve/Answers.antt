@@ -1,6 +1,6 @@
 use Rattle.std.proofs.Common.{◌≡◌, List, Some, None, sym, ap, ◌∙◌, position}
 use Rattle.sequencer.specs.Queues.{Queue, has_next}
-use Rattle.sequencer.proofs.FactOfFirst.{IsFirst, first-is, none-is}
+use Rattle.sequencer.proofs.FirstThatPasses.{IsFirst, first-is, none-is}
 use Rattle.sequencer.proofs.Queues.{first-next-at, first-next-none, served-at}
 use Rattle.sequencer.proofs.orderer.serve.Goals as goal
 

@@ -1,6 +1,6 @@
-use Rattle.agreement.proofs.KeepBySteps
+use Rattle.law_agreement.proofs.KeepBySteps
 use Rattle.world_step.proofs.KeepOfWorlds.{reached-keeps}
-use Rattle.settling.proofs.FactOfSettled.{settled, brief}
+use Rattle.settling.proofs.SettlingsSettle.{settled, brief}
 use Rattle.settling.proofs.SettlingEnds.{ends}
 use Rattle.settling.proofs.law.views_settle.Goals as goal
 

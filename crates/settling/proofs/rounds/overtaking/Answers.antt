@@ -5,7 +5,7 @@ use Rattle.std.specs.BTreeMap.{get}
 use Rattle.world_step.specs.NodeStates.{node_states_in}
 use Rattle.settling.specs.declared.rounds.Round.{Round}
 use Rattle.settling.specs.LowProposals.{asked_past}
-use Rattle.settling.proofs.FactOfRounds.{view-by, none-by}
+use Rattle.settling.proofs.RoundsRaise.{view-by, none-by}
 use Rattle.settling.proofs.rounds.overtaking.Goals as goal
 
 -- two rounds come to the view that the test names

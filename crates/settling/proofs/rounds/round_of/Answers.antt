@@ -4,7 +4,7 @@ use Rattle.std.specs.BTreeMap.{get}
 use Rattle.address.specs.Ids.{Address}
 use Rattle.world_step.specs.NodeStates.{node_states_in}
 use Rattle.settling.specs.LowProposals.{furthest}
-use Rattle.settling.proofs.FactOfRounds.{told_of, no-candidates, nobody, somebody}
+use Rattle.settling.proofs.RoundsRaise.{told_of, no-candidates, nobody, somebody}
 use Rattle.settling.proofs.rounds.round_of.Goals as goal
 
 -- the counters are used up

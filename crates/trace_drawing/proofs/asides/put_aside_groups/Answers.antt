@@ -1,6 +1,6 @@
 use Rattle.std.proofs.Common.{refl}
 use Rattle.trace_drawing.specs.Asides.{aside_group}
-use Rattle.trace_drawing.proofs.FactOfTexts.{texts-at}
+use Rattle.trace_drawing.proofs.TextsAppend.{texts-at}
 use Rattle.trace_drawing.proofs.asides.put_aside_groups.Goals as goal
 
 -- one aside more

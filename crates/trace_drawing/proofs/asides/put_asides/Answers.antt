@@ -2,7 +2,7 @@ use Rattle.std.proofs.Common.{◌∙◌, ◌++◌, ap, sym, append_assoc}
 use Rattle.std.specs.Prelude.{flat_map}
 use Rattle.trace_drawing.specs.declared.asides.TheConstants.{ASIDE_STYLE}
 use Rattle.trace_drawing.specs.Asides.{aside_group}
-use Rattle.trace_drawing.proofs.FactOfTexts.{asides-all}
+use Rattle.trace_drawing.proofs.TextsAppend.{asides-all}
 use Rattle.trace_drawing.proofs.asides.put_asides.Goals as goal
 
 -- the style and the groups

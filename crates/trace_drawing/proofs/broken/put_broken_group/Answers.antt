@@ -2,7 +2,7 @@ use Rattle.std.proofs.Common.{◌∙◌, ◌++◌, ap}
 use Rattle.std.proofs.lemmas.Result.{on_ok_weaker}
 use Rattle.trace_drawing.specs.declared.marks.Mark.TheVariants as marks
 use Rattle.trace_drawing.specs.Spelling.{mark_text}
-use Rattle.trace_drawing.proofs.FactOfTexts.{after-four}
+use Rattle.trace_drawing.proofs.TextsAppend.{after-four}
 use Rattle.trace_drawing.proofs.broken.put_broken_group.Goals as goal
 
 -- the title, the mark, the words and the end

@@ -1,4 +1,4 @@
-use Rattle.trace_drawing.proofs.FactOfWays.{way-from, way-known, lost-if}
+use Rattle.trace_drawing.proofs.PacketsWay.{way-from, way-known, lost-if}
 use Rattle.trace_drawing.proofs.law.ways_of_packets.Goals as goal
 
 pub returns-clause-way : goal.returns-clause-way

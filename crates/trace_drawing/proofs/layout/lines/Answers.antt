@@ -1,5 +1,5 @@
 use Rattle.std.proofs.Common.{◌∙◌}
-use Rattle.trace_drawing.proofs.FactOfRows.{lines-next}
+use Rattle.trace_drawing.proofs.RowsAndLines.{lines-next}
 use Rattle.trace_drawing.proofs.layout.lines.Goals as goal
 
 -- one member more

@@ -3,8 +3,8 @@ use Rattle.std.specs.HashMap.{get}
 use Rattle.address.specs.Ids.{same_address, same_view_id}
 use Rattle.trace_drawing.specs.Layout.{same_message, level_of}
 use Rattle.trace_drawing.specs.Known.{Knows}
-use Rattle.trace_drawing.proofs.FactOfRows.{rows-next, known-next}
-use Rattle.trace_drawing.proofs.FactOfLevels.{level-here, above-next}
+use Rattle.trace_drawing.proofs.RowsAndLines.{rows-next, known-next}
+use Rattle.trace_drawing.proofs.AsidesHaveLevels.{level-here, above-next}
 use Rattle.trace_drawing.proofs.layout.rows_and_lines.Goals as goal
 
 -- nothing is laid out, and no aside is passed

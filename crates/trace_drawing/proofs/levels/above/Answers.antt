@@ -1,6 +1,6 @@
 use Rattle.std.proofs.Common.{◌≤◌, ap, arith}
 use Rattle.trace_drawing.specs.Layout.{above}
-use Rattle.trace_drawing.proofs.FactOfLevels.{above-within, above-stops, above-goes}
+use Rattle.trace_drawing.proofs.AsidesHaveLevels.{above-within, above-stops, above-goes}
 use Rattle.trace_drawing.proofs.levels.above.Goals as goal
 
 -- the next one has a later place

@@ -1,4 +1,4 @@
-use Rattle.trace_drawing.proofs.FactOfLevels.{later-up, asides-next}
+use Rattle.trace_drawing.proofs.AsidesHaveLevels.{later-up, asides-next}
 use Rattle.std.proofs.Common.{subst, sym, ◌≤◌}
 use Rattle.trace_drawing.proofs.levels.aside_rows.Goals as goal
 

@@ -2,7 +2,7 @@ use Rattle.std.proofs.Common.{◌∙◌, ◌++◌, ap}
 use Rattle.std.specs.Prelude.{flat_map, option_to_list}
 use Rattle.std.proofs.lemmas.Result.{on_ok_weaker}
 use Rattle.trace_drawing.specs.Spelling.{mark_text}
-use Rattle.trace_drawing.proofs.FactOfTexts.{after-four}
+use Rattle.trace_drawing.proofs.TextsAppend.{after-four}
 use Rattle.trace_drawing.proofs.packets.put_handed_group.Goals as goal
 
 -- the title, the way, the number and the end

@@ -3,7 +3,7 @@ use Rattle.std.specs.Prelude.{flat_map, option_to_list}
 use Rattle.std.proofs.lemmas.Result.{on_ok_weaker}
 use Rattle.trace_drawing.specs.Spelling.{mark_text}
 use Rattle.trace_drawing.specs.Marks.{line_mark}
-use Rattle.trace_drawing.proofs.FactOfTexts.{after-three}
+use Rattle.trace_drawing.proofs.TextsAppend.{after-three}
 use Rattle.trace_drawing.proofs.picture.put_line.Goals as goal
 
 -- the title, the marks and the end

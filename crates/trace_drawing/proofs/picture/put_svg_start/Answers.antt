@@ -1,5 +1,5 @@
 use Rattle.std.proofs.lemmas.Result.{on_ok_weaker}
-use Rattle.trace_drawing.proofs.FactOfTexts.{after-three}
+use Rattle.trace_drawing.proofs.TextsAppend.{after-three}
 use Rattle.trace_drawing.proofs.picture.put_svg_start.Goals as goal
 
 -- the width, the height and the end of the mark

@@ -1,6 +1,6 @@
 use Rattle.std.proofs.Common.{◌∙◌, ◌++◌, ap}
 use Rattle.std.proofs.lemmas.Result.{on_ok_weaker}
-use Rattle.trace_drawing.proofs.FactOfTexts.{after-four}
+use Rattle.trace_drawing.proofs.TextsAppend.{after-four}
 use Rattle.trace_drawing.proofs.refusals.put_refused_group.Goals as goal
 
 -- the place, the title, why it was refused, and the end

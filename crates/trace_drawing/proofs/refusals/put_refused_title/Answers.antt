@@ -1,7 +1,7 @@
 use Rattle.std.proofs.Common.{◌∙◌, ◌++◌, ap}
 use Rattle.std.proofs.lemmas.Result.{on_ok_weaker}
 use Rattle.vsync_text.specs.Runs.{refusal_line}
-use Rattle.trace_drawing.proofs.FactOfTexts.{after-three}
+use Rattle.trace_drawing.proofs.TextsAppend.{after-three}
 use Rattle.trace_drawing.proofs.refusals.put_refused_title.Goals as goal
 
 -- the line that `world` prints, between its marks, and the ring

@@ -1,7 +1,7 @@
 use Rattle.std.proofs.Common.{◌∙◌, ◌+◌, ◌++◌, ap, codes}
 use Rattle.std.specs.Fmt.{decimal}
 use Rattle.std.proofs.lemmas.Result.{on_ok_weaker}
-use Rattle.trace_drawing.proofs.FactOfTexts.{row-numbered}
+use Rattle.trace_drawing.proofs.TextsAppend.{row-numbered}
 use Rattle.trace_drawing.proofs.texts.put_row_number.Goals as goal
 
 -- the place, and the number

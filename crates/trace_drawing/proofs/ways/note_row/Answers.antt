@@ -1,4 +1,4 @@
-use Rattle.trace_drawing.proofs.FactOfWays.{ways-left, ways-begun, ways-ended}
+use Rattle.trace_drawing.proofs.PacketsWay.{ways-left, ways-begun, ways-ended}
 use Rattle.trace_drawing.proofs.ways.note_row.Goals as goal
 
 -- a refusal has no way

@@ -2,7 +2,7 @@ use Rattle.std.proofs.Common.{◌≡◌}
 use Rattle.std.specs.Option.{option_copied}
 use Rattle.script_reader.specs.AddressText.{address_of_text}
 use Rattle.trace_reader.specs.Forms.{parts_of, parts_left, left_len, each_of}
-use Rattle.trace_reader.proofs.FactOfReadLists.{with_front}
+use Rattle.trace_reader.proofs.ListsAreRead.{with_front}
 use Rattle.trace_reader.proofs.forms.addresses_in.Given as goal
 
 -- the addresses so far go on with the parts that are left

@@ -1,5 +1,5 @@
 use Rattle.std.proofs.Common.{length, ap, arith}
-use Rattle.trace_reader.proofs.FactOfReadLists.{byte_read}
+use Rattle.trace_reader.proofs.ListsAreRead.{byte_read}
 use Rattle.trace_reader.proofs.hexadecimal.bytes_in.Goals as goal
 
 pub loop-high-preserved : goal.loop-high-preserved

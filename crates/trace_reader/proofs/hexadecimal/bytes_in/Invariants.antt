@@ -1,6 +1,6 @@
 use Rattle.std.proofs.Common.{◌≡◌, ◌+◌, ◌*◌, ◌≤◌, length, vec_len, vec_capacity}
 use Rattle.trace_reader.specs.Forms.{bytes_of_hex}
-use Rattle.trace_reader.proofs.FactOfReadLists.{with_front}
+use Rattle.trace_reader.proofs.ListsAreRead.{with_front}
 use Rattle.trace_reader.proofs.hexadecimal.bytes_in.Given as goal
 
 -- the bytes so far go on with the digits that are left, for whose bytes there is room

@@ -1,7 +1,7 @@
 use Rattle.std.proofs.Common.{sym, arith, rules}
 use Rattle.std.specs.BTreeSet.{contains}
 use Rattle.address.specs.Ids.{address_cmp}
-use Rattle.trace_reader.proofs.FactOfDistinct.{one_more_seen, seen_again}
+use Rattle.trace_reader.proofs.AddressesDistinct.{one_more_seen, seen_again}
 use Rattle.trace_reader.proofs.spelling.are_distinct.Goals as goal
 
 pub returns-then-not-branch : goal.returns-then-not-branch

@@ -1,7 +1,7 @@
 use Rattle.std.proofs.Common.{take}
 use Rattle.std.specs.BTreeSet.{contains}
 use Rattle.address.specs.Ids.{address_cmp}
-use Rattle.trace_reader.proofs.FactOfDistinct.{SeenOnce}
+use Rattle.trace_reader.proofs.AddressesDistinct.{SeenOnce}
 use Rattle.trace_reader.proofs.spelling.are_distinct.Given as goal
 
 -- the addresses so far were seen, and are distinct

@@ -2,7 +2,7 @@ use Rattle.std.proofs.Common.{◌≡◌}
 use Rattle.std.specs.Option.{option_copied}
 use Rattle.trace_reader.specs.Forms.{parts_of, parts_left, left_len, each_of}
 use Rattle.trace_reader.specs.Spelling.{message_of_text, AreShort}
-use Rattle.trace_reader.proofs.FactOfReadLists.{with_front}
+use Rattle.trace_reader.proofs.ListsAreRead.{with_front}
 use Rattle.trace_reader.proofs.spelling.messages_in.Given as goal
 
 -- the messages so far go on with the parts that are left

@@ -1,6 +1,6 @@
 use Rattle.std.proofs.Common.{rules, arith}
 use Rattle.std.proofs.lemmas.Grind.{common_steps}
-use Rattle.trace_reader.proofs.FactOfReading.{trace_is_going_on}
+use Rattle.trace_reader.proofs.TracesRead.{trace_is_going_on}
 use Rattle.trace_reader.proofs.text.read_trace.Goals as goal
 
 pub returns-in_err-read_on : goal.returns-in_err-read_on

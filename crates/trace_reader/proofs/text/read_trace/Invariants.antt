@@ -1,6 +1,6 @@
 use Rattle.std.proofs.Common.{◌≡◌, ◌+◌, ◌≤◌, length}
 use Rattle.script_reader.specs.Lines.{lines_of}
-use Rattle.script_reader.proofs.FactOfTexts.{going_on}
+use Rattle.script_reader.proofs.TextsRead.{going_on}
 use Rattle.trace_reader.specs.Traces.{trace_of, said_in_line, with_said}
 use Rattle.trace_reader.proofs.text.read_trace.Given as goal
 

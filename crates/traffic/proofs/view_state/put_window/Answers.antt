@@ -2,7 +2,7 @@ use Rattle.std.proofs.Common.{◌≡◌, ℕ, List, ◌∷◌, Option, Some, len
 use Rattle.limits.specs.declared.TheConstants.{WINDOW}
 use Rattle.wire_values.specs.Values.{Entry}
 use Rattle.nak_stream.specs.Rings.{numbered}
-use Rattle.traffic.proofs.FactOfSlots.{IsPut, put-none, put-one}
+use Rattle.traffic.proofs.SlotsPutOut.{IsPut, put-none, put-one}
 use Rattle.traffic.proofs.view_state.put_window.Goals as goal
 
 pub loop-slot-init : goal.loop-slot-init

@@ -1,4 +1,4 @@
-use Rattle.traffic.proofs.FactOfSlots.{IsPut}
+use Rattle.traffic.proofs.SlotsPutOut.{IsPut}
 use Rattle.traffic.proofs.view_state.put_window.Given as goal
 
 -- what stands in the slots so far is put

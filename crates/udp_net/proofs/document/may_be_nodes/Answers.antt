@@ -1,6 +1,6 @@
 use Rattle.std.proofs.Common.{refl}
 use Rattle.std.proofs.lemmas.Bool.{le-leb}
-use Rattle.udp_net.proofs.FactOfTables.{items-are}
+use Rattle.udp_net.proofs.TablesOfKeys.{items-are}
 use Rattle.udp_net.proofs.document.may_be_nodes.Goals as goal
 
 pub returns-then-values-ge1 : goal.returns-then-values-ge1

@@ -1,6 +1,6 @@
 use Rattle.std.proofs.Common.{sym, ◌∙◌, ne_eqb}
 use Rattle.std.proofs.lemmas.Bool.{eq-eqb}
-use Rattle.udp_net.proofs.FactOfTables.{keys-are, tested, untested}
+use Rattle.udp_net.proofs.TablesOfKeys.{keys-are, tested, untested}
 use Rattle.udp_net.proofs.document.only_keys.Goals as goal
 
 pub returns-then-len-count : goal.returns-then-len-count

@@ -1,6 +1,6 @@
 use Rattle.std.proofs.Common.{refl}
-use Rattle.deployed_runners.specs.Runs.{Create, Join, Hand}
-use Rattle.udp_runs.proofs.FactOfTurns.{left-so}
+use Rattle.law_runners.specs.Runs.{Create, Join, Hand}
+use Rattle.udp_runs.proofs.ProcessesTurn.{left-so}
 use Rattle.udp_runs.proofs.calls.do_call.Goals as goal
 
 pub returns-in-Create-clause-called : goal.returns-in-Create-clause-called

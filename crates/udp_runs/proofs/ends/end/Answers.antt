@@ -1,7 +1,7 @@
 use Rattle.std.proofs.Common.{[]}
 use Rattle.endings.specs.declared.status.Status.TheVariants.{Done}
 use Rattle.udp_runs.specs.Ends.IsEndOf.{Over}
-use Rattle.udp_runs.proofs.FactOfEnds.{end-lacking, end-failing}
+use Rattle.udp_runs.proofs.RunTextsEnd.{end-lacking, end-failing}
 use Rattle.udp_runs.proofs.ends.end.Goals as goal
 
 pub returns-in-Ok : goal.returns-in-Ok

@@ -1,5 +1,5 @@
 use Rattle.std.proofs.Common.{◌∙◌}
-use Rattle.udp_runs.proofs.FactOfEnds.{unlisted-text, unbound-text, unprinted-text}
+use Rattle.udp_runs.proofs.RunTextsEnd.{unlisted-text, unbound-text, unprinted-text}
 use Rattle.udp_runs.proofs.ends.end_without_net.Goals.{in-Config, in-Bind}
 use Rattle.udp_runs.proofs.ends.end_without_net.Goals as goal
 

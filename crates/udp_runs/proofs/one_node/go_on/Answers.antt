@@ -1,6 +1,6 @@
 use Rattle.std.proofs.Common.{refl}
-use Rattle.udp_runs.proofs.FactOfMembers.{goes-alone, goes-none, silent-first}
-use Rattle.node_lines.proofs.FactOfCame.{earlier-refl, owes-new}
+use Rattle.udp_runs.proofs.MemberCommandsEnd.{goes-alone, goes-none, silent-first}
+use Rattle.node_lines.proofs.LinesKept.{earlier-refl, owes-new}
 use Rattle.udp_runs.proofs.one_node.go_on.Goals as goal
 
 pub returns-in-Err : goal.returns-in-Err

@@ -1,4 +1,4 @@
-use Rattle.udp_runs.proofs.FactOfMembers.{first-ended, first-none, listed-ended, netless-ended}
+use Rattle.udp_runs.proofs.MemberCommandsEnd.{first-ended, first-none, listed-ended, netless-ended}
 use Rattle.udp_runs.proofs.one_node.run_listed.Goals as goal
 
 pub returns-in-Ok-clause-written : goal.returns-in-Ok-clause-written

@@ -1,5 +1,5 @@
 use Rattle.std.proofs.Common.{refl, rules}
-use Rattle.udp_runs.proofs.FactOfMembers.{first-none}
+use Rattle.udp_runs.proofs.MemberCommandsEnd.{first-none}
 use Rattle.udp_runs.proofs.one_node.run_member.Goals as goal
 
 pub returns-in-None-clause-runs : goal.returns-in-None-clause-runs

@@ -1,5 +1,5 @@
 use Rattle.std.proofs.Common.{refl}
-use Rattle.udp_runs.proofs.FactOfMembers.{start-failed, start-went}
+use Rattle.udp_runs.proofs.MemberCommandsEnd.{start-failed, start-went}
 use Rattle.udp_runs.proofs.one_node.start.Goals as goal
 
 pub returns-in-Ok : goal.returns-in-Ok

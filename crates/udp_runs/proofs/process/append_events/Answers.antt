@@ -1,4 +1,4 @@
-use Rattle.udp_runs.proofs.FactOfTexts.{took-one, took-some, on-err}
+use Rattle.udp_runs.proofs.LinesAndEvents.{took-one, took-some, on-err}
 use Rattle.udp_runs.proofs.process.append_events.Goals as goal
 
 pub returns-in_err-append_event-clause-err : goal.returns-in_err-append_event-clause-err

@@ -1,9 +1,9 @@
 use Rattle.std.proofs.Common.{◌∙◌, ap, sym}
 use Rattle.script_reader.specs.UdpScript.{udp_script_of}
 use Rattle.endings.specs.Outcomes.IsAnswer.{ReaderFails}
-use Rattle.udp_runs.proofs.FactOfScripts.{fault-text, unread-text}
+use Rattle.udp_runs.proofs.ScriptCommandsEnd.{fault-text, unread-text}
 use Rattle.udp_runs.proofs.script.lines_from.Goals as goal
-use Rattle.vsync_text.proofs.FactOfWriting.{appends_nothing}
+use Rattle.vsync_text.proofs.LinesWritten.{appends_nothing}
 
 pub returns-in-Err-Memory-clause-err : goal.returns-in-Err-Memory-clause-err
 returns-in-Err-Memory-clause-err g c = unread-text _ _ _ _ c.end_in_memory.ensures

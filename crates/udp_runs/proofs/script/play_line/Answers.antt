@@ -1,5 +1,5 @@
 use Rattle.std.proofs.Common.{[]}
-use Rattle.udp_runs.proofs.FactOfPlaying.{line-goes, line-failed}
+use Rattle.udp_runs.proofs.ScriptsPlay.{line-goes, line-failed}
 use Rattle.udp_runs.proofs.script.play_line.Goals as goal
 
 pub returns-in-Ok-clause-goes : goal.returns-in-Ok-clause-goes

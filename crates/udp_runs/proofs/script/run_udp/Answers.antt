@@ -1,4 +1,4 @@
-use Rattle.udp_runs.proofs.FactOfScripts.{unrun, run-ended, run-cut, run-stopped}
+use Rattle.udp_runs.proofs.ScriptCommandsEnd.{unrun, run-ended, run-cut, run-stopped}
 use Rattle.udp_runs.proofs.script.run_udp.Goals as goal
 
 pub returns-in-Err : goal.returns-in-Err

@@ -1,4 +1,4 @@
-use Rattle.udp_runs.proofs.FactOfPlaying.{states-failed}
+use Rattle.udp_runs.proofs.ScriptsPlay.{states-failed}
 use Rattle.udp_runs.proofs.script.write_states.Goals as goal
 
 pub returns-in-Err-clause-writes : goal.returns-in-Err-clause-writes

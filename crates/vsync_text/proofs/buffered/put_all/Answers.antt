@@ -1,5 +1,5 @@
 use Rattle.std.proofs.Common.{rules}
-use Rattle.vsync_text.proofs.FactOfWriting.{took_more}
+use Rattle.vsync_text.proofs.LinesWritten.{took_more}
 use Rattle.vsync_text.proofs.buffered.put_all.Goals as goal
 
 pub loop-done-preserved : goal.loop-done-preserved

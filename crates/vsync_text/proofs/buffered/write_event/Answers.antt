@@ -1,6 +1,6 @@
 use Rattle.std.proofs.Common.{◌∷◌, []}
 use Rattle.vsync_text.specs.TraceText.{line_of}
-use Rattle.vsync_text.proofs.FactOfWriting.{stops_at_once, stops_after, went_held}
+use Rattle.vsync_text.proofs.LinesWritten.{stops_at_once, stops_after, went_held}
 use Rattle.vsync_text.proofs.buffered.write_event.Goals as goal
 
 -- what was held did not go

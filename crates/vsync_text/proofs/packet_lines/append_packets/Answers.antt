@@ -1,6 +1,6 @@
 use Rattle.std.proofs.Common.{◌≡◌, ◌+◌, ◌++◌, ◌∙◌, ap, length, arith}
 use Rattle.vsync_text.specs.PacketText.{packet_line}
-use Rattle.vsync_text.proofs.FactOfPacketLines.{printed-next, printed-all}
+use Rattle.vsync_text.proofs.PacketLinesFollow.{printed-next, printed-all}
 use Rattle.vsync_text.proofs.packet_lines.append_packets.Goals as goal
 
 pub loop-packet-preserved : goal.loop-packet-preserved

@@ -1,4 +1,4 @@
-use Rattle.vsync_text.proofs.FactOfWriting.{begins, goes_one, stops_one, ends_one}
+use Rattle.vsync_text.proofs.LinesWritten.{begins, goes_one, stops_one, ends_one}
 use Rattle.vsync_text.proofs.run.write_events.Goals as goal
 
 pub loop-event-init : goal.loop-event-init

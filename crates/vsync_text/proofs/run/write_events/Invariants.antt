@@ -1,6 +1,6 @@
 use Rattle.std.proofs.Common.{length, map}
 use Rattle.vsync_text.specs.TraceText.{line_of}
-use Rattle.vsync_text.proofs.FactOfWriting.{GoesOn}
+use Rattle.vsync_text.proofs.LinesWritten.{GoesOn}
 use Rattle.vsync_text.proofs.run.write_events.Given as goal
 
 abbrev pub invariant-loop-event : goal.invariant-loop-event

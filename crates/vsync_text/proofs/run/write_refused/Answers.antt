@@ -1,5 +1,5 @@
 use Rattle.std.proofs.Common.{sym, ◌∙◌}
-use Rattle.vsync_text.proofs.FactOfWriting.{refused_one}
+use Rattle.vsync_text.proofs.LinesWritten.{refused_one}
 use Rattle.vsync_text.proofs.run.write_refused.Goals as goal
 
 pub returns : goal.returns

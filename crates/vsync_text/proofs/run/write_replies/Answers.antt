@@ -1,4 +1,4 @@
-use Rattle.vsync_text.proofs.FactOfWriting.{begins, goes_event, stops_event, ends_lines, ends_replies}
+use Rattle.vsync_text.proofs.LinesWritten.{begins, goes_event, stops_event, ends_lines, ends_replies}
 use Rattle.vsync_text.proofs.run.write_replies.Goals as goal
 
 pub loop-line-init : goal.loop-line-init

@@ -1,6 +1,6 @@
 use Rattle.std.proofs.Common.{length}
 use Rattle.vsync_text.specs.Runs.{lines_from, lines_of_run}
-use Rattle.vsync_text.proofs.FactOfWriting.{GoesOn}
+use Rattle.vsync_text.proofs.LinesWritten.{GoesOn}
 use Rattle.vsync_text.proofs.run.write_replies.Given as goal
 
 abbrev pub invariant-loop-line : goal.invariant-loop-line

@@ -7,7 +7,7 @@ use Rattle.world_step.specs.Invariant.{IsWorld}
 use Rattle.world_step.specs.Worlds.{WorldValue, shown}
 use Rattle.world.specs.Gaps.{pair_at, EndsSo, IsLevel}
 use Rattle.world_step.proofs.KeepOfWorlds.{reached-keeps}
-use Rattle.world.proofs.FactOfOpenPairs.{open-pair-is}
+use Rattle.world.proofs.PairsAreOpen.{open-pair-is}
 use Rattle.world.proofs.CatchUpEnds.{levels}
 use Rattle.world.proofs.CatchUpStops.{ends}
 use Rattle.world.proofs.CatchUpIsRun.{catches-longer, stops-longer}

@@ -3,18 +3,18 @@ use Rattle.std.specs.Option.{IsSomeAnd}
 use Rattle.trace_props.specs.Places.{EachPlace}
 use Rattle.trace_props.specs.Synchrony.{IsVirtuallySynchronous}
 use Rattle.address.specs.Ids.{Address}
-use Rattle.replicas.specs.Replicas.{ReplicasAgree}
+use Rattle.law_copies.specs.Replicas.{ReplicasAgree}
 use Rattle.member.specs.Members.{MemberModel, core_of}
-use Rattle.deployment.specs.Deployments.{IsPlayed}
-use Rattle.agreement.specs.Known.{Knows}
-use Rattle.deployment.proofs.FactOfPlayed.{of-played}
+use Rattle.law_processes.specs.Deployments.{IsPlayed}
+use Rattle.law_agreement.specs.Known.{Knows}
+use Rattle.law_processes.proofs.DeploymentsGoOn.{of-played}
 use Rattle.world_model.specs.Packets.{world_group}
 use Rattle.world_model.specs.Faithful.{IsFaithful}
 use Rattle.world_step.specs.NodeStates.{deployment_of, member_here}
 use Rattle.world_step.specs.declared.node_state.NodeState.TheVariants.{Running}
 use Rattle.world_step.specs.Worlds.{WorldValue, shown}
 use Rattle.world_step.proofs.KeepOfWorlds.{reached-keeps}
-use Rattle.world_step.proofs.FactOfMembers.{running-here, member-at}
+use Rattle.world_step.proofs.MembersAtNodes.{running-here, member-at}
 use Rattle.world.proofs.World.kept.Goals as goal
 
 pub returns-clause-faithful : goal.returns-clause-faithful

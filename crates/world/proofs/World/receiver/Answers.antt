@@ -7,7 +7,7 @@ use Rattle.world_model.specs.Histories.{running}
 use Rattle.world_step.specs.Worlds.{WorldValue}
 use Rattle.world_step.specs.NodeStates.{node_state_at, node_states_in}
 use Rattle.world_step.proofs.KeepOfWorlds.{reached-keeps}
-use Rattle.world_step.proofs.FactOfWorlds.{receiver-is, nobody-yet, nobody-runs}
+use Rattle.world_step.proofs.WorldsAfterEvents.{receiver-is, nobody-yet, nobody-runs}
 use Rattle.world.proofs.World.receiver.Goals as goal
 
 -- the node is not kept

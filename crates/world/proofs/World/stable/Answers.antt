@@ -8,9 +8,9 @@ use Rattle.world_step.specs.declared.node_state.NodeState.TheVariants.{Running}
 use Rattle.world_step.specs.Worlds.{WorldValue, shown}
 use Rattle.world_step.specs.NodeStates.{node_state_at, node_states_in}
 use Rattle.world_step.proofs.KeepOfWorlds.{reached-keeps}
-use Rattle.world_step.proofs.FactOfWorlds.{running-is}
+use Rattle.world_step.proofs.WorldsAfterEvents.{running-is}
 use Rattle.world.specs.Known.{IsStableAt}
-use Rattle.world.proofs.FactOfStable.{stable-is}
+use Rattle.world.proofs.StableEverywhere.{stable-is}
 use Rattle.world.proofs.World.stable.Goals as goal
 
 -- a member runs there

@@ -1,6 +1,6 @@
 use Rattle.std.proofs.Common.{refl}
 use Rattle.member.specs.declared.input.Input.TheVariants.{Send}
-use Rattle.world_step.proofs.FactOfNodes.{lent}
+use Rattle.world_step.proofs.NodesGive.{lent}
 use Rattle.world_step.proofs.node_state.act.Goals as goal
 
 -- what the one function does that each event is passed on to; a member's events leave the pool to it

@@ -1,4 +1,4 @@
-use Rattle.world_step.proofs.FactOfNodes.{fits}
+use Rattle.world_step.proofs.NodesGive.{fits}
 use Rattle.world_step.proofs.node_state.hand.Goals as goal
 
 pub settle-requires-clause-fits : goal.settle-requires-clause-fits

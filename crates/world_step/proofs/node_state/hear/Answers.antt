@@ -1,7 +1,7 @@
 use Rattle.std.proofs.Common.{refl, sym, ap, ◌∙◌}
 use Rattle.std.specs.Option.{option_copied}
 use Rattle.std.proofs.lemmas.Option.{same_Some}
-use Rattle.world_step.proofs.FactOfNodes.{fits, heard, handed-here}
+use Rattle.world_step.proofs.NodesGive.{fits, heard, handed-here}
 use Rattle.world_step.proofs.node_state.hear.Goals as goal
 
 pub settle-requires-clause-fits : goal.settle-requires-clause-fits

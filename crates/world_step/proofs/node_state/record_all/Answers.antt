@@ -1,5 +1,5 @@
 use Rattle.std.specs.Vec.Iter.{into_iter_items}
-use Rattle.world_step.proofs.FactOfRecorded.{recorded-on, room-on, short-on}
+use Rattle.world_step.proofs.EventsRecorded.{recorded-on, room-on, short-on}
 use Rattle.world_step.proofs.node_state.record_all.Goals as goal
 
 pub loop-event-preserved : goal.loop-event-preserved

@@ -1,8 +1,8 @@
 use Rattle.std.proofs.Common.{None, ap}
 use Rattle.std.proofs.lemmas.Result.{err_from_is_err_and}
 use Rattle.channel.specs.Channels.{ChannelModel}
-use Rattle.channel.proofs.FactOfSteps.{left-refused, kept}
-use Rattle.channel.proofs.FactOfQueues.{first-behind}
+use Rattle.channel.proofs.StepsOfChannels.{left-refused, kept}
+use Rattle.channel.proofs.QueuesGiveFirst.{first-behind}
 use Rattle.channel.proofs.channel.Channel.call.Goals as goal
 
 -- after a step that is refused

@@ -1,6 +1,6 @@
 use Rattle.std.proofs.Common.{None}
 use Rattle.member.specs.declared.input.Input.TheVariants.{Create}
-use Rattle.channel.proofs.FactOfConnects.{begun}
+use Rattle.channel.proofs.ConnectsStart.{begun}
 use Rattle.channel.proofs.channel.Channel.connect_new.Goals as goal
 
 -- the member starts, and makes its group

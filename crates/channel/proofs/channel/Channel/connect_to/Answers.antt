@@ -1,6 +1,6 @@
 use Rattle.std.proofs.Common.{None, sym, ◌∙◌}
 use Rattle.member.specs.declared.input.Input.TheVariants.{Join}
-use Rattle.channel.proofs.FactOfConnects.{reconnected, asked-again}
+use Rattle.channel.proofs.ConnectsStart.{reconnected, asked-again}
 use Rattle.channel.proofs.channel.Channel.connect_to.Goals as goal
 use Rattle.channel.proofs.channel.Channel.connect_to.Goals.{then-not-is_in+in_ok-begin, else-not-is_in}
 

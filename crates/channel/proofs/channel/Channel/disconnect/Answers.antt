@@ -1,4 +1,4 @@
-use Rattle.channel.proofs.FactOfSteps.{has-left}
+use Rattle.channel.proofs.StepsOfChannels.{has-left}
 use Rattle.channel.proofs.channel.Channel.disconnect.Goals as goal
 
 pub returns-clause-ended : goal.returns-clause-ended

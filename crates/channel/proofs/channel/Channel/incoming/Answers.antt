@@ -2,7 +2,7 @@ use Rattle.std.proofs.Common.{None, ap}
 use Rattle.std.proofs.lemmas.Result.{err_from_is_err_and}
 use Rattle.member.specs.declared.input.Input.TheVariants as input
 use Rattle.member.specs.Sources.{output_of}
-use Rattle.channel.proofs.FactOfSteps.{left-refused, kept}
+use Rattle.channel.proofs.StepsOfChannels.{left-refused, kept}
 use Rattle.channel.proofs.channel.Channel.incoming.Goals as goal
 
 -- after a step that is refused

@@ -3,7 +3,7 @@ use Rattle.address.specs.Ids.{Address}
 use Rattle.wire_values.specs.Lists.{is_report}
 use Rattle.wire_values.specs.Values.{Report}
 use Rattle.flush.specs.Flushes.{FlushModel, IsFlush, is_awaited}
-use Rattle.flush.proofs.FactOfOwnedReports.{flush-kept}
+use Rattle.flush.proofs.ReportsKept.{flush-kept}
 use Rattle.flush.proofs.flushing.Flush.report.Goals as goal
 
 pub invariant_of-self : goal.invariant_of-self

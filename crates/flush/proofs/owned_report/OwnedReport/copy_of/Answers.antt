@@ -2,7 +2,7 @@ use Rattle.std.proofs.Common.{◌≡◌, [], Ok, sym, ap, ◌∙◌}
 use Rattle.wire_values.specs.Reading.{list_at, listed, is_whole}
 use Rattle.wire_values.specs.Fields.{placed_at}
 use Rattle.wire_values.specs.Lists.{is_report}
-use Rattle.flush.proofs.FactOfOwnedReports.{kept-held}
+use Rattle.flush.proofs.ReportsKept.{kept-held}
 use Rattle.flush.proofs.owned_report.OwnedReport.copy_of.Goals as goal
 
 pub invariant_of-result : goal.invariant_of-result

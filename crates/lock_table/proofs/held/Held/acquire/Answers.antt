@@ -8,7 +8,7 @@ use Rattle.keyed_entries.specs.Entries.{IsHeldAt, IsFreeAt, entry_of}
 use Rattle.tokens.specs.Tokens.{next_token}
 use Rattle.lock_table.specs.Locks.{IsTable, table_of, table_size, queue, granted}
 use Rattle.lock_table.specs.StepLaws.{acquired-is-table}
-use Rattle.lock_table.proofs.FactOfSteps.{set-same, stands-already, joins, joins-not, grants}
+use Rattle.lock_table.proofs.LocksInPlaces.{set-same, stands-already, joins, joins-not, grants}
 use Rattle.lock_table.proofs.held.Held.acquire.Goals as goal
 
 pub returns-then-has-clause-ok : goal.returns-then-has-clause-ok

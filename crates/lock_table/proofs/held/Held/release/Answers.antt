@@ -9,7 +9,7 @@ use Rattle.keyed_entries.specs.Entries.{IsHeldAt}
 use Rattle.tokens.specs.Tokens.{next_token}
 use Rattle.lock_table.specs.Locks.{IsTable, table_of}
 use Rattle.lock_table.specs.StepLaws.{released-is-table}
-use Rattle.lock_table.proofs.FactOfSteps.{gone-freed, gone-kept}
+use Rattle.lock_table.proofs.LocksInPlaces.{gone-freed, gone-kept}
 use Rattle.lock_table.proofs.held.Held.release.Goals as goal
 
 pub returns-then-eq-clause-makes : goal.returns-then-eq-clause-makes

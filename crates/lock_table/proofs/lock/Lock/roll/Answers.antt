@@ -1,7 +1,7 @@
 use Rattle.std.proofs.Common.{rules}
 use Rattle.std.proofs.lemmas.Fn.{filter_same}
 use Rattle.lock_table.specs.Locks.{members}
-use Rattle.lock_table.proofs.FactOfLocks.{left-as-passed}
+use Rattle.lock_table.proofs.LocksLeft.{left-as-passed}
 use Rattle.lock_table.proofs.lock.Lock.roll.Goals as goal
 
 pub returns : goal.returns

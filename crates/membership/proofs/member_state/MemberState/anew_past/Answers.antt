@@ -1,6 +1,6 @@
 use Rattle.std.proofs.Common.{rules}
-use Rattle.next_view.specs.Notes.{having_heard}
-use Rattle.membership.proofs.FactOfProposed.{flush-leads, anew-is}
+use Rattle.next_view.specs.ViewNotes.{having_heard}
+use Rattle.membership.proofs.ProposalsLead.{flush-leads, anew-is}
 use Rattle.membership.proofs.member_state.MemberState.anew_past.Goals as goal
 use Rattle.step_output.specs.Steps.{who_of}
 

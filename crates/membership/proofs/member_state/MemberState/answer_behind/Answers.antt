@@ -1,5 +1,5 @@
 use Rattle.std.proofs.Common.{rules}
-use Rattle.membership.proofs.FactOfBehind.{answered-behind}
+use Rattle.membership.proofs.BehindAnswered.{answered-behind}
 use Rattle.membership.proofs.member_state.MemberState.answer_behind.Goals as goal
 
 pub returns : goal.returns

@@ -1,5 +1,5 @@
 use Rattle.std.proofs.Common.{sym, ◌∙◌}
-use Rattle.membership.proofs.FactOfProposed.{anew-is-proposal}
+use Rattle.membership.proofs.ProposalsLead.{anew-is-proposal}
 use Rattle.membership.proofs.KeepMemberState.{begun-member_state}
 use Rattle.membership.proofs.member_state.MemberState.begin_anew.Goals as goal
 use Rattle.membership.specs.InSteps.{in_step}

@@ -1,7 +1,7 @@
 use Rattle.std.proofs.Common.{refl}
 use Rattle.traffic.specs.ViewStates.{view_of}
 use Rattle.membership.specs.Installs.{finished_given}
-use Rattle.membership.proofs.FactOfSayable.{all-sayable}
+use Rattle.membership.proofs.FlushesAreSayable.{all-sayable}
 use Rattle.membership.proofs.KeepMemberState.{finished-member_state}
 use Rattle.membership.proofs.member_state.MemberState.complete.Goals as goal
 

@@ -1,5 +1,5 @@
 use Rattle.std.proofs.Common.{sym, ◌∙◌}
-use Rattle.membership.proofs.FactOfProposed.{due-is-proposal}
+use Rattle.membership.proofs.ProposalsLead.{due-is-proposal}
 use Rattle.membership.proofs.KeepMemberState.{begun-member_state}
 use Rattle.membership.proofs.member_state.MemberState.propose.Goals as goal
 use Rattle.step_output.specs.Steps.{who_of}

@@ -1,5 +1,5 @@
 use Rattle.std.proofs.Common.{sym, ◌∙◌}
-use Rattle.membership.proofs.FactOfProposed.{due-is-proposal}
+use Rattle.membership.proofs.ProposalsLead.{due-is-proposal}
 use Rattle.membership.proofs.KeepMemberState.{begun-member_state}
 use Rattle.membership.proofs.member_state.MemberState.regroup.Goals as goal
 use Rattle.membership.specs.InSteps.{in_step}

@@ -1,5 +1,5 @@
 use Rattle.std.proofs.Common.{ap, subst, rules}
-use Rattle.next_view.specs.Notes.{NotesModel}
+use Rattle.next_view.specs.ViewNotes.{NotesModel}
 use Rattle.membership.specs.Changes.{BeginsAnew}
 use Rattle.membership.proofs.KeepNotes.{heard-member_state}
 use Rattle.membership.proofs.member_state.MemberState.take_behind.Goals as goal

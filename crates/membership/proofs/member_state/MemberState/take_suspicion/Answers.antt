@@ -1,5 +1,5 @@
 use Rattle.std.proofs.Common.{ap}
-use Rattle.next_view.specs.Notes.{NotesModel}
+use Rattle.next_view.specs.ViewNotes.{NotesModel}
 use Rattle.membership.proofs.KeepNotes.{suspected-member_state}
 use Rattle.membership.proofs.member_state.MemberState.take_suspicion.Goals as goal
 use Rattle.step_output.specs.Steps.{who_of}

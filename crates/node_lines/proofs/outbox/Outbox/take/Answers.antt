@@ -1,7 +1,7 @@
 use Rattle.std.proofs.Common.{◌≡◌, ℕ, ◌+◌, refl, sym, ap, ◌∙◌, arith, length, List, Some}
 use Rattle.script_reader.specs.Lines.{before_byte, behind_byte}
 use Rattle.node_lines.specs.Outboxes.{without_next}
-use Rattle.node_lines.proofs.FactOfFeeds.{taken-past, next-is}
+use Rattle.node_lines.proofs.FirstLines.{taken-past, next-is}
 use Rattle.node_lines.proofs.outbox.Outbox.take.Goals as goal
 
 pub returns-in-Some : goal.returns-in-Some

@@ -3,7 +3,7 @@ use Rattle.replicated_map.specs.Entries.{state_of, map_size}
 use Rattle.replicated_map.specs.Encoding.{map_decode}
 use Rattle.limits.specs.declared.TheConstants.{STATE}
 use Rattle.replicated_map.specs.MapLaws.{decoded_is_map}
-use Rattle.replicated_map.proofs.FactOfEntries.{Entries}
+use Rattle.replicated_map.proofs.EntriesChange.{Entries}
 use Rattle.replicated_map.proofs.map.ReplicatedMapReceiver.set_state.Goals as goal
 
 pub size_of_all-self-inside-requires : goal.size_of_all-self-inside-requires

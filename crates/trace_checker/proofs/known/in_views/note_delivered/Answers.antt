@@ -3,7 +3,7 @@ use Rattle.std.specs.HashMap.{get}
 use Rattle.address.specs.Ids.{same_address}
 use Rattle.trace_checker.specs.Known.{same_in_view, sent_kept, last_kept}
 use Rattle.trace_checker.specs.declared.known.in_views.InView.{InView}
-use Rattle.trace_checker.proofs.FactOfTables.{left-there, changed-there}
+use Rattle.trace_checker.proofs.TablesLookUp.{left-there, changed-there}
 use Rattle.trace_checker.proofs.known.in_views.note_delivered.Goals as goal
 
 -- what it sent stays

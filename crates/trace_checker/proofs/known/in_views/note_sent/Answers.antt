@@ -2,7 +2,7 @@ use Rattle.std.proofs.Common.{Option, is_some, sym, ap}
 use Rattle.std.specs.HashMap.{get}
 use Rattle.trace_checker.specs.Known.{same_in_view, delivered_kept, last_kept}
 use Rattle.trace_checker.specs.declared.known.in_views.InView.{InView}
-use Rattle.trace_checker.proofs.FactOfTables.{left-there}
+use Rattle.trace_checker.proofs.TablesLookUp.{left-there}
 use Rattle.trace_checker.proofs.known.in_views.note_sent.Goals as goal
 
 -- what it delivered stays

@@ -2,7 +2,7 @@ use Rattle.std.proofs.Common.{◌∙◌, ap, subst}
 use Rattle.std.specs.HashMap.{get}
 use Rattle.address.specs.Ids.{ViewId, same_address, same_view_id}
 use Rattle.trace_checker.specs.Copies.{EntersWith}
-use Rattle.trace_checker.proofs.FactOfEntryState.{install-known}
+use Rattle.trace_checker.proofs.EntryStatesKept.{install-known}
 use Rattle.trace_checker.proofs.known.states.enter.Goals as goal
 
 -- the bytes are compared, or are the first

@@ -2,7 +2,7 @@ use Rattle.std.proofs.Common.{◌∙◌, ap}
 use Rattle.std.specs.HashMap.{get}
 use Rattle.address.specs.Ids.{same_address, same_view_id}
 use Rattle.trace_drawing.specs.Layout.{same_message}
-use Rattle.trace_drawing.proofs.FactOfRows.{column-kept, row-kept}
+use Rattle.trace_drawing.proofs.RowsAndLines.{column-kept, row-kept}
 use Rattle.trace_drawing.proofs.KeepKnown.{members-noted}
 use Rattle.trace_drawing.proofs.known.Known.note.Goals as goal
 

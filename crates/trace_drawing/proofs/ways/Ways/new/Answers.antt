@@ -1,7 +1,7 @@
 use Rattle.std.proofs.Common.{◌∙◌, take, refl, sym, subst, List}
 use Rattle.trace_drawing.specs.declared.aside.AsideRow.{AsideRow}
 use Rattle.trace_drawing.specs.Packets.{row_in, KnowsWays}
-use Rattle.trace_drawing.proofs.FactOfRows.{next-take-at, length-front}
+use Rattle.trace_drawing.proofs.RowsAndLines.{next-take-at, length-front}
 use Rattle.trace_drawing.proofs.ways.Ways.new.Goals as goal
 
 -- one row more

@@ -1,5 +1,5 @@
 use Rattle.std.proofs.Common.{arith}
-use Rattle.traffic.proofs.FactOfRanges.{nak-next, nak-all}
+use Rattle.traffic.proofs.RangesHeld.{nak-next, nak-all}
 use Rattle.traffic.proofs.coordinator.Coordinator.nak.Goals as goal
 
 pub loop-g-preserved : goal.loop-g-preserved

@@ -1,7 +1,7 @@
 use Rattle.std.proofs.Common.{None}
 use Rattle.traffic.proofs.ActsInTurn.{goes-nothing, goes-then}
-use Rattle.traffic.proofs.FactOfTurns.{ordering-nothing, ordering-then}
-use Rattle.traffic.proofs.FactOfFew.{few}
+use Rattle.traffic.proofs.TurnsFollow.{ordering-nothing, ordering-then}
+use Rattle.traffic.proofs.FewAreOrdered.{few}
 use Rattle.traffic.proofs.coordinator.Coordinator.order.Goals as goal
 
 pub loop-init : goal.loop-init

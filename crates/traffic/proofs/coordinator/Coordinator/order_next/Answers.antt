@@ -1,5 +1,5 @@
 use Rattle.traffic.proofs.ActsOfTurns.{rest-goes, rest-done, turn-goes, turn-fewer}
-use Rattle.traffic.proofs.FactOfTurns.{serves-none, serves-some, held-view, turn-does, rest-does}
+use Rattle.traffic.proofs.TurnsFollow.{serves-none, serves-some, held-view, turn-does, rest-does}
 use Rattle.traffic.proofs.KeepSettled.{settled-next}
 use Rattle.traffic.proofs.coordinator.Coordinator.order_next.Goals as goal
 

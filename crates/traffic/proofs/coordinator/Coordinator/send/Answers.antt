@@ -1,5 +1,5 @@
 use Rattle.std.proofs.Common.{None}
-use Rattle.traffic.proofs.FactOfSends.{send-goes}
+use Rattle.traffic.proofs.OwnSends.{send-goes}
 use Rattle.traffic.proofs.ActsInTurn.{goes-then}
 use Rattle.traffic.proofs.KeepBetweenSteps.{settled-sent, sends-orders, delivers-own-at-once, few-more}
 use Rattle.traffic.proofs.coordinator.Coordinator.send.Goals as goal

@@ -1,6 +1,6 @@
 use Rattle.traffic.proofs.ActsOfFollowers.{turn-then}
 use Rattle.traffic.proofs.ActsInTurn.{other-nothing}
-use Rattle.traffic.proofs.FactOfDeliveries.{delivers-nothing, delivers-then, delivers-few}
+use Rattle.traffic.proofs.OthersDeliver.{delivers-nothing, delivers-then, delivers-few}
 use Rattle.traffic.proofs.follower.Follower.deliver_all.Goals as goal
 
 pub loop-init : goal.loop-init

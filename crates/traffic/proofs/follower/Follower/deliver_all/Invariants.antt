@@ -1,6 +1,6 @@
 use Rattle.std.proofs.Common.{Option, ◌+◌, ◌-◌}
 use Rattle.limits.specs.declared.TheConstants.{WINDOW}
-use Rattle.acts.specs.Histories.{Posted}
+use Rattle.law_acts.specs.Histories.{Posted}
 use Rattle.traffic.specs.Goings.{FollowerGoes}
 use Rattle.traffic.specs.Takes.{DeliversHeld}
 use Rattle.traffic.proofs.follower.Follower.deliver_all.Given as goal

@@ -1,5 +1,5 @@
 use Rattle.traffic.proofs.ActsOfFollowers.{order-goes}
-use Rattle.traffic.proofs.FactOfDeliveries.{order-taken, answers-goes, order-few}
+use Rattle.traffic.proofs.OthersDeliver.{order-taken, answers-goes, order-few}
 use Rattle.traffic.proofs.follower.Follower.order.Goals as goal
 
 pub returns : goal.returns

@@ -1,4 +1,4 @@
-use Rattle.traffic.proofs.FactOfReported.{view_state-reported}
+use Rattle.traffic.proofs.WindowsReported.{view_state-reported}
 use Rattle.traffic.specs.ViewStates.{view_of, view_core_of}
 use Rattle.traffic.proofs.view_state.ViewState.kept.Goals as goal
 

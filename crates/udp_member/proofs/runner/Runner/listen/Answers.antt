@@ -1,5 +1,5 @@
 use Rattle.std.proofs.lemmas.Result.{err_from_is_err_and}
-use Rattle.udp_member.proofs.FactOfRounds.{heard-none, heard-one, heard-until, heard-full, heard-cut}
+use Rattle.udp_member.proofs.RoundsCompose.{heard-none, heard-one, heard-until, heard-full, heard-cut}
 use Rattle.udp_member.proofs.runner.Runner.listen.Goals as goal
 
 pub loop-turn-init : goal.loop-turn-init

@@ -1,4 +1,4 @@
-use Rattle.udp_member.proofs.FactOfRounds.{HeardSoFar}
+use Rattle.udp_member.proofs.RoundsCompose.{HeardSoFar}
 use Rattle.udp_member.proofs.runner.Runner.listen.Given as goal
 
 -- each turn so far handed in a datagram

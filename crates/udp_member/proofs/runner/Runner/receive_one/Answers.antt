@@ -1,7 +1,7 @@
 use Rattle.std.proofs.Common.{◌∙◌, refl, rules}
 use Rattle.std.proofs.lemmas.List.{with_items_is}
 use Rattle.std.proofs.lemmas.Result.{err_from_is_err_and}
-use Rattle.udp_member.proofs.FactOfRounds.{heard}
+use Rattle.udp_member.proofs.RoundsCompose.{heard}
 use Rattle.udp_member.proofs.runner.Runner.receive_one.Goals as goal
 
 pub returns-in_err-hand_in-in-Ok-Some : goal.returns-in_err-hand_in-in-Ok-Some

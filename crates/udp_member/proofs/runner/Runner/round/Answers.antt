@@ -1,5 +1,5 @@
 use Rattle.std.proofs.lemmas.Result.{err_from_is_err_and}
-use Rattle.udp_member.proofs.FactOfRounds.{cut-while-hearing, cut-while-suspecting, ticked}
+use Rattle.udp_member.proofs.RoundsCompose.{cut-while-hearing, cut-while-suspecting, ticked}
 use Rattle.udp_member.proofs.runner.Runner.round.Goals as goal
 
 pub returns-in_err-_count : goal.returns-in_err-_count

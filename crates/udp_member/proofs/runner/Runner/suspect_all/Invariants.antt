@@ -1,4 +1,4 @@
-use Rattle.udp_member.proofs.FactOfRounds.{SuspectedSoFar}
+use Rattle.udp_member.proofs.RoundsCompose.{SuspectedSoFar}
 use Rattle.udp_member.proofs.runner.Runner.suspect_all.Given as goal
 
 -- the silent of the first addresses were handed in

@@ -1,5 +1,5 @@
 use Rattle.std.proofs.Common.{refl, sym, ap, ◌∙◌}
-use Rattle.udp_runs.proofs.FactOfGoing.{refused, uncrashed-so, killed}
+use Rattle.udp_runs.proofs.CallsAmongOthers.{refused, uncrashed-so, killed}
 use Rattle.udp_runs.proofs.node_state.NodeState.crash.Goals as goal
 
 pub returns-in_default : goal.returns-in_default

@@ -1,7 +1,7 @@
 use Rattle.std.proofs.Common.{Bool, refl, sym, ◌∙◌}
 use Rattle.udp_member.specs.Rounds.{Rounds}
 use Rattle.udp_runs.specs.Carrying.{Idle, Turns}
-use Rattle.udp_runs.proofs.FactOfGoing.{still, turn-on, turn-off, turn-cut}
+use Rattle.udp_runs.proofs.CallsAmongOthers.{still, turn-on, turn-off, turn-cut}
 use Rattle.udp_runs.proofs.node_state.NodeState.round.Goals as goal
 
 pub returns-in_default : goal.returns-in_default

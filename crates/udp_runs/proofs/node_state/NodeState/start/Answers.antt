@@ -1,5 +1,5 @@
 use Rattle.std.proofs.Common.{refl}
-use Rattle.udp_runs.proofs.FactOfGoing.{starts, starts-unsaid, starts-not}
+use Rattle.udp_runs.proofs.CallsAmongOthers.{starts, starts-unsaid, starts-not}
 use Rattle.udp_runs.proofs.node_state.NodeState.start.Goals as goal
 
 pub returns-in_err-append_event : goal.returns-in_err-append_event

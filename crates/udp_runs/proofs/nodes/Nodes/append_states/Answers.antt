@@ -1,6 +1,6 @@
 use Rattle.std.proofs.Common.{arith}
-use Rattle.udp_runs.proofs.FactOfTexts.{on-err}
-use Rattle.udp_runs.proofs.FactOfGoing.{states-more, states-some}
+use Rattle.udp_runs.proofs.LinesAndEvents.{on-err}
+use Rattle.udp_runs.proofs.CallsAmongOthers.{states-more, states-some}
 use Rattle.udp_runs.proofs.nodes.Nodes.append_states.Goals as goal
 
 pub returns-in_err-append_state-clause-err : goal.returns-in_err-append_state-clause-err

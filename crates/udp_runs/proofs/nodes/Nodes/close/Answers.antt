@@ -1,4 +1,4 @@
-use Rattle.udp_runs.proofs.FactOfGoing.{closes-more}
+use Rattle.udp_runs.proofs.CallsAmongOthers.{closes-more}
 use Rattle.std.proofs.Common.{arith}
 use Rattle.udp_runs.proofs.nodes.Nodes.close.Goals as goal
 

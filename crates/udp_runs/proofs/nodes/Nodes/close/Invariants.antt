@@ -7,6 +7,6 @@ use Rattle.udp_runs.proofs.nodes.Nodes.close.Given as goal
 -- the nets of so many were given back, and the others are as they were
 abbrev pub invariant-loop-index : goal.invariant-loop-index
 invariant-loop-index g l =
-    GivesBack (g.M.Machine.gone l.fn.machine) (map net_of (processes_in (take l.index l.fn.self.node_states.items))) (g.M.Machine.gone l.machine)
+    GivesBack (g.M.NodeMachine.gone l.fn.machine) (map net_of (processes_in (take l.index l.fn.self.node_states.items))) (g.M.NodeMachine.gone l.machine)
     × (length l.self.node_states.items ≡ length l.fn.self.node_states.items)
     × ((k : ℕ) → l.index ≤ k → slice_get l.self.node_states.items k ≡ slice_get l.fn.self.node_states.items k)

@@ -1,6 +1,6 @@
 use Rattle.std.proofs.Common.{◌≡◌, length, subst, arith}
 use Rattle.udp_runs.specs.Nodes.{IsFirst}
-use Rattle.udp_runs.proofs.FactOfListed.{first-none}
+use Rattle.udp_runs.proofs.NodesListed.{first-none}
 use Rattle.udp_runs.proofs.nodes.Nodes.index_of.Goals as goal
 
 pub returns-clause-unlisted : goal.returns-clause-unlisted

@@ -1,9 +1,9 @@
 use Rattle.std.proofs.Common.{subst, sym}
 use Rattle.std.specs.List.Sorted.{IsPermutation, IsNonDecreasingBy}
 use Rattle.udp_runs.specs.Carrying.{place_of}
-use Rattle.udp_runs.proofs.FactOfGoing.{unused-more}
-use Rattle.udp_runs.proofs.FactOfListed.{are-listed, node-more}
-use Rattle.udp_runs.proofs.FactOfPlaces.{at-place}
+use Rattle.udp_runs.proofs.CallsAmongOthers.{unused-more}
+use Rattle.udp_runs.proofs.NodesListed.{are-listed, node-more}
+use Rattle.udp_runs.proofs.PlacesSet.{at-place}
 use Rattle.udp_runs.proofs.nodes.Nodes.new.Goals as goal
 
 pub loop-place-preserved : goal.loop-place-preserved

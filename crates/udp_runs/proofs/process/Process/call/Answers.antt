@@ -1,6 +1,6 @@
 use Rattle.std.proofs.Common.{refl}
 use Rattle.std.specs.Result.{result_err}
-use Rattle.udp_runs.proofs.FactOfTurns.{takes-none, takes-call}
+use Rattle.udp_runs.proofs.ProcessesTurn.{takes-none, takes-call}
 use Rattle.udp_runs.proofs.process.Process.call.Goals as goal
 
 pub returns-in_err-answer-clause-turn : goal.returns-in_err-answer-clause-turn

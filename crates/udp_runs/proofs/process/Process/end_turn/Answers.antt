@@ -2,8 +2,8 @@ use Rattle.std.proofs.Common.{map, ◌∙◌}
 use Rattle.std.specs.Result.{result_err}
 use Rattle.udp_runs.specs.Answers.{answer_lines}
 use Rattle.udp_runs.specs.Texts.{Happens}
-use Rattle.udp_runs.proofs.FactOfTexts.{on-err, cut-some, cut-whole, text-then}
-use Rattle.udp_runs.proofs.FactOfTurns.{shows-as}
+use Rattle.udp_runs.proofs.LinesAndEvents.{on-err, cut-some, cut-whole, text-then}
+use Rattle.udp_runs.proofs.ProcessesTurn.{shows-as}
 use Rattle.udp_runs.proofs.process.Process.end_turn.Goals as goal
 
 pub returns-in_err-append_events-clause-err : goal.returns-in_err-append_events-clause-err

@@ -1,6 +1,6 @@
 use Rattle.std.specs.Result.{result_err}
-use Rattle.deployed_runners.specs.Runs.{Round}
-use Rattle.udp_runs.proofs.FactOfTurns.{takes-call}
+use Rattle.law_runners.specs.Runs.{Round}
+use Rattle.udp_runs.proofs.ProcessesTurn.{takes-call}
 use Rattle.udp_runs.proofs.process.Process.round.Goals as goal
 
 pub returns-clause-turn : goal.returns-clause-turn

@@ -1,10 +1,10 @@
 use Rattle.std.proofs.Common.{◌≡◌, ℕ, [], ◌++◌, map, take, refl, sym, ap, ◌∙◌}
-use Rattle.udp_runs.proofs.FactOfOwed.{noted-keeps, unsaid-same}
+use Rattle.udp_runs.proofs.LinesOwed.{noted-keeps, unsaid-same}
 use Rattle.std.specs.List.{concat}
 use Rattle.std.proofs.lemmas.List.{append-nil}
 use Rattle.udp_runs.specs.Texts.{Happens, texts_of}
-use Rattle.udp_runs.proofs.FactOfTelling.{told-one}
-use Rattle.udp_runs.proofs.FactOfTexts.{took-some, on-err}
+use Rattle.udp_runs.proofs.NodesTell.{told-one}
+use Rattle.udp_runs.proofs.LinesAndEvents.{took-some, on-err}
 use Rattle.udp_runs.proofs.telling.Teller.append_all.Goals as goal
 
 pub returns-in_err-append_blocked-clause-err : goal.returns-in_err-append_blocked-clause-err

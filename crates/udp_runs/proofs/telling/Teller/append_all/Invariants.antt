@@ -1,6 +1,6 @@
 use Rattle.std.proofs.Common.{◌≡◌, false, length}
 use Rattle.node_lines.specs.Came.{KeepsUnsaid}
-use Rattle.udp_runs.proofs.FactOfTexts.{Took}
+use Rattle.udp_runs.proofs.LinesAndEvents.{Took}
 use Rattle.udp_runs.proofs.telling.Teller.append_all.Given as goal
 
 -- some events were taken, and their lines were appended, unless it speaks

@@ -1,5 +1,5 @@
 use Rattle.std.proofs.Common.{refl, rules}
-use Rattle.udp_runs.proofs.FactOfTelling.{appends-known}
+use Rattle.udp_runs.proofs.NodesTell.{appends-known}
 use Rattle.udp_runs.proofs.telling.Teller.append_known.Goals as goal
 
 pub returns-clause-text : goal.returns-clause-text

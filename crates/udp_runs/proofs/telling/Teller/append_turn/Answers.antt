@@ -1,5 +1,5 @@
-use Rattle.udp_runs.proofs.FactOfTelling.{appends-said, begun-events}
-use Rattle.udp_runs.proofs.FactOfOwed.{on-any, unsaid-then-same}
+use Rattle.udp_runs.proofs.NodesTell.{appends-said, begun-events}
+use Rattle.udp_runs.proofs.LinesOwed.{on-any, unsaid-then-same}
 use Rattle.udp_runs.proofs.telling.Teller.append_turn.Goals as goal
 
 pub returns-in-Ok-clause-text : goal.returns-in-Ok-clause-text

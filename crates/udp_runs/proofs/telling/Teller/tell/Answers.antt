@@ -1,4 +1,4 @@
-use Rattle.udp_runs.proofs.FactOfTelling.{writes-turn, on-shown}
+use Rattle.udp_runs.proofs.NodesTell.{writes-turn, on-shown}
 use Rattle.udp_runs.proofs.telling.Teller.tell.Goals as goal
 
 pub returns-clause-tells : goal.returns-clause-tells

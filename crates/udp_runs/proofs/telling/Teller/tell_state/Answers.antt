@@ -1,4 +1,4 @@
-use Rattle.udp_runs.proofs.FactOfTelling.{writes-state}
+use Rattle.udp_runs.proofs.NodesTell.{writes-state}
 use Rattle.udp_runs.proofs.telling.Teller.tell_state.Goals as goal
 
 pub returns-clause-writes : goal.returns-clause-writes

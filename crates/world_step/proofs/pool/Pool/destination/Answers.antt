@@ -1,6 +1,6 @@
 use Rattle.std.proofs.Common.{rules, sym, ap, ◌∙◌}
 use Rattle.std.specs.Option.{option_copied}
-use Rattle.world_step.proofs.FactOfDestinations.{destination-at, found-at}
+use Rattle.world_step.proofs.PoolDestinations.{destination-at, found-at}
 use Rattle.world_step.proofs.pool.Pool.destination.Goals as goal
 
 -- so many were not put out

@@ -1,5 +1,5 @@
 use Rattle.std.proofs.Common.{sym, ◌∙◌, arith, ◌<◌, length}
-use Rattle.world_step.proofs.FactOfFirst.{first-later, first-here}
+use Rattle.world_step.proofs.FirstForAddress.{first-later, first-here}
 use Rattle.world_step.proofs.pool.Pool.first_for.Goals as goal
 
 -- this one is for it

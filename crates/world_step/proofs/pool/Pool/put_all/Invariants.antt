@@ -2,7 +2,7 @@ use Rattle.std.proofs.Common.{◌≡◌, ◌≤◌, ◌+◌, ◌++◌, map, leng
 use Rattle.std.specs.Vec.Iter.{into_iter_items}
 use Rattle.world_step.specs.NodeStates.{bytes_of}
 use Rattle.world_step.specs.Outputs.{AreAddressed}
-use Rattle.world_step.proofs.FactOfDestinations.{AreKept}
+use Rattle.world_step.proofs.PoolDestinations.{AreKept}
 use Rattle.world_step.proofs.pool.Pool.put_all.Given as goal
 
 -- the packets so far are put out, and there is room for the others

@@ -5,7 +5,7 @@ use Rattle.trace_props.specs.declared.event.Event.{Event}
 use Rattle.trace_props.specs.Agreeing.{MayEnter}
 use Rattle.trace_checker.specs.Copies.{KnowsStates}
 use Rattle.trace_checker.proofs.KeepStates.{nothing-known}
-use Rattle.trace_checker.proofs.FactOfEntryState.{of-install}
+use Rattle.trace_checker.proofs.EntryStatesKept.{of-install}
 use Rattle.trace_checker.proofs.known.states.States.advance.Goals as goal
 
 -- nothing is delivered or installed

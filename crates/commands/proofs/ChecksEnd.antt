@@ -1,0 +1,44 @@
+-- How the check of a trace ends.
+use Rattle.std.proofs.Common.{◌≡◌, ℕ, List, [], Option, Ok, Err, IfSome, unwrap_or}
+use Rattle.state_transfer.specs.Meanings.{Meaning}
+use Rattle.trace_props.specs.declared.event.Event.{Event}
+use Rattle.trace_props.specs.declared.verdict.Verdict.{Verdict}
+use Rattle.trace_props.specs.Verdicts.{IsVerdict}
+use Rattle.script_reader.specs.declared.fault.Fault.{Fault}
+use Rattle.script_reader.specs.Script.{fault_number}
+use Rattle.trace_reader.specs.Traces.{trace_of}
+use Rattle.endings.specs.declared.status.Status.{Status}
+use Rattle.endings.specs.declared.status.Status.TheVariants.{Memory}
+use Rattle.endings.specs.Outcomes.{Ends, Written, IsFaultText, memory_line}
+use Rattle.endings.specs.Outcomes.IsAnswer.{Answers}
+use Rattle.commands.specs.Checks.{IsVerdictText, IsJudgedText, IsCheckText, ChecksTrace}
+use Rattle.commands.specs.Checks.IsJudgedText.{Judged, Unjudged}
+use Rattle.commands.specs.Checks.IsCheckText.{Checks, Faulty, Unread}
+use Rattle.endings.proofs.TextsFollow.{written-as, left-of}
+
+-- a verdict was printed
+pub judged-text : {S : Type 0} (meaning : Meaning S) (t : List Event) (v : Verdict) (a b : Option (List ℕ)) (status : Status)
+    → IsVerdict meaning t v → Written (IsVerdictText v) a b status → Written (IsJudgedText meaning t) a b status
+judged-text meaning t v a b status is w = written-as (IsVerdictText v) (IsJudgedText meaning t) a b status (λ s x says. Judged v s x is says) w
+
+-- memory was refused before there was a verdict
+pub unjudged-text : {S : Type 0} (meaning : Meaning S) (t : List Event) (a b : Option (List ℕ)) (status : Status)
+    → Ends a b memory_line Memory status → Written (IsJudgedText meaning t) a b status
+unjudged-text meaning t a b status e = record { meant = Memory; text = memory_line; says = Unjudged; ends = e }
+
+-- the trace was read and judged
+pub checked-text : {S : Type 0} (meaning : Meaning S) (left a b : Option (List ℕ)) (bytes : List ℕ) (t : List Event) (status : Status)
+    → IfSome left (λ all. bytes ≡ all) → trace_of bytes ≡ Ok t → Written (IsJudgedText meaning t) a b status → ChecksTrace meaning left a b status
+checked-text meaning left a b bytes t status is read w =
+    Answers bytes status is (written-as (IsJudgedText meaning t) (IsCheckText meaning bytes) a b status (λ s x says. Checks t s x read says) w)
+
+-- it was read and has a fault
+pub faulty-text : {S : Type 0} (meaning : Meaning S) (left a b : Option (List ℕ)) (bytes : List ℕ) (line : ℕ) (fault : Fault) (status : Status)
+    → IfSome left (λ all. bytes ≡ all) → trace_of bytes ≡ Err (record { line = line; fault = fault }) → Written (IsFaultText line (fault_number fault)) a b status → ChecksTrace meaning left a b status
+faulty-text meaning left a b bytes line fault status is read w =
+    Answers bytes status is (written-as (IsFaultText line (fault_number fault)) (IsCheckText meaning bytes) a b status (λ s x says. Faulty line fault s x read says) w)
+
+-- memory was refused before it was read
+pub unread-trace : {S : Type 0} (meaning : Meaning S) (left a b : Option (List ℕ)) (status : Status)
+    → Ends a b memory_line Memory status → ChecksTrace meaning left a b status
+unread-trace meaning left a b status e = Answers (unwrap_or left []) status (left-of left) (record { meant = Memory; text = memory_line; says = Unread; ends = e })

@@ -1,3 +1,0 @@
-pub mod FactOfOffer
-pub mod FactOfProposal
-pub mod ActsAreAllowed

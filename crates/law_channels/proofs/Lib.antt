@@ -1,0 +1,2 @@
+pub mod CallIsStep
+pub mod WhatChannelsKnow

@@ -1,0 +1,3 @@
+pub mod OffersAccepted
+pub mod ProposalsAreViews
+pub mod ActsAreAllowed

@@ -1,0 +1,4 @@
+pub mod StatesAreMade
+pub mod CountsArePassed
+pub mod CoordinatorsCount
+pub mod ClausesOfCopies

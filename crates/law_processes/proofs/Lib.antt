@@ -1,0 +1,13 @@
+pub mod PostsAreSpelled
+pub mod CallsBringPosts
+pub mod KeepBySteps
+pub mod ProcessesInOrder
+pub mod MembersTell
+pub mod DeploymentsGoOn
+pub mod NewMembers
+pub mod StatesAreReadable
+pub mod ProcessesKnow
+pub mod ActsAreOwn
+pub mod ElementsComeFrom
+pub mod MessagesCarried
+pub mod SendsWereAsked

@@ -1,0 +1,13 @@
+pub mod ItemsJoin
+pub mod ProcessesMerged
+pub mod WhatRunnersKnow
+pub mod StepsOfCalls
+pub mod StaysRunning
+pub mod ItemsOfRounds
+pub mod ItemsOfCalls
+pub mod ItemsInOrder
+pub mod HandsPlay
+pub mod HandsGoOn
+pub mod ChannelsTellNoStart
+pub mod ChannelsTellOwn
+pub mod SendsAreSaid

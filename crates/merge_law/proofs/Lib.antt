@@ -1,9 +1,0 @@
-mod FactOfElements
-mod FactOfOwnEvents
-mod FactOfEntries
-mod FactOfMerges
-mod FactOfShown
-mod KeepPlaces
-mod KeepMessages
-mod KeepEntries
-mod LawOfOrders

@@ -1,5 +1,0 @@
-use Rattle.std.proofs.Common.{rules}
-use Rattle.next_view.proofs.notes.Notes.leads.Goals as goal
-
-pub returns : goal.returns
-returns c = search rules

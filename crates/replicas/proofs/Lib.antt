@@ -1,4 +1,0 @@
-pub mod FactOfStates
-pub mod FactOfCounts
-pub mod FactOfCoordinators
-pub mod FactOfReplicas

@@ -1,0 +1,19 @@
+use Rattle.std.proofs.Common.{◌∙◌, sym, subst}
+use Rattle.node_lines.specs.Outboxes.{OutboxModel}
+use Rattle.node_lines.specs.Came.{Owes}
+use Rattle.node_lines.proofs.LinesKept.{owes-without-long}
+use Rattle.udp_runs.proofs.LinesOwed.{on-any, no-ok, line-of}
+use Rattle.udp_runs.proofs.lone.LoneNode.next_line.Goals as goal
+
+pub returns-in_err-from_slice-in-Ok-Some-clause-owes : goal.returns-in_err-from_slice-in-Ok-Some-clause-owes
+returns-in_err-from_slice-in-Ok-Some-clause-owes g c = on-any _ c.from_residual.result (λ start came x. subst (λ (q : OutboxModel). Owes start came q c.args.self.now.teller.unsaid) (sym c.see_end.ensures) x)
+
+pub returns-in_err-from_slice-in-Ok-Some-clause-line : goal.returns-in_err-from_slice-in-Ok-Some-clause-line
+returns-in_err-from_slice-in-Ok-Some-clause-line g c start came x = no-ok _ c.from_residual.result c.from_residual.ensures.0
+
+pub returns-in_ok-from_slice-in-Ok-Some-clause-line : goal.returns-in_ok-from_slice-in-Ok-Some-clause-line
+returns-in_ok-from_slice-in-Ok-Some-clause-line g c start came x = line-of start came c.args.self.now.outbox c.see_end.new.self c.args.self.now.teller.unsaid _ _ c.see_end.ensures c.in_ok-from_slice-in-Ok-Some.ensures.items (rw c.in-Ok-Some.field-0-is at c.in-Ok-Some.ensures) x
+
+pub returns-in-Err-Long-clause-owes : goal.returns-in-Err-Long-clause-owes
+returns-in-Err-Long-clause-owes g c start came x = subst (λ (q : OutboxModel). Owes start came q c.args.self.now.teller.unsaid) (sym c.drop_long.ensures)
+    (owes-without-long start came c.see_end.new.self c.args.self.now.teller.unsaid (subst (λ (q : OutboxModel). Owes start came q c.args.self.now.teller.unsaid) (sym c.see_end.ensures) x))

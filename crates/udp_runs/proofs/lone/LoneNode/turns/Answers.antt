@@ -1,0 +1,39 @@
+use Rattle.std.proofs.Common.{refl, ◌∙◌}
+use Rattle.node_lines.proofs.LinesKept.{earlier-refl, earlier-trans}
+use Rattle.udp_runs.proofs.NodesTell.{tells-none, tells-then, told-all}
+use Rattle.udp_runs.proofs.LinesOwed.{same-keeps}
+use Rattle.udp_runs.proofs.lone.LoneNode.turns.Goals as goal
+
+pub loop-round-init : goal.loop-round-init
+loop-round-init g c = (λ start later owed earlier none. tells-none _ _ _ _ c.args.settings.now.group _ _ _ _ none, refl, refl, refl, earlier-refl _, λ start owed. owed)
+
+pub returns-in-Err-clause-tells : goal.returns-in-Err-clause-tells
+returns-in-Err-clause-tells g c start later owed earlier none =
+    let (told, voice, gone, once, grows, owes) = c.loop-round.invariant in
+    tells-then _ _ _ _ c.args.settings.now.group _ _ _ _ _ _ _ _ _ (told start later owed (earlier-trans _ _ _ c.rest.ensures.grows earlier) none) (rw (voice, once) at c.in-Err.ensures.tells c.args.settings.now.group start later (owes start owed) earlier (told-all _ _ _ _ c.args.settings.now.group _ _ _ _ _ _ (told start later owed (earlier-trans _ _ _ c.rest.ensures.grows earlier) none)))
+
+pub returns-in-Err-clause-grows : goal.returns-in-Err-clause-grows
+returns-in-Err-clause-grows g c =
+    let (told, voice, gone, once, grows, owes) = c.loop-round.invariant in
+    earlier-trans _ _ _ grows c.rest.ensures.grows
+
+pub returns-in-Err-turn-clause-tells : goal.returns-in-Err-turn-clause-tells
+returns-in-Err-turn-clause-tells g c start later owed earlier none =
+    let (told, voice, gone, once, grows, owes) = c.loop-round.invariant in
+    tells-then _ _ _ _ c.args.settings.now.group _ _ _ _ _ _ _ _ _ (tells-then _ _ _ _ c.args.settings.now.group _ _ _ _ _ _ _ _ _ (told start later owed (earlier-trans _ _ _ c.rest.ensures.grows (earlier-trans _ _ _ c.turn.ensures.grows earlier)) none) (rw (voice, once) at c.in-Ok.ensures.tells c.args.settings.now.group start later (owes start owed) (earlier-trans _ _ _ c.turn.ensures.grows earlier) (told-all _ _ _ _ c.args.settings.now.group _ _ _ _ _ _ (told start later owed (earlier-trans _ _ _ c.rest.ensures.grows (earlier-trans _ _ _ c.turn.ensures.grows earlier)) none)))) (rw (c.rest.ensures.voice, voice, c.rest.ensures.once, once) at c.in-Err-turn.ensures.tells start later (c.in-Ok.ensures.owes start (owes start owed)) earlier)
+
+pub returns-in-Err-turn-clause-grows : goal.returns-in-Err-turn-clause-grows
+returns-in-Err-turn-clause-grows g c =
+    let (told, voice, gone, once, grows, owes) = c.loop-round.invariant in
+    earlier-trans _ _ _ (earlier-trans _ _ _ grows c.rest.ensures.grows) c.turn.ensures.grows
+
+pub loop-round-preserved : goal.loop-round-preserved
+loop-round-preserved g c =
+    let (told, voice, gone, once, grows, owes) = c.loop-round.invariant in (
+      λ start later owed earlier none. rw c.look.ensures.member (tells-then _ _ _ _ c.args.settings.now.group _ _ _ _ _ _ _ _ _ (tells-then _ _ _ _ c.args.settings.now.group _ _ _ _ _ _ _ _ _ (told start later owed (earlier-trans _ _ _ c.rest.ensures.grows (earlier-trans _ _ _ c.turn.ensures.grows earlier)) none) (rw (voice, once) at c.in-Ok.ensures.tells c.args.settings.now.group start later (owes start owed) (earlier-trans _ _ _ c.turn.ensures.grows earlier) (told-all _ _ _ _ c.args.settings.now.group _ _ _ _ _ _ (told start later owed (earlier-trans _ _ _ c.rest.ensures.grows (earlier-trans _ _ _ c.turn.ensures.grows earlier)) none)))) (rw (c.rest.ensures.voice, voice, c.rest.ensures.once, once) at c.in-Ok-turn.ensures.tells start later (c.in-Ok.ensures.owes start (owes start owed)) earlier)),
+      c.look.ensures.voice ∙ c.turn.ensures.voice ∙ c.rest.ensures.voice ∙ voice,
+      c.look.ensures.gone ∙ c.rest.ensures.gone ∙ gone,
+      c.look.ensures.texts.0 ∙ c.turn.ensures.once ∙ c.rest.ensures.once ∙ once,
+      earlier-trans _ _ _ (earlier-trans _ _ _ grows c.rest.ensures.grows) c.turn.ensures.grows,
+      λ start owed. same-keeps _ _ _ _ _ _ c.look.ensures.texts start _ (c.in-Ok-turn.ensures.owes start (c.in-Ok.ensures.owes start (owes start owed))),
+    )
