@@ -1,14 +1,13 @@
-ghost use Rattle.std.specs.Prelude.{◌≡◌, [], OnOk, OnErr, IfOk, length, take};
-ghost use Rattle.udp_net.specs.Bursts.{looks_like, is_held, fits, may_wait, held_after, TakesFirst};
+ghost use Rattle.std.specs.Prelude.{◌≡◌, [], OnOk, OnErr, IfOk, length};
+ghost use Rattle.udp_net.specs.Bursts.{is_held, fits, may_wait, held_after, TakesFirst};
 
-use crate::{FRONT, HELD_BACK};
+use crate::HELD_BACK;
 use owned_bytes::Bytes;
 use std::alloc::{AllocError, Global};
 use std::collections::VecDeque;
 use std::marker::Model;
 
-/// Datagrams that wait to be sent: first in, first out, none twice, and at most `HELD_BACK` bytes of them. Those of the same length with the same first `FRONT` bytes are
-/// taken for the same. Contracts see their list.
+/// Datagrams that wait to be sent: first in, first out, none twice, and at most `HELD_BACK` bytes of them. Contracts see their list.
 #[derive(Drop)]
 pub struct HeldBack {
     waiting: VecDeque<Bytes>,
@@ -26,20 +25,6 @@ impl Model for HeldBack {
     ghost view = { λ h. h.waiting.items };
 
     ghost invariant = { λ h. (h.size ≡ size_of h.waiting.items) × (h.size ≤ HELD_BACK) };
-}
-
-// The first bytes of a datagram.
-fn front(datagram: &[u8]) -> &[u8]
-    ensures { result.now ≡ take FRONT datagram.now }
-{
-    &datagram[..FRONT.min(datagram.len())]
-}
-
-// Whether two datagrams are taken for the same.
-fn looks_like(one: &[u8], other: &[u8]) -> bool
-    ensures { result ≡ looks_like one.now other.now }
-{
-    one.len() == other.len() && front(one) == front(other)
 }
 
 impl HeldBack {
@@ -95,12 +80,12 @@ impl HeldBack {
         datagram.len() <= HELD_BACK - self.size
     }
 
-    // Whether one that looks like a datagram waits already.
+    // Whether a datagram waits already.
     fn has(&self, datagram: &[u8]) -> bool
         ensures { result ≡ is_held datagram.now self.now }
     {
         self.waiting
             .iter()
-            .any(|waiting| looks_like(waiting.as_slice(), datagram))
+            .any(|waiting| waiting.as_slice() == datagram)
     }
 }

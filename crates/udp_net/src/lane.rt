@@ -1,11 +1,12 @@
 ghost use Rattle.std.specs.Prelude.{◌≡◌, OnErr, IfOk, OnOk, IsTrue, length, map, nat_eq};
-ghost use Rattle.udp_net.specs.Bursts.{opened, passage, offered, after_offer, begun, GoesOn};
+ghost use Rattle.udp_net.specs.Bursts.{opened, passes, has_just_gone, going, passage, offered, after_offer, begun, GoesOn};
 ghost use Rattle.udp_net.specs.Hosts.{IsSameHost, host_of};
 ghost use Rattle.udp_net.specs.Strangers.{IsFrom, IsPlainlyFrom};
 ghost use Rattle.std.specs.Net.Socket.{socket_ip, socket_port};
 
 use crate::held_back::HeldBack;
-use crate::{BURST, Hosts, NodePort, OFFERS, PATIENCE};
+use crate::under_way::{GoneChunks, chunk_in};
+use crate::{BURST, Hosts, NodePort, OFFERS, PATIENCE, SHORT};
 use address::Node;
 use owned_bytes::Bytes;
 use std::alloc::{AllocError, Global};
@@ -19,12 +20,14 @@ pub(crate) enum Passage {
     Goes,
     /// It waits with those that are held back.
     Waits,
+    /// It does not go again: a chunk of a state that is under way.
+    UnderWay,
     /// It is lost: there is no room for it.
     Lost,
 }
 
-/// The way to a node: its port and its host, how many bytes may be sent there and be offered for it yet in this turn, for how many turns of the net it is waited for before its next one, and
-/// what is held back.
+/// The way to a node: its port and its host, how many bytes may be sent there and be offered for it yet in this turn, for how many turns of the net it is waited for before its next one,
+/// what is held back, which of its turns this is, and the chunks of states that went there last.
 #[derive(Drop)]
 pub(crate) struct Lane {
     port: NodePort,
@@ -33,6 +36,8 @@ pub(crate) struct Lane {
     to_offer: usize,
     patience: u32,
     held: HeldBack,
+    turn: u64,
+    gone: GoneChunks,
 }
 
 impl Model for Lane {
@@ -40,7 +45,7 @@ impl Model for Lane {
 
     ghost Value = { LaneModel };
 
-    ghost view = { λ l. record { port = l.port; host = l.host; to_send = l.to_send; to_offer = l.to_offer; patience = l.patience; held = l.held } };
+    ghost view = { λ l. record { port = l.port; host = l.host; to_send = l.to_send; to_offer = l.to_offer; patience = l.patience; held = l.held; turn = l.turn; gone = l.gone } };
 }
 
 // Whether two addresses name the same host: an IPv4 address and its form in IPv6 do.
@@ -62,24 +67,26 @@ pub(crate) fn lanes_to(
 {
     let mut lanes = Vec::with_capacity(alloc, nodes.len())?;
     for node in nodes {
-        lanes.push(Lane::new(alloc, *node, hosts.host_of(node.node)))?;
+        lanes.push(Lane::new(alloc, *node, hosts.host_of(node.node))?)?;
     }
     Ok(lanes)
 }
 
 impl Lane {
-    // The way to a node at a host, on which nothing went. Takes no memory.
-    pub(crate) fn new(alloc: Global, port: NodePort, host: IpAddr) -> Lane
-        ensures { result ≡ opened port host }
+    // The way to a node at a host, on which nothing went.
+    pub(crate) fn new(alloc: Global, port: NodePort, host: IpAddr) -> Result<Lane, AllocError>
+        ensures { IfOk result (λ lane. lane ≡ opened port host) }
     {
-        Lane {
+        Ok(Lane {
             port,
             host,
             to_send: BURST,
             to_offer: OFFERS,
             patience: 0,
             held: HeldBack::new(alloc),
-        }
+            turn: 0,
+            gone: GoneChunks::new(alloc)?,
+        })
     }
 
     // The node.
@@ -120,6 +127,36 @@ impl Lane {
         self.held.len()
     }
 
+    // Whether what is offered goes at once: nothing waits, and some of the bytes that may be sent are left.
+    fn passes(&self) -> bool
+        ensures { result ≡ passes self.now }
+    {
+        self.held.len() == 0 && 1 <= self.to_send
+    }
+
+    // Whether a datagram is a chunk of a state that went there within the last turns.
+    fn has_just_gone(&self, datagram: &[u8]) -> bool
+        ensures { result ≡ has_just_gone datagram.now self.now }
+    {
+        match chunk_in(datagram) {
+            Some(chunk) => self.gone.has(chunk, self.turn),
+            None => false,
+        }
+    }
+
+    // A datagram goes in this turn.
+    fn go(&mut self, datagram: &[u8])
+        ensures { self.new ≡ going datagram.now self.old }
+    {
+        self.to_send = self.to_send.saturating_sub(datagram.len());
+        if datagram.len() <= SHORT {
+            return;
+        }
+        if let Some(chunk) = chunk_in(datagram) {
+            self.gone.note(chunk, self.turn);
+        }
+    }
+
     // What becomes of a datagram that is offered; an error for want of memory drops it.
     pub(crate) fn offer(&mut self, datagram: &[u8]) -> Result<Passage, AllocError>
         ensures ok { IfOk result (λ p. p ≡ passage datagram.now self.old) }
@@ -127,8 +164,11 @@ impl Lane {
         ensures err { OnErr result (self.new ≡ offered (length datagram.now) self.old) }
     {
         self.to_offer = self.to_offer.saturating_sub(datagram.len());
-        if self.held.len() == 0 && 1 <= self.to_send {
-            self.to_send = self.to_send.saturating_sub(datagram.len());
+        if SHORT < datagram.len() && self.has_just_gone(datagram) {
+            return Ok(Passage::UnderWay);
+        }
+        if self.passes() {
+            self.go(datagram);
             return Ok(Passage::Goes);
         }
         if !self.held.hold(datagram)? {
@@ -162,6 +202,7 @@ impl Lane {
         }
         self.patience = PATIENCE;
         self.to_send = BURST;
+        self.turn = self.turn.saturating_add(1);
     }
 
     // Takes out the next of those that are held back, if one goes in this turn: it must be sent then.
@@ -172,7 +213,7 @@ impl Lane {
             return None;
         }
         let datagram = self.held.next()?;
-        self.to_send = self.to_send.saturating_sub(datagram.as_slice().len());
+        self.go(datagram.as_slice());
         Some(datagram)
     }
 }

@@ -18,6 +18,7 @@ mod sieve;
 mod sieved_net;
 mod socket;
 mod socket_net;
+mod under_way;
 mod waiter;
 mod word;
 
@@ -52,9 +53,14 @@ pub const HELD_BACK: usize = 2_097_152;
 /// How long a socket's net waits at most where it holds something back, in milliseconds.
 pub const HELD_WAIT: u64 = 1;
 
-/// By how many of their first bytes two datagrams of the same length for a node are told apart, in bytes. In those of a packet stands what it is about: its header, and its
-/// view or proposal, place, number or index (docs/WIRE.md).
-pub const FRONT: usize = 128;
+/// For how many of a node's turns a chunk of a state that went there is under way, and does not go again: in 16 turns and one more all chunks of the longest state go.
+pub const UNDER_WAY: u64 = 20;
+
+/// How many chunks that went to a node are remembered: more than go in `UNDER_WAY` turns.
+pub const REMEMBERED: usize = 64;
+
+/// The most bytes of a datagram of which it is not asked whether it is a chunk of a state, in bytes: as many as a frame has (docs/WIRE.md, "Frames").
+pub const SHORT: usize = 1_400;
 
 /// The most bytes of a word: 36 at most of its head, 14 of who says it and when, 15 of what it answers, 16 of the view (docs/WIRE.md, "Words").
 pub const WORD: usize = 81;

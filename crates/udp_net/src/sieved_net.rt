@@ -57,7 +57,7 @@ fn send_on<N: Net>(net: &mut N, lane: &mut Lane, datagram: &[u8]) -> bool
             net.send(lane.node(), datagram);
             false
         }
-        Ok(Passage::Waits) => false,
+        Ok(Passage::Waits | Passage::UnderWay) => false,
         Ok(Passage::Lost) | Err(_) => true,
     };
     if lane.is_over() {

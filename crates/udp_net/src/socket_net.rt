@@ -29,9 +29,9 @@ use wire::{Packet, decode};
 /// (docs/RUNNER.md, "What a net drops"). What spells no packet is given, and refused by the member.
 ///
 /// A long burst goes in pieces, since the buffer of the socket that it is for would not take it: in one turn `BURST` bytes go to a node, and the datagram that
-/// goes over them. What is more is held back, for each node by itself, and goes in order, in the next turns, before what is offered then. One that waits
-/// already is not held back twice (`FRONT`), so that what is asked for again and again takes its turn as a whole. It is lost where more than `HELD_BACK` bytes would wait
-/// for its node, or memory is refused; so is what waits when the net is dropped.
+/// goes over them. What is more is held back, for each node by itself, and goes in order, in the next turns, before what is offered then. What is under way does not go again, so that
+/// what is asked for again and again takes its turn as a whole: a datagram that waits already is not held back twice, and a chunk of a state that went within the node's last `UNDER_WAY`
+/// turns is passed over. It is lost where more than `HELD_BACK` bytes would wait for its node, or memory is refused; so is what waits when the net is dropped.
 ///
 /// There is no clock. A turn of the net ends with a receive that finds no datagram, or fails, and with the `TURN`th receive. A node's next turn begins there, if a datagram came
 /// from it since its last one, or after `PATIENCE` turns of the net: so no more is sent to one that has rounds, as a runner, than it takes in each of them, however
@@ -74,7 +74,7 @@ fn send_on(socket: &mut Socket, lane: &mut Lane, datagram: &[u8])
 {
     match lane.offer(datagram) {
         Ok(Passage::Goes) => socket.send(lane.address(), datagram),
-        Ok(Passage::Waits) => {}
+        Ok(Passage::Waits | Passage::UnderWay) => {}
         Ok(Passage::Lost) | Err(_) => socket.lose(),
     }
     if lane.is_over() {
