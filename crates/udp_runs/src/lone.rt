@@ -331,7 +331,7 @@ impl<'a, N: Net, C: Application> LoneNode<'a, N, C> {
         self.finder.go_on(milliseconds(now));
     }
 
-    // Handles datagrams as they come, until it is time for the next round.
+    // Handles datagrams as they come, until it is time for the next round, or no more lines come.
     fn listen_until<L: Lines, M: NodeMachine, W: Write>(
         &mut self,
         due: Duration,
@@ -349,7 +349,7 @@ impl<'a, N: Net, C: Application> LoneNode<'a, N, C> {
         for _ in 0..LISTENS {
             self.go_on(machine.now());
             let rest = due.saturating_sub(self.time);
-            if self.has_ended || rest == Duration::ZERO {
+            if self.has_ended || self.outbox.is_over() || rest == Duration::ZERO {
                 return Ok(());
             }
             lines.look(self.time);

@@ -6,10 +6,14 @@ use std::alloc::{AllocError, Global};
 use std::fs;
 use std::io::{self, Read, Seek, SeekFrom};
 use std::rt::Files;
+use std::time::Duration;
 use udp_runs::{Lines, LinesError};
 
 /// How much is read at a time, in bytes.
 const PIECE: usize = 65_536;
+
+/// How often it is looked whether the file has grown.
+const LOOKS: Duration = Duration::from_millis(2);
 
 /// The lines that are appended to a file. It is opened anew each time, so that it is known when it is there no longer; where it has become shorter, it is read from its beginning.
 #[derive(Drop)]
@@ -68,5 +72,9 @@ impl<'a, R: Files> Lines for Appended<'a, R> {
         text.extend_from_slice(came)?;
         self.past = self.past.saturating_add(count as u64);
         Ok(())
+    }
+
+    fn rest(&self, left: Duration) -> Duration {
+        left.min(LOOKS)
     }
 }
