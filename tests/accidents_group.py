@@ -244,6 +244,13 @@ class Group:
             self[number].start(*(["--contact", f"{numbers[0]}.1"] if place > 1 else []))
             self.one_view(*numbers[:place])
 
+    def long_chat(self):
+        """Starts the first node, which says 2,000 lines: its chat has a megabyte."""
+        self[1].start()
+        self.one_view(1)
+        self[1].say(*(f"{place:04}" + "x" * 508 for place in range(2000)))
+        self.until(lambda: len(self[1].chat) == 2000, 20, "2,000 lines")
+
     def kill(self, *nodes):
         """Kills the processes of these nodes at once by SIGKILL, in the midst of what they do. What they sent is in their texts: a node writes before it sends."""
         for node in nodes:

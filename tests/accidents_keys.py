@@ -79,10 +79,7 @@ def node_with_another_key(group):
 def long_state(group, within):
     """Node 1 has a chat of a megabyte; node 2 is started, let in, and has it."""
     give_key(group, "one")
-    group[1].start()
-    group.one_view(1)
-    group[1].say(*(f"{place:04}" + "x" * 508 for place in range(2000)))
-    group.until(lambda: len(group[1].chat) == 2000, 20, "2,000 lines")
+    group.long_chat()
     yield
     group[2].start()
     group.note("one view", group.one_view(within=within))

@@ -484,13 +484,48 @@ def sixteen_in_three_parts(group):
     group.talk()
 
 
+def chunks_carried(net):
+    """The chunks of states that the network carries from now on: to whom, and how many bytes."""
+    chunks, carry = [], net.carry
+
+    def carry_and_count(one, other, datagram):
+        if accidents_net.kind_of(datagram) == accidents_net.STATE:
+            chunks.append((other, len(datagram)))
+        carry(one, other, datagram)
+
+    net.carry = carry_and_count
+    return chunks
+
+
+@accident(2)
+def long_state_goes_once(group):
+    """The chat has a megabyte, which are 32 chunks. Node 2 is let in by at most 40 of them."""
+    group.long_chat()
+    chunks = chunks_carried(group.net)
+    group[2].start()
+    group.note("one view", group.one_view(within=10))
+    group.notes.append(f"{len(chunks)} chunks")
+    group.expect(group[2].chat == group[1].chat, "node 2 has another chat")
+    group.expect_in_time(len(chunks) <= 40, "chunks go again without need")
+
+
+@accident(11, limit=60)
+def ten_newcomers_with_a_long_state(group):
+    """The chat has a megabyte, and ten nodes come at once. They are let in by at most 16 MiB of chunks."""
+    group.long_chat()
+    chunks = chunks_carried(group.net)
+    group.start(*range(2, 12))
+    group.note("one view", group.one_view(within=25))
+    carried = sum(size for _, size in chunks)
+    group.notes.append(f"{len(chunks)} chunks of {carried} bytes")
+    group.expect(all(node.chat == group[1].chat for node in group.all()), "a node has another chat")
+    group.expect_in_time(carried <= 16 * 1_048_576, "chunks go again without need")
+
+
 @accident(2, limit=60)
 def long_state_from_far(group):
     """The chat has a megabyte, each datagram takes 30 to 50 ms, and a tenth is lost. Node 2 is let in, and has all of it."""
-    group[1].start()
-    group.one_view(1)
-    group[1].say(*(f"{place:04}" + "x" * 508 for place in range(2000)))
-    group.until(lambda: len(group[1].chat) == 2000, 20, "2,000 lines")
+    group.long_chat()
     for link in group.net.each():
         link.delay, link.loss = (0.03, 0.05), 0.1
     group[2].start()

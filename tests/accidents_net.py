@@ -189,7 +189,7 @@ class Network:
 
 # Packets that a test makes by itself (docs/WIRE.md).
 
-JOIN, MERGE = 1, 13
+JOIN, MERGE, STATE = 1, 13, 14
 
 
 def number(value, count):
@@ -203,6 +203,11 @@ def address(text):
 
 def packet(kind, group, source, destination, body=b""):
     return b"VS\x03" + number(kind, 1) + number(len(group), 1) + group + address(source) + address(destination) + body
+
+
+def kind_of(datagram):
+    """The kind of a packet; None if it is none."""
+    return datagram[3] if datagram[:2] == b"VS" and len(datagram) > 3 else None
 
 
 def view(counter, members):

@@ -12,8 +12,8 @@ use udp_runs::{Lines, LinesError};
 /// How much is read at a time, in bytes.
 const PIECE: usize = 65_536;
 
-/// How often it is looked whether the file has grown.
-const LOOKS: Duration = Duration::from_millis(2);
+/// How often it is looked whether the file has grown, in milliseconds.
+const LOOKS: u64 = 2;
 
 /// The lines that are appended to a file. It is opened anew each time, so that it is known when it is there no longer; where it has become shorter, it is read from its beginning.
 #[derive(Drop)]
@@ -75,6 +75,6 @@ impl<'a, R: Files> Lines for Appended<'a, R> {
     }
 
     fn rest(&self, left: Duration) -> Duration {
-        left.min(LOOKS)
+        left.min(Duration::from_millis(LOOKS))
     }
 }
