@@ -8,7 +8,7 @@ ghost use Rattle.member.specs.Watching.{awaited, others_in, watched_in};
 
 use address::Address;
 use flush::Flush;
-use membership::MemberState;
+use membership::{MemberState, others_of};
 use state_transfer::Receiver;
 use std::alloc::AllocError;
 use step_output::Identity;
@@ -27,19 +27,6 @@ fn awaited<R: Receiver>(member_state: &MemberState<R>) -> Option<Address>
         return None;
     }
     Some(creator)
-}
-
-// The others of its view.
-fn others(who: &Identity, view: &View) -> Result<Vec<Address>, AllocError>
-    ensures { IfOk result (λ others. others.items ≡ others_of who.now.address view.now.members) }
-{
-    let mut others = Vec::new(who.alloc);
-    for member in view.members().as_slice() {
-        if *member != who.address {
-            others.push(*member)?;
-        }
-    }
-    Ok(others)
 }
 
 // Those of the list of a flush that are not in its view, behind the others of the view.
@@ -62,7 +49,7 @@ fn all_others<R: Receiver>(
 ) -> Result<Vec<Address>, AllocError>
     ensures { IfOk result (λ others. others.items ≡ others_in who.now.address view.now member_state.now.flush) }
 {
-    let mut others = others(who, view)?;
+    let mut others = others_of(who.alloc, &who.address, view.members().as_slice())?;
     if let Some(flush) = &member_state.flush {
         add_listed(flush, view, &mut others)?;
     }

@@ -15,14 +15,14 @@ ghost use Rattle.membership.specs.InSteps.{in_step};
 
 use crate::joining::{leads_now, redirect};
 use address::Address;
-use membership::MemberState;
+use membership::{MemberState, view_from};
 use next_view::ViewNotes;
 use state_transfer::Receiver;
 use std::alloc::{AllocError, Global};
 use std::cmp::Ordering;
 use step_output::{Identity, Output};
 use traffic::ViewState;
-use view::{Addresses, View};
+use view::View;
 use wire_values::{Body, Roster};
 
 // Whether an address is in its view.
@@ -80,14 +80,6 @@ pub fn announce_view<R: Receiver>(
             Ok(())
         }
     }
-}
-
-// The view that a MERGE announces.
-fn view_from(alloc: Global, roster: &Roster) -> Result<View, AllocError>
-    ensures { IfOk result (λ v. v ≡ roster.now) }
-{
-    let members = Vec::from_slice(alloc, roster.members().as_slice())?;
-    Ok(View::new(roster.id(), Addresses::from_vec(members)).unwrap())
 }
 
 // Notes those of another view, where there is an own one.

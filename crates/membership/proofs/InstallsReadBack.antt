@@ -1,22 +1,18 @@
 -- What a member kept of the view that it made, read from its bytes.
-use Rattle.std.proofs.Common.{◌≡◌, ℕ, Bool, true, false, cond, Option, Some, None, List, [], ◌∷◌, ◌++◌, map, refl, ap, subst, ◌∙◌, ◌⊎◌, inl, inr, append_assoc}
-use Rattle.std.specs.Prelude.{Ok, find, unwrap_or}
-use Rattle.std.specs.List.{AllByRecursion, cons_option, flat_map}
-use Rattle.address.specs.Ids.{Address, ViewId, same_address}
+use Rattle.std.proofs.Common.{◌≡◌, Bool, true, false, cond, Option, Some, None, List, [], ◌∷◌, map, refl, ap, ◌∙◌, ◌⊎◌, inl, inr}
+use Rattle.std.specs.Prelude.{Ok, find}
+use Rattle.std.specs.List.{AllByRecursion, cons_option}
+use Rattle.address.specs.Ids.{Address, same_address}
 use Rattle.view.specs.Members.{View}
 use Rattle.wire_values.specs.Values as wire
 use Rattle.wire.specs.Packets.{IsPacket, packet_of, spelling}
 use Rattle.wire.proofs.OneSpelling.{spelled_read}
 use Rattle.address.proofs.SameIds.{same_address-true, same_address-sym}
 use Rattle.law_acts.specs.Cores.{install_sent_to}
-use Rattle.law_acts.specs.Histories.{Posted}
-use Rattle.law_acts.specs.Acts.{chunk_packets}
-use Rattle.flush.specs.Flushes.{FlushModel}
 use Rattle.step_output.specs.Outputs.{packet_in}
 use Rattle.step_output.specs.Steps.{Who}
 use Rattle.membership.specs.declared.sent_install.SentInstall.{SentInstall}
 use Rattle.membership.specs.MemberStates.{said_by, sent_installs_in, is_sent_to, install_packet, sent_install}
-use Rattle.membership.specs.Installs.{instruction_to, instructing}
 
 -- what is kept is what was spelled
 pub kept-are : (who : Who) (given : List (Address × wire.Install)) → AllByRecursion (λ m. IsPacket (packet_in who.group m)) (map (install_packet who.address) given)

@@ -22,7 +22,6 @@ use Rattle.wire_values.specs.Lists.{IsChunk}
 use Rattle.law_acts.specs.Histories.{Posted}
 use Rattle.law_acts.specs.Acts.{others_of, proposed, lone_view, chunk_packets}
 use Rattle.law_acts.specs.Cores.{id_of}
-use Rattle.state_chunks.specs.HeldChunks.{is_new}
 use Rattle.law_choices.specs.Decisions.{is_fitting, is_entry}
 use Rattle.law_choices.proofs.OffersAccepted.{accepted-parts}
 use Rattle.step_output.specs.declared.output.Output.{Output}
@@ -31,9 +30,9 @@ use Rattle.traffic.specs.declared.view_state.ViewState.{ViewState}
 use Rattle.traffic.specs.ViewStates.{view_of, fresh_in}
 use Rattle.traffic.proofs.NewViewTraffic.{fresh-view}
 use Rattle.membership.specs.declared.member_state.MemberState.{MemberState}
-use Rattle.membership.specs.MemberStates.{core_of, view_in, view_core_in, is_connected, report_in, begun_with, recording, is_complete, leads_in, idle_member, install_packet, sent_install, held_for, awaits, would_hold, IsFlushing, IsKept, IsMemberState}
+use Rattle.membership.specs.MemberStates.{core_of, view_in, view_core_in, is_connected, report_in, begun_with, recording, is_complete, leads_in, idle_member, install_packet, sent_install, held_for, IsFlushing, IsKept, IsMemberState}
 use Rattle.membership.specs.Installs.{instruction_to, instructing, finished_given}
-use Rattle.membership.specs.Changes.{StaysAs, Promises, Begins, ProposesIf, Finishes, FinishesAndProposes, GoesOn, Enters, TakesChunk}
+use Rattle.membership.specs.Changes.{StaysAs, Promises, Begins, ProposesIf, Finishes, FinishesAndProposes, GoesOn, Enters}
 use Rattle.membership.proofs.ProposalsLead.{IsProposal}
 use Rattle.view.proofs.MembersListed.{coordinator-in}
 use Rattle.step_output.specs.Steps.{Who, who}

@@ -5,7 +5,6 @@ use Rattle.std.specs.List.{AllByRecursion, flat_map}
 use Rattle.address.specs.Ids.{Address, ViewId, same_view_id}
 use Rattle.wire_values.specs.Values.{Entry}
 use Rattle.wire_values.specs.Values as wire
-use Rattle.wire_values.specs.declared.packet.Body.TheVariants as bodies
 use Rattle.wire_values.specs.Lists.{is_install}
 use Rattle.wire_values.specs.Fields.{IsEntry, entry_bytes}
 use Rattle.state_transfer.specs.Meanings.{Meaning}
@@ -17,7 +16,7 @@ use Rattle.trace_props.specs.declared.event.Numbered.{Numbered}
 use Rattle.law_acts.specs.Histories.{Posted}
 use Rattle.law_acts.specs.Cores.{applied, id_of}
 use Rattle.law_acts.specs.Words.{message_for}
-use Rattle.law_acts.specs.Acts.{others_of, delivery, deliveries, undelivered, packet, proposed, base_for, items_for, instructing_one}
+use Rattle.law_acts.specs.Acts.{others_of, delivery, deliveries, undelivered, proposed, base_for, items_for, instructing_one}
 use Rattle.law_choices.specs.Decisions.{cuts_of, form_of}
 use Rattle.wire_values.specs.declared.values.state.GivenState.TheVariants as forms
 use Rattle.membership.specs.declared.sent_install.SentInstall.{SentInstall}

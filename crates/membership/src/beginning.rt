@@ -23,12 +23,8 @@ use traffic::ViewState;
 use view::Addresses;
 use wire_values::{Body, Roster};
 
-// All of a list but one.
-pub(crate) fn others_of(
-    alloc: Global,
-    me: &Address,
-    list: &[Address],
-) -> Result<Vec<Address>, AllocError>
+/// All of a list but one.
+pub fn others_of(alloc: Global, me: &Address, list: &[Address]) -> Result<Vec<Address>, AllocError>
     ensures { IfOk result (λ l. l.items ≡ others_of me.now list.now) }
 {
     let others = list.iter().copied();

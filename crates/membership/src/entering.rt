@@ -124,8 +124,8 @@ fn deliver_last<R: Receiver>(
     }
 }
 
-// The view of an INSTALL.
-fn view_from(alloc: Global, roster: &Roster) -> Result<View, AllocError>
+/// The view that a packet names.
+pub fn view_from(alloc: Global, roster: &Roster) -> Result<View, AllocError>
     ensures { IfOk result (λ v. v ≡ roster.now) }
 {
     let members = Vec::from_slice(alloc, roster.members().as_slice())?;

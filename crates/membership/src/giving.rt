@@ -15,7 +15,6 @@ ghost use Rattle.membership.specs.Installs.{given_to};
 
 use address::{Address, ViewId};
 use flush::Flush;
-use limits::WHOLE_STATE;
 use owned_bytes::Bytes;
 use state_chunks::{chunk_count, chunk_of};
 use state_transfer::Receiver;
@@ -75,15 +74,10 @@ pub(crate) fn kept_of(given: Option<Bytes>) -> Option<Bytes>
     ensures kept { result ≡ kept_of given }
     ensures total { IfSome result (λ s. IsTotal (length s)) }
 {
-    match given {
-        None => None,
-        Some(state) => {
-            if state.as_slice().len() <= WHOLE_STATE {
-                None
-            } else {
-                Some(state)
-            }
-        }
+    if is_chunked(&form_of(&given)) {
+        given
+    } else {
+        None
     }
 }
 
@@ -140,11 +134,10 @@ pub(crate) fn put_given(
     match given {
         None => Ok(()),
         Some(state) => {
-            let bytes = state.as_slice();
-            if bytes.len() <= WHOLE_STATE {
+            if !is_chunked(&form_of(given)) {
                 return Ok(());
             }
-            put_state(who, proposal, member, bytes, out)?;
+            put_state(who, proposal, member, state.as_slice(), out)?;
             Ok(())
         }
     }

@@ -15,6 +15,8 @@ mod sent_install;
 mod stop;
 mod taking;
 
+pub use beginning::others_of;
+pub use entering::view_from;
 pub use member_state::MemberState;
 pub use sent_install::SentInstall;
 pub use stop::Stop;

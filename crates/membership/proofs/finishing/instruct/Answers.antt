@@ -1,4 +1,4 @@
-use Rattle.std.proofs.Common.{◌≡◌, [], ◌∷◌, subst}
+use Rattle.std.proofs.Common.{[], ◌∷◌, subst}
 use Rattle.std.specs.Prelude.{unwrap_or}
 use Rattle.wire_values.specs.Values as wire
 use Rattle.wire_values.specs.declared.packet.Body.TheVariants as bodies

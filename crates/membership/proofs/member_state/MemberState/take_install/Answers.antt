@@ -1,4 +1,4 @@
-use Rattle.std.proofs.Common.{rules, ◌≡◌, true, sym, ◌∙◌}
+use Rattle.std.proofs.Common.{rules, ◌≡◌, true}
 use Rattle.std.proofs.lemmas.Bool.{and_parts}
 use Rattle.law_choices.specs.Decisions.{is_entry}
 use Rattle.state_chunks.specs.HeldChunks.{is_there, given_in}
