@@ -186,7 +186,7 @@ def payload_in(text):
 
 
 def chat_in(state):
-    """The lines of a long chat's state (docs/FORMATS.md, "The chat's state")."""
+    """The lines of a long chat's state (docs/RECEIVERS.md, "The chat's state")."""
     lines, at = [], 2
     for _ in range(int.from_bytes(state[:2], "big")):
         node, incarnation, length = (int.from_bytes(state[at + low:at + high], "big") for low, high in ((0, 2), (2, 6), (6, 8)))

@@ -15,7 +15,7 @@ use std::collections::VecDeque;
 use std::marker::{Model, PhantomData};
 use view::View;
 
-/// The chat: the last 24 lines that were said (`LINES`). Its state has at most 12,481 bytes (docs/FORMATS.md, "The chat's
+/// The chat: the last 24 lines that were said (`LINES`). Its state has at most 12,481 bytes (docs/RECEIVERS.md, "The chat's
 /// state").
 pub type ChatLog = LastLines<Short>;
 

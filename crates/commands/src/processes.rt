@@ -150,7 +150,7 @@ fn join<R: Receiver, W: Write>(alloc: Global, traces: &[Trace], writer: &mut W) 
 /// Checks the texts of several processes, for receivers that are `R`: puts them together as one trace, in an order in which a message is sent before it is delivered,
 /// and a view's coordinator is delivered a message, and installs the view, before others do, and writes to a writer whether that is virtually synchronous: `holds`, or
 /// `broken RULE PLACE` and the line of the event at that place. Where there is no such order, it writes `unordered TEXT EVENT`, and where a text has a fault,
-/// `fault TEXT LINE NUMBER`; texts are counted from 1, and so are the events of each. The lines of members' states are passed over (docs/FORMATS.md, "Texts of several
+/// `fault TEXT LINE NUMBER`; texts are counted from 1, and so are the events of each. The lines of members' states are passed over (docs/CLI.md, "Texts of several
 /// processes"). Answers the exit status.
 pub fn run_check_processes<R: Receiver, W: Write>(
     alloc: Global,

@@ -72,7 +72,7 @@ fn play_settled<R: Receiver, W: Write>(alloc: Global, script: &Script, writer: &
 }
 
 /// Runs a script from a reader in a world whose receivers are `R`; then the change of view completes of each member that has begun one, or whose view others are
-/// not in yet, by node, if it can (docs/GUARANTEES.md, "Views settle"). It writes what happened to a writer, as `run_script` does (docs/FORMATS.md, "Settling a
+/// not in yet, by node, if it can (docs/GUARANTEES.md, "Views settle"). It writes what happened to a writer, as `run_script` does (docs/CLI.md, "Settling a
 /// script"). Answers the exit status. Where memory is refused outside a member's step, and anywhere in a settling, it writes the lines so far and `# memory`.
 pub fn settle_script<R: Receiver, I: Read, W: Write>(
     alloc: Global,

@@ -133,7 +133,7 @@ To do: look whether this is the right file, and whether each event has its own l
 pub(crate) const CONFIG: &str = "\
 50, settings: the text is no settings of a group, or the settings do not list the node.\n\
 Cause: no TOML, a key too many or missing, a value out of its range, a number or a port that two nodes share, or a node that is not in the file.\n\
-To do: correct the file. docs/FORMATS.md, \"Settings\", has its form. All nodes of a group use the same settings.\n";
+To do: correct the file. docs/CLI.md, \"Settings\", has its form. All nodes of a group use the same settings.\n";
 
 pub(crate) const BIND: &str = "\
 51, socket: the node's socket cannot be bound, or the name of a host has no address.\n\

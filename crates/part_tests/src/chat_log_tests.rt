@@ -5,7 +5,7 @@ use state_transfer::Receiver;
 use std::alloc::{AllocError, Global};
 use view::View;
 
-// `hi` of 1.1 and an empty payload of 2.7, by hand from the table of docs/FORMATS.md.
+// `hi` of 1.1 and an empty payload of 2.7, by hand from the table of docs/RECEIVERS.md.
 const TWO: &[u8] = b"\x02\x00\x01\x00\x00\x00\x01\x00\x02hi\x00\x02\x00\x00\x00\x07\x00\x00";
 
 // Whether a line is of a sender and has a payload.
@@ -243,7 +243,7 @@ fn views_leave_the_lines(rt: HostRuntime) {
     one_encoding::<Long>();
 }
 
-// `hi` of 1.1 in a long chat, by hand from the table of docs/FORMATS.md.
+// `hi` of 1.1 in a long chat, by hand from the table of docs/RECEIVERS.md.
 const LONG_HI: &[u8] = b"\x00\x01\x00\x01\x00\x00\x00\x01\x00\x02hi";
 
 // A long chat that was delivered so many messages by a sender: the number of each, from 1, in two bytes.

@@ -6,7 +6,7 @@ use lock_service::{
 use std::alloc::{AllocError, Global};
 use tickets::{Waiting, take_ticket};
 
-// By hand from the tables of docs/FORMATS.md, in the view 1@1.1: acquire `a`, release `a`.
+// By hand from the tables of docs/RECEIVERS.md, in the view 1@1.1: acquire `a`, release `a`.
 const ACQUIRE_A: &[u8] = b"\x01\0\0\0\0\0\0\0\x01\0\x01\0\0\0\x01\x01a";
 
 const RELEASE_A: &[u8] = b"\x02\0\0\0\0\0\0\0\x01\0\x01\0\0\0\x01\x01a";

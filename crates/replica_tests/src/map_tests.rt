@@ -8,7 +8,7 @@ use state_transfer::Receiver;
 use std::alloc::{AllocError, Global};
 use tokens::Token;
 
-// By hand from the tables of docs/FORMATS.md, sent in the view 1@1.1: put `xy` for `a`, put nothing for `b`, remove `a`, replace nothing of `a` by `z`, replace `xy` of `a` by `z`,
+// By hand from the tables of docs/RECEIVERS.md, sent in the view 1@1.1: put `xy` for `a`, put nothing for `b`, remove `a`, replace nothing of `a` by `z`, replace `xy` of `a` by `z`,
 // clear, replace the version 1@1.1/1 of `a` by `z`, remove the version 1@1.1/1 of `a`.
 const PUT_A: &[u8] = b"\x01\x00\x00\x00\x00\x00\x00\x00\x01\x00\x01\x00\x00\x00\x01\x01a\x00\x02xy";
 

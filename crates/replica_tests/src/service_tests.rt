@@ -3,7 +3,7 @@ use map_service::{Answer, Fate, MapService, answers, follows, forgets_nobody};
 use replicated_map::Outcome;
 use std::alloc::{AllocError, Global};
 
-// By hand from the tables of docs/FORMATS.md: put `xy` for `a`, replace nothing of `a` by `z`, remove `b`.
+// By hand from the tables of docs/RECEIVERS.md: put `xy` for `a`, replace nothing of `a` by `z`, remove `b`.
 const PUT_A: &[u8] = b"\x01\x00\x00\x00\x00\x00\x00\x00\x01\x00\x01\x00\x00\x00\x01\x01a\x00\x02xy";
 
 const REPLACE_NONE: &[u8] =

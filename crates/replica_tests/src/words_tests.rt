@@ -6,7 +6,7 @@ use script_reader::Payloads;
 use state_transfer::Receiver;
 use std::alloc::{AllocError, Global};
 
-// Whether a text of a script says this payload. The payloads are spelled out by hand from docs/FORMATS.md.
+// Whether a text of a script says this payload. The payloads are spelled out by hand from docs/RECEIVERS.md.
 fn says<P: Payloads>(alloc: Global, text: &[u8], wanted: &[u8]) -> bool {
     match P::payload(alloc, text) {
         Ok(payload) => payload.as_slice() == wanted,

@@ -242,7 +242,7 @@ fn obey<R: Files + Input + Net + RandomSource + Clock + Print + Eprint + AllocGl
     }
 }
 
-/// The program `vsync`: does what its words ask for, and answers the exit status (docs/FORMATS.md).
+/// The program `vsync`: does what its words ask for, and answers the exit status (docs/CLI.md).
 pub fn program<R: Env + Files + Input + Net + RandomSource + Clock + Print + Eprint + AllocGlobal>(
     rt: &R,
 ) -> Status {
