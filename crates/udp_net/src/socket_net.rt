@@ -12,10 +12,11 @@ ghost use Rattle.udp_net.specs.declared.lane.Passage.TheVariants.{Lost};
 use crate::gate::{Gate, Verdict};
 use crate::lane::{Lane, Passage, lanes_to};
 use crate::socket::Socket;
-use crate::waiter::Waiter;
+use crate::waiter::WAITED_FOR;
 use crate::word::is_word;
 use crate::{BindError, Fault, HELD_WAIT, Hosts, Neighbour, Net, NodePort, Settings, TURN, Word};
 use address::{Address, Node, ViewId};
+use mio::Events;
 use std::alloc::Global;
 use std::net::SocketAddr;
 use std::os::fd::RawFd;
@@ -50,8 +51,6 @@ pub struct SocketNet {
     is_open: bool,
     // Whether each datagram of a node is given as it came.
     is_bare: bool,
-    // Waits for another descriptor too, where it is to.
-    waiter: Option<Waiter>,
 }
 
 // A turn of the net is over: what was held back on a way goes on, where the next one begins there.
@@ -120,7 +119,8 @@ impl SocketNet {
         let port = settings.port(node).ok_or(BindError::Config)?;
         let lanes = lanes_to(alloc, settings.nodes(), hosts)?;
         let gate = Gate::new(alloc, settings)?;
-        match Socket::bind(network, SocketAddr::new(hosts.own(), port)) {
+        let events = Events::with_capacity(alloc, WAITED_FOR)?;
+        match Socket::bind(network, SocketAddr::new(hosts.own(), port), events) {
             Ok(socket) => Ok(SocketNet {
                 socket,
                 lanes,
@@ -129,24 +129,17 @@ impl SocketNet {
                 gate,
                 is_open: false,
                 is_bare: false,
-                waiter: None,
             }),
             Err(_) => Err(BindError::Bind),
         }
     }
 
     /// From now on its waits end too when another descriptor is readable. After an error, what the system says, they are as before.
-    pub fn also_wait_for<R: std::net::Net>(
-        &mut self,
-        alloc: Global,
-        network: &R,
-        other: RawFd,
-    ) -> std::io::Result<()>
+    pub fn also_wait_for(&mut self, other: RawFd) -> std::io::Result<()>
         ensures open { self.new.is_open ≡ self.old.is_open }
         ensures bare { self.new.is_bare ≡ self.old.is_bare }
     {
-        self.waiter = Some(Waiter::new(alloc, network, self.socket.descriptor(), other)?);
-        Ok(())
+        self.socket.also_wait_for(other)
     }
 
     /// From now on the datagrams of a node that the settings list are taken wherever they come from, as where addresses are translated on the way
@@ -349,10 +342,7 @@ impl Net for SocketNet {
         } else {
             limit
         };
-        match &mut self.waiter {
-            Some(waiter) => waiter.wait(limit),
-            None => self.socket.wait(limit),
-        }
+        self.socket.wait(limit);
     }
 
     fn failures(&self) -> u64 {

@@ -1,11 +1,13 @@
 use mio::unix::SourceFd;
 use mio::{Events, Interest, Poll, Token};
-use std::alloc::Global;
 use std::io;
 use std::os::fd::RawFd;
 use std::time::Duration;
 
-/// Waits for a socket and for another descriptor at once.
+/// How many descriptors it waits for at most: a socket's, and another one.
+pub(crate) const WAITED_FOR: usize = 2;
+
+/// Waits for descriptors at once. One that was ready wakes it again only when more comes to it.
 #[derive(Drop)]
 pub(crate) struct Waiter {
     poll: Poll,
@@ -13,25 +15,22 @@ pub(crate) struct Waiter {
 }
 
 impl Waiter {
-    // For these two descriptors.
-    pub(crate) fn new<R: std::net::Net>(
-        alloc: Global,
-        network: &R,
-        socket: RawFd,
-        other: RawFd,
-    ) -> io::Result<Waiter> {
-        let poll = Poll::new(network)?;
-        poll.registry()
-            .register(&mut SourceFd(&socket), Token(0), Interest::READABLE)?;
-        poll.registry()
-            .register(&mut SourceFd(&other), Token(1), Interest::READABLE)?;
+    // For none yet, with room for `WAITED_FOR` events.
+    pub(crate) fn new<R: std::net::Net>(network: &R, events: Events) -> io::Result<Waiter> {
         Ok(Waiter {
-            poll,
-            events: Events::with_capacity(alloc, 2)?,
+            poll: Poll::new(network)?,
+            events,
         })
     }
 
-    // Waits until one of them is ready, but no longer than a limit.
+    // For this descriptor too.
+    pub(crate) fn add(&mut self, descriptor: RawFd) -> io::Result<()> {
+        self.poll
+            .registry()
+            .register(&mut SourceFd(&descriptor), Token(0), Interest::READABLE)
+    }
+
+    // Waits until one of them is ready, but no longer than a limit, in whole milliseconds and one more.
     pub(crate) fn wait(&mut self, limit: Duration) {
         let _ = self.poll.poll(&mut self.events, Some(limit));
     }

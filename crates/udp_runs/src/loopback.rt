@@ -139,7 +139,7 @@ impl<'a, R: std::net::Net + RandomSource> Loopback<'a, R> {
             socket.hear_from_anywhere();
         }
         if let Some(other) = self.other {
-            let _ = socket.also_wait_for(self.alloc, self.runtime, other);
+            let _ = socket.also_wait_for(other);
         }
         let Some(key) = self.key else {
             return Ok(EitherNet::First(socket));
