@@ -15,7 +15,8 @@ const PIECE: usize = 65_536;
 /// How often it is looked whether the file has grown, in milliseconds.
 const LOOKS: u64 = 2;
 
-/// The lines that are appended to a file. It is opened anew each time, so that it is known when it is there no longer; where it has become shorter, it is read from its beginning.
+/// The lines that are appended to a file. It is looked for by its path each time, so that it is known when it is there no longer; where it has become shorter, it is read from its
+/// beginning.
 #[derive(Drop)]
 pub(crate) struct Appended<'a, R> {
     rt: &'a R,
@@ -25,17 +26,12 @@ pub(crate) struct Appended<'a, R> {
     buffer: Vec<u8>,
 }
 
-// How long a file is.
-fn length_of<S: Seek>(file: &mut S) -> io::Result<u64> {
-    file.seek(SeekFrom::End(0))
-}
-
 impl<'a, R: Files> Appended<'a, R> {
     /// The lines that are appended to the file of a path from now on.
     pub(crate) fn new(alloc: Global, rt: &'a R, path: &'a str) -> io::Result<Appended<'a, R>> {
         let buffer = vec![in alloc; 0u8; PIECE]?;
-        let mut file = fs::open(rt, path)?;
-        let past = length_of(&mut file)?;
+        let _can_be_read = fs::open(rt, path)?;
+        let past = fs::metadata(rt, path)?.len();
         Ok(Appended {
             rt,
             path,
@@ -46,14 +42,14 @@ impl<'a, R: Files> Appended<'a, R> {
 
     // Reads what comes next in the file; answers how much.
     fn read(&mut self) -> io::Result<usize> {
-        let mut file = fs::open(self.rt, self.path)?;
-        let length = length_of(&mut file)?;
+        let length = fs::metadata(self.rt, self.path)?.len();
         if length == self.past {
             return Ok(0);
         }
         if length < self.past {
             self.past = 0;
         }
+        let mut file = fs::open(self.rt, self.path)?;
         file.seek(SeekFrom::Start(self.past))?;
         file.read(self.buffer.as_mut_slice())
     }
