@@ -36,6 +36,24 @@ fn shared_groups(last: &[u8], packet: &[u8], most: usize) -> usize
     8 * (most / 8)
 }
 
+// Whether two texts of one length are the same, compared by eight.
+pub(crate) fn is_same_text(one: &[u8], other: &[u8]) -> bool
+    ensures { result ≡ true → one.now ≡ other.now }
+{
+    if one.len() != other.len() {
+        return false;
+    }
+    if one.len() < 8 {
+        return one == other;
+    }
+    if eight_at(one, 0) != eight_at(other, 0) {
+        return false;
+    }
+    let (_, rest) = one.split_at(8);
+    let (_, other_rest) = other.split_at(8);
+    is_same_text(rest, other_rest)
+}
+
 // How many bytes a packet has in common with the one before it, at the front.
 pub(crate) fn shared_front(last: &[u8], packet: &[u8]) -> usize
     ensures is { result ≡ shared_front last.now packet.now }
