@@ -1,6 +1,5 @@
 -- What waits for several nodes is of a list, also what is taken of it for one frame.
 use Rattle.std.proofs.Common.{◌≡◌, ◌≢◌, ◌≤◌, ◌<◌, ◌+◌, ◌*◌, ◌^◌, ℕ, List, [], ◌∷◌, ◌++◌, length, refl, sym, ap, ◌∙◌, subst, inl, inr, Option, arith}
-use Rattle.std.specs.Prelude.{◌⊎◌}
 use Rattle.std.specs.List.{AllByRecursion}
 use Rattle.std.proofs.lemmas.List.{length-append}
 use Rattle.udp_net.specs.Logs.{Log}
@@ -11,50 +10,81 @@ use Rattle.frames.specs.Frames.{packed, IsShort}
 use Rattle.frames.specs.Parts.{rows_of}
 use Rattle.frames.specs.Arrivals.{StandsIn}
 use Rattle.frames.specs.Carried.{ArePacked, Carries}
-use Rattle.frames.specs.Gathered.{AreVariantsOf, Gathers, several_frame}
+use Rattle.frames.specs.Gathered.{AreVariantsOf, Gathers, Takes, several_frame}
 use Rattle.frames.specs.Outlets.{OutletModel}
 use Rattle.frames.specs.Sendings.{AreLongs, AreOf, AreSameWays, KeepLongs, WaitOf}
 use Rattle.frames.proofs.PartsRead.{HasSix, length-rows, part-is}
 use Rattle.frames.proofs.PiecesCome.{all-push}
 
 module _ (place : ℕ) (content : List ℕ) where
+  -- ---- one way
+
+  wait-taken : (sent : List (List ℕ)) (before : List Variant) (o : OutletModel) (after : List Variant) (n : OutletModel) → Takes place content before o after n → AreOf sent o.waiting
+      → AreOf sent n.waiting
+  wait-taken sent before o after n (inl t) of = subst (λ (x : OutletModel). AreOf sent x.waiting) (sym t.1) of
+  wait-taken sent before o after n (inr t) of = subst (λ (x : OutletModel). AreOf sent x.waiting) (sym t.3) tt
+
+  longs-taken : (long : ℕ → ℕ → List ℕ) (before : List Variant) (o : OutletModel) (after : List Variant) (n : OutletModel) → Takes place content before o after n → AreLongs long o
+      → AreLongs long n
+  longs-taken long before o after n (inl t) known = subst (AreLongs long) (sym t.1) known
+  longs-taken long before o after n (inr t) known = subst (AreLongs long) (sym t.3) known
+
+  node-taken : (before : List Variant) (o : OutletModel) (after : List Variant) (n : OutletModel) → Takes place content before o after n → n.node ≡ o.node
+  node-taken before o after n (inl t) = ap (λ (x : OutletModel). x.node) t.1
+  node-taken before o after n (inr t) = ap (λ (x : OutletModel). x.node) t.3
+
+  next-taken : (before : List Variant) (o : OutletModel) (after : List Variant) (n : OutletModel) → Takes place content before o after n → n.longs.next ≡ o.longs.next
+  next-taken before o after n (inl t) = ap (λ (x : OutletModel). x.longs.next) t.1
+  next-taken before o after n (inr t) = ap (λ (x : OutletModel). x.longs.next) t.3
+
+  variants-taken : (sent : List (List ℕ)) (before : List Variant) (o : OutletModel) (after : List Variant) (n : OutletModel) → Takes place content before o after n → AreOf sent o.waiting
+      → AreVariantsOf sent place content before → AreVariantsOf sent place content after
+  variants-taken sent before o after n (inl t) of good = subst (AreVariantsOf sent place content) (sym t.0) good
+  variants-taken sent before o after n (inr t) of good =
+      subst (AreVariantsOf sent place content) (sym t.2)
+      (all-push _ before t.0 good (t.1.six, record { packets = o.waiting; content_is = t.1.content_is; short = t.1.short; sent = of }))
+
+  six-taken : (before : List Variant) (o : OutletModel) (after : List Variant) (n : OutletModel) → Takes place content before o after n → AllByRecursion HasSix before → AllByRecursion HasSix after
+  six-taken before o after n (inl t) six = subst (AllByRecursion HasSix) (sym t.0) six
+  six-taken before o after n (inr t) six = subst (AllByRecursion HasSix) (sym t.2) (all-push HasSix before t.0 six t.1.six)
+
+  count-taken : (before : List Variant) (o : OutletModel) (after : List Variant) (n : OutletModel) → Takes place content before o after n → length after ≤ length before + 1
+  count-taken before o after n (inl t) = omega (arith, ap length t.0)
+  count-taken before o after n (inr t) = omega (arith, ap length t.2, length-append before (t.0 ∷ []))
+
+  -- ---- each of some
+
+  pub gathers-on : (before mid after : List Variant) (o n : OutletModel) (old new all : List OutletModel) → Takes place content before o mid n → Gathers place content mid old after new
+      → all ≡ o ∷ old → Gathers place content before all after (n ∷ new)
+  gathers-on before mid after o n old new all t g e =
+      subst (λ (xs : List OutletModel). Gathers place content before xs after (n ∷ new)) (sym e) (mid, t, g)
+
   pub wait-gathered : (sent : List (List ℕ)) (before : List Variant) (old : List OutletModel) (after : List Variant) (new : List OutletModel) → Gathers place content before old after new
       → WaitOf sent old → WaitOf sent new
   wait-gathered sent before [] after [] g of = tt
   wait-gathered sent before [] after (n ∷ new) g of = absurd g
   wait-gathered sent before (o ∷ old) after [] g of = absurd g
-  wait-gathered sent before (o ∷ old) after (n ∷ new) (inl g) of =
-      (subst (λ (x : OutletModel). AreOf sent x.waiting) (sym g.0) of.0, wait-gathered sent before old after new g.1 of.1)
-  wait-gathered sent before (o ∷ old) after (n ∷ new) (inr g) of =
-      (subst (λ (x : OutletModel). AreOf sent x.waiting) (sym g.2.0) tt, wait-gathered sent (before ++ g.0 ∷ []) old after new g.2.1 of.1)
+  wait-gathered sent before (o ∷ old) after (n ∷ new) g of = (wait-taken sent before o g.0 n g.1 of.0, wait-gathered sent g.0 old after new g.2 of.1)
 
   pub longs-gathered : (long : ℕ → ℕ → List ℕ) (before : List Variant) (old : List OutletModel) (after : List Variant) (new : List OutletModel) → Gathers place content before old after new
       → KeepLongs long old → KeepLongs long new
   longs-gathered long before [] after [] g known = tt
   longs-gathered long before [] after (n ∷ new) g known = absurd g
   longs-gathered long before (o ∷ old) after [] g known = absurd g
-  longs-gathered long before (o ∷ old) after (n ∷ new) (inl g) known =
-      (subst (AreLongs long) (sym g.0) known.0, longs-gathered long before old after new g.1 known.1)
-  longs-gathered long before (o ∷ old) after (n ∷ new) (inr g) known =
-      (subst (AreLongs long) (sym g.2.0) known.0, longs-gathered long (before ++ g.0 ∷ []) old after new g.2.1 known.1)
+  longs-gathered long before (o ∷ old) after (n ∷ new) g known = (longs-taken long before o g.0 n g.1 known.0, longs-gathered long g.0 old after new g.2 known.1)
 
   pub ways-gathered : (before : List Variant) (old : List OutletModel) (after : List Variant) (new : List OutletModel) → Gathers place content before old after new → AreSameWays old new
   ways-gathered before [] after new g = tt
   ways-gathered before (o ∷ old) after [] g = absurd g
-  ways-gathered before (o ∷ old) after (n ∷ new) (inl g) =
-      (ap (λ (x : OutletModel). x.node) g.0, omega (arith, ap (λ (x : OutletModel). x.longs.next) g.0), ways-gathered before old after new g.1)
-  ways-gathered before (o ∷ old) after (n ∷ new) (inr g) =
-      (ap (λ (x : OutletModel). x.node) g.2.0, omega (arith, ap (λ (x : OutletModel). x.longs.next) g.2.0), ways-gathered (before ++ g.0 ∷ []) old after new g.2.1)
+  ways-gathered before (o ∷ old) after (n ∷ new) g = (node-taken before o g.0 n g.1, omega (arith, next-taken before o g.0 n g.1), ways-gathered g.0 old after new g.2)
 
   pub variants-gathered : (sent : List (List ℕ)) (before : List Variant) (old : List OutletModel) (after : List Variant) (new : List OutletModel) → Gathers place content before old after new
       → WaitOf sent old → AreVariantsOf sent place content before → AreVariantsOf sent place content after
   variants-gathered sent before [] after [] g of good = subst (AreVariantsOf sent place content) (sym g) good
   variants-gathered sent before [] after (n ∷ new) g of good = absurd g
   variants-gathered sent before (o ∷ old) after [] g of good = absurd g
-  variants-gathered sent before (o ∷ old) after (n ∷ new) (inl g) of good = variants-gathered sent before old after new g.1 of.1 good
-  variants-gathered sent before (o ∷ old) after (n ∷ new) (inr g) of good =
-      variants-gathered sent (before ++ g.0 ∷ []) old after new g.2.1 of.1
-      (all-push _ before g.0 good (g.1.six, record { packets = o.waiting; content_is = g.1.content_is; short = g.1.short; sent = of.0 }))
+  variants-gathered sent before (o ∷ old) after (n ∷ new) g of good =
+      variants-gathered sent g.0 old after new g.2 of.1 (variants-taken sent before o g.0 n g.1 of.0 good)
 
   -- as many rows as ways at most, of eight bytes each
   pub six-gathered : (before : List Variant) (old : List OutletModel) (after : List Variant) (new : List OutletModel) → Gathers place content before old after new
@@ -62,17 +92,14 @@ module _ (place : ℕ) (content : List ℕ) where
   six-gathered before [] after [] g six = subst (AllByRecursion HasSix) (sym g) six
   six-gathered before [] after (n ∷ new) g six = absurd g
   six-gathered before (o ∷ old) after [] g six = absurd g
-  six-gathered before (o ∷ old) after (n ∷ new) (inl g) six = six-gathered before old after new g.1 six
-  six-gathered before (o ∷ old) after (n ∷ new) (inr g) six = six-gathered (before ++ g.0 ∷ []) old after new g.2.1 (all-push HasSix before g.0 six g.1.six)
+  six-gathered before (o ∷ old) after (n ∷ new) g six = six-gathered g.0 old after new g.2 (six-taken before o g.0 n g.1 six)
 
   pub count-gathered : (before : List Variant) (old : List OutletModel) (after : List Variant) (new : List OutletModel) → Gathers place content before old after new
       → length after ≤ length before + length old
   count-gathered before [] after [] g = omega (arith, ap length g)
   count-gathered before [] after (n ∷ new) g = absurd g
   count-gathered before (o ∷ old) after [] g = absurd g
-  count-gathered before (o ∷ old) after (n ∷ new) (inl g) = omega (arith, count-gathered before old after new g.1)
-  count-gathered before (o ∷ old) after (n ∷ new) (inr g) =
-      omega (arith, count-gathered (before ++ g.0 ∷ []) old after new g.2.1, length-append before (g.0 ∷ []))
+  count-gathered before (o ∷ old) after (n ∷ new) g = omega (arith, count-gathered g.0 old after new g.2, count-taken before o g.0 n g.1)
 
 pub ways-on : (one two three : List OutletModel) → AreSameWays one two → AreSameWays two three → AreSameWays one three
 ways-on [] two three x y = tt

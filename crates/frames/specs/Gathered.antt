@@ -19,14 +19,17 @@ pub record IsVariant (place : ℕ) (content : List ℕ) (o : OutletModel) (v : V
   pub content_is : varied place v.bytes content ≡ packed o.waiting
   pub short : AllByRecursion IsShort o.waiting
 
--- of each way either all stays, or what waits there is taken, and is the next variant of a content
+-- either all stays, or what waits on a way is taken, and is the next variant of a content
+abbrev pub Takes : ℕ → List ℕ → List Variant → OutletModel → List Variant → OutletModel → Type 0
+Takes place content before old after new =
+    ((after ≡ before) × (new ≡ old)) ⊎ ((v : Variant) × IsVariant place content old v × (after ≡ before ++ v ∷ []) × (new ≡ record old { waiting = [] }))
+
+-- of each of some ways
 abbrev pub Gathers : ℕ → List ℕ → List Variant → List OutletModel → List Variant → List OutletModel → Type 0
 Gathers place content before [] after [] = after ≡ before
 Gathers place content before [] after (n ∷ new) = ⊥
 Gathers place content before (o ∷ old) after [] = ⊥
-Gathers place content before (o ∷ old) after (n ∷ new) =
-    ((n ≡ o) × Gathers place content before old after new)
-    ⊎ ((v : Variant) × IsVariant place content o v × (n ≡ record o { waiting = [] }) × Gathers place content (before ++ v ∷ []) old after new)
+Gathers place content before (o ∷ old) after (n ∷ new) = (mid : List Variant) × Takes place content before o mid n × Gathers place content mid old after new
 
 -- each of some nodes is offered a frame
 abbrev pub offering_each : List Variant → List ℕ → Log → Log

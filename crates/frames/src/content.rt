@@ -36,24 +36,6 @@ fn shared_groups(last: &[u8], packet: &[u8], most: usize) -> usize
     8 * (most / 8)
 }
 
-// Whether two texts of one length are the same, compared by eight.
-pub(crate) fn is_same_text(one: &[u8], other: &[u8]) -> bool
-    ensures { result ≡ true → one.now ≡ other.now }
-{
-    if one.len() != other.len() {
-        return false;
-    }
-    if one.len() < 8 {
-        return one == other;
-    }
-    if eight_at(one, 0) != eight_at(other, 0) {
-        return false;
-    }
-    let (_, rest) = one.split_at(8);
-    let (_, other_rest) = other.split_at(8);
-    is_same_text(rest, other_rest)
-}
-
 // How many bytes a packet has in common with the one before it, at the front.
 pub(crate) fn shared_front(last: &[u8], packet: &[u8]) -> usize
     ensures is { result ≡ shared_front last.now packet.now }
@@ -67,6 +49,22 @@ pub(crate) fn shared_front(last: &[u8], packet: &[u8]) -> usize
         }
     }
     most
+}
+
+// Whether two texts are the same.
+pub(crate) fn is_same_text(one: &[u8], other: &[u8]) -> bool
+    ensures { result ≡ true → one.now ≡ other.now }
+{
+    if one.len() != other.len() {
+        return false;
+    }
+    let shared = shared_front(one, other);
+    if shared < MOST_SHARED {
+        return shared == one.len();
+    }
+    let (_, rest) = one.split_at(MOST_SHARED);
+    let (_, other_rest) = other.split_at(MOST_SHARED);
+    is_same_text(rest, other_rest)
 }
 
 // Appends a packet behind one with which it has so many bytes in common: how many these are, how many others it has, and these.

@@ -5,7 +5,7 @@ ghost use Rattle.frames.specs.Sendings.{Adds, AreOf, AreSameWays, IsFrameOf, IsL
 ghost use Rattle.frames.specs.Nets.{GivesArrived, Grows, HasFlushed, HasReceived, HasSent, IsAnswer, IsFresh, IsOver, IsSameNode};
 ghost use Rattle.frames.specs.Carried.{Carries};
 ghost use Rattle.frames.specs.Frames.{packed};
-ghost use Rattle.frames.specs.Gathered.{AreVariantsOf, Gathers, offering_each, several_frame};
+ghost use Rattle.frames.specs.Gathered.{AreVariantsOf, Gathers, Takes, offering_each, several_frame};
 ghost use Rattle.frames.specs.Parts.{rows_of};
 ghost use Rattle.frames.specs.declared.outlet.Seal.{Seal as SealValue};
 ghost use Rattle.udp_net.specs.Logs.{failures_after, offering, Lists};
@@ -73,19 +73,31 @@ fn place_in(content: &[u8], outlets: &[Outlet]) -> Option<u8> {
     place_in(content, rest)
 }
 
-// Takes from some ways what waits there, where that is as a content but for six bytes at a place.
+// Takes what waits on a way, if that is as a content but for six bytes at a place.
+fn take_variant(
+    content: &[u8],
+    place: usize,
+    outlet: &mut Outlet,
+    variants: &mut Vec<Variant>,
+)
+    ensures { Takes place content.now variants.old.items outlet.old variants.new.items outlet.new }
+{
+    let Some(variant) = outlet.variant(content, place) else {
+        return;
+    };
+    if variants.push(variant).is_ok() {
+        outlet.clear();
+    }
+}
+
+// Takes it from each of some ways.
 fn gather(content: &[u8], place: usize, outlets: &mut [Outlet], variants: &mut Vec<Variant>)
-    ensures gathers { Gathers place content.now variants.old.items outlets.old variants.new.items outlets.new }
-    ensures count { vec_len variants.new ≤ vec_len variants.old + length outlets.old }
+    ensures { Gathers place content.now variants.old.items outlets.old variants.new.items outlets.new }
 {
     let Some((first, rest)) = outlets.split_first_mut() else {
         return;
     };
-    if let Some(variant) = first.variant(content, place)
-        && variants.push(variant).is_ok()
-    {
-        first.clear();
-    }
+    take_variant(content, place, first, variants);
     gather(content, place, rest, variants)
 }
 

@@ -1,6 +1,6 @@
 //! The content of a frame for several nodes.
 
-ghost use Rattle.std.specs.Prelude.{◌≡◌, ◌≤◌, ◌+◌, ◌*◌, ◌++◌, length, take, drop, vec_len, vec_capacity, Some, IfOk, IfSome};
+ghost use Rattle.std.specs.Prelude.{◌≡◌, ◌≤◌, ◌+◌, ◌*◌, ◌++◌, length, vec_len, vec_capacity, Some, IfOk, IfSome};
 ghost use Rattle.frames.specs.Parts.{bytes_for, part_of, rows_of, several_bytes, varied};
 
 use crate::content::is_same_text;
@@ -17,16 +17,14 @@ pub(crate) struct Variant {
     pub(crate) bytes: [u8; VARIED],
 }
 
-// The six bytes at a place, if they go so far.
-fn bytes_at(content: &[u8], place: usize) -> [u8; VARIED]
-    requires { place + 6 ≤ length content.now }
-    ensures is { result ≡ take 6 (drop place content.now) }
-    ensures six { length result ≡ 6 }
+// Six bytes as an array.
+fn six_of(bytes: &[u8]) -> [u8; VARIED]
+    requires { length bytes.now ≡ 6 }
+    ensures { result ≡ bytes.now }
 {
-    let (_, rest) = content.split_at(place);
-    let mut bytes = [0; VARIED];
-    bytes.copy_from_slice(&rest[..VARIED]);
-    bytes
+    let mut six = [0; VARIED];
+    six.copy_from_slice(bytes);
+    six
 }
 
 // What another content has in place of the six bytes that one has at a place, if it is the same but for these.
@@ -39,10 +37,12 @@ pub(crate) fn variant_of(content: &[u8], other: &[u8], place: usize) -> Option<[
     }
     let (front, rest) = content.split_at(place);
     let (other_front, other_rest) = other.split_at(place);
-    if front != other_front || !is_same_text(&rest[VARIED..], &other_rest[VARIED..]) {
+    let (_, back) = rest.split_at(VARIED);
+    let (bytes, other_back) = other_rest.split_at(VARIED);
+    if !is_same_text(front, other_front) || !is_same_text(back, other_back) {
         return None;
     }
-    Some(bytes_at(other, place))
+    Some(six_of(bytes))
 }
 
 // Appends the rows of some nodes.
@@ -95,7 +95,8 @@ fn varied(
     bytes: &[u8],
     content: &[u8],
 ) -> Result<Option<Vec<u8>>, AllocError>
-    requires { length bytes.now ≡ 6 }
+    requires six { length bytes.now ≡ 6 }
+    requires near { place ≤ 255 }
     ensures { IfOk result (λ part. IfSome part (λ p. p.items ≡ varied place bytes.now content.now)) }
 {
     if content.len() < place + VARIED {
