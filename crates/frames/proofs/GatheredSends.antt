@@ -101,6 +101,21 @@ module _ (place : ℕ) (content : List ℕ) where
   count-gathered before (o ∷ old) after [] g = absurd g
   count-gathered before (o ∷ old) after (n ∷ new) g = omega (arith, count-gathered g.0 old after new g.2, count-taken before o g.0 n g.1)
 
+  -- the first ones
+
+  pub first-variants : (sent : List (List ℕ)) (before : List Variant) (old : List OutletModel) (after : List Variant) (new : List OutletModel) → before ≡ [] → Gathers place content before old after new
+      → WaitOf sent old → AreVariantsOf sent place content after
+  first-variants sent before old after new e g of = variants-gathered sent before old after new g of (subst (AreVariantsOf sent place content) (sym e) tt)
+
+  pub first-count : (before : List Variant) (old : List OutletModel) (after : List Variant) (new : List OutletModel) → before ≡ [] → Gathers place content before old after new
+      → length after ≤ length old
+  first-count before old after new e g = omega (arith, count-gathered before old after new g, ap length e)
+
+  pub first-rows : (before : List Variant) (old : List OutletModel) (after : List Variant) (new : List OutletModel) → before ≡ [] → Gathers place content before old after new
+      → length (rows_of after) ≤ 8 * length old
+  first-rows before old after new e g =
+      omega (arith, first-count before old after new e g, length-rows after (six-gathered before old after new g (subst (AllByRecursion HasSix) (sym e) tt)))
+
 pub ways-on : (one two three : List OutletModel) → AreSameWays one two → AreSameWays two three → AreSameWays one three
 ways-on [] two three x y = tt
 ways-on (o ∷ one) [] three x y = absurd x

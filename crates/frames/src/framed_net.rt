@@ -1,11 +1,11 @@
-ghost use Rattle.std.specs.Prelude.{◌≡◌, ◌≤◌, ◌+◌, ◌∷◌, ℕ, List, [], length, min, vec_len, vec_capacity, OnOk, IfOk, IfSome};
+ghost use Rattle.std.specs.Prelude.{◌≡◌, ◌≤◌, ◌<◌, ◌+◌, ◌^◌, ◌∷◌, ℕ, List, [], length, min, vec_len, vec_capacity, OnOk, IfOk, IfSome};
 ghost use Rattle.std.specs.List.{AllByRecursion};
 ghost use Rattle.frames.specs.Arrivals.{StandsIn};
-ghost use Rattle.frames.specs.Sendings.{Adds, AreOf, AreSameWays, IsFrameOf, IsLongOn, KeepLongs, Sends, WaitOf};
+ghost use Rattle.frames.specs.Sendings.{Adds, AreSameWays, IsFrameOf, IsLongOn, KeepLongs, Sends, WaitOf};
 ghost use Rattle.frames.specs.Nets.{GivesArrived, Grows, HasFlushed, HasReceived, HasSent, IsAnswer, IsFresh, IsOver, IsSameNode};
 ghost use Rattle.frames.specs.Carried.{Carries};
 ghost use Rattle.frames.specs.Frames.{packed};
-ghost use Rattle.frames.specs.Gathered.{AreVariantsOf, Gathers, Takes, offering_each, several_frame};
+ghost use Rattle.frames.specs.Gathered.{Gathers, Takes, offering_each, several_frame as frame_of};
 ghost use Rattle.frames.specs.Parts.{rows_of};
 ghost use Rattle.frames.specs.declared.outlet.Seal.{Seal as SealValue};
 ghost use Rattle.udp_net.specs.Logs.{failures_after, offering, Lists};
@@ -63,12 +63,14 @@ fn outlets_to(alloc: Global, nodes: &[NodePort]) -> Result<Vec<Outlet>, AllocErr
 }
 
 // Where a content first differs from one that is as long, among those that wait on some ways.
-fn place_in(content: &[u8], outlets: &[Outlet]) -> Option<u8> {
+fn place_in(content: &[u8], outlets: &[Outlet]) -> Option<usize>
+    ensures { IfSome result (λ place. place ≤ 255) }
+{
     let Some((first, rest)) = outlets.split_first() else {
         return None;
     };
     if first.content().len() == content.len() {
-        return Some(shared_front(content, first.content()) as u8);
+        return Some(shared_front(content, first.content()));
     }
     place_in(content, rest)
 }
@@ -116,37 +118,41 @@ fn send_each<N: Net>(net: &mut N, variants: &[Variant], frame: &[u8])
     send_each(net, rest, frame)
 }
 
-// Offers what waits on a way to its node, and to each of those that have a variant of it, in one frame.
-fn send_several<N: Net>(
+// The frame of what waits on a way, for its node and for those that have a variant of it, in an empty vector.
+fn several_frame(
     sealing: &Seal,
-    counter: &mut u64,
-    net: &mut N,
-    outlet: &mut Outlet,
-    place: u8,
+    counter: u64,
+    outlet: &Outlet,
+    place: usize,
     variants: &[Variant],
     empty: Vec<u8>,
-)
+) -> Vec<u8>
+    requires near { place ≤ 255 }
     requires count { length variants.now ≤ 255 }
     requires empty { empty.items ≡ [] }
-    requires room { 46 + length (rows_of variants.now) + length (packed outlet.old.waiting) ≤ vec_capacity empty }
-    ensures lists { Lists (N.log net.old) (λ l. offering_each variants.now (several_frame sealing.now counter.old place variants.now outlet.old)
-        (offering outlet.old.node (several_frame sealing.now counter.old place variants.now outlet.old) l)) (N.log net.new) }
+    requires room { 46 + length (rows_of variants.now) + length (packed outlet.now.waiting) ≤ vec_capacity empty }
+    ensures fits { outlet.now.node < 2 ^ 16 }
+    ensures is { result.items ≡ frame_of sealing.now counter place variants.now outlet.now }
+{
+    let mut frame = empty;
+    put_head(&outlet.head_of_several(sealing, counter), &mut frame);
+    put_several(place, variants, outlet.content(), &mut frame);
+    seal(&sealing.key, &mut frame);
+    frame
+}
+
+// Offers a frame of what waits on a way to its node and to those of some variants.
+fn send_several<N: Net>(net: &mut N, outlet: &mut Outlet, variants: &[Variant], frame: &[u8])
+    ensures lists { Lists (N.log net.old) (λ l. offering_each variants.now frame.now (offering outlet.old.node frame.now l)) (N.log net.new) }
     ensures outlet { outlet.new ≡ record outlet.old { waiting = [] } }
-    ensures counter { counter.new ≡ min (counter.old + 1) 18446744073709551615 }
     ensures failed { N.failed net.new ≡ N.failed net.old }
     ensures unsent { N.unsent net.old ≤ N.unsent net.new }
     ensures grows { Grows (N.log net.old) (N.log net.new) }
-    ensures adds { (long : ℕ → ℕ → List ℕ) (sent : List (List ℕ)) → AreOf sent outlet.old.waiting → AreVariantsOf sent place (packed outlet.old.waiting) variants.now
-        → Adds (IsFrameOf sealing.now long sent) (N.log net.old) (N.log net.new) }
+    ensures adds { (s : SealValue) (long : ℕ → ℕ → List ℕ) (sent : List (List ℕ)) → Carries s.key s.boot long (StandsIn sent) frame.now → Adds (IsFrameOf s long sent) (N.log net.old) (N.log net.new) }
 {
-    let mut frame = empty;
-    put_head(&outlet.head_of_several(sealing, *counter), &mut frame);
-    put_several(place, variants, outlet.content(), &mut frame);
-    seal(&sealing.key, &mut frame);
-    *counter = counter.saturating_add(1);
     outlet.clear();
-    net.send(outlet.node(), frame.as_slice());
-    send_each(net, variants, frame.as_slice())
+    net.send(outlet.node(), frame);
+    send_each(net, variants, frame)
 }
 
 // Offers what waits on a way: also to nodes of others, if what waits there is the same but for six bytes.
@@ -173,13 +179,16 @@ fn flush_first<N: Net>(
     let Some(place) = place_in(content, rest) else {
         return first.flush(alloc, seal, net);
     };
-    let frame = Vec::with_capacity(alloc, FRAME)?;
+    let empty = Vec::with_capacity(alloc, FRAME)?;
     let mut variants = Vec::new(alloc);
-    gather(content, usize::from(place), rest, &mut variants);
+    gather(content, place, rest, &mut variants);
+    let variants = variants.as_slice();
     if variants.is_empty() {
         return first.flush(alloc, seal, net);
     }
-    send_several(seal, counter, net, first, place, variants.as_slice(), frame);
+    let frame = several_frame(seal, *counter, first, place, variants, empty);
+    *counter = counter.saturating_add(1);
+    send_several(net, first, variants, frame.as_slice());
     Ok(())
 }
 

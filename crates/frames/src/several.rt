@@ -60,13 +60,14 @@ fn put_rows(variants: &[Variant], out: &mut Vec<u8>)
 }
 
 // Appends the content of a frame that is for a first node and for others.
-pub(crate) fn put_several(place: u8, variants: &[Variant], content: &[u8], out: &mut Vec<u8>)
+pub(crate) fn put_several(place: usize, variants: &[Variant], content: &[u8], out: &mut Vec<u8>)
+    requires near { place ≤ 255 }
     requires count { length variants.now ≤ 255 }
     requires room { vec_len out.old + (2 + length (rows_of variants.now) + length content.now) ≤ vec_capacity out.old }
     ensures items { out.new.items ≡ out.old.items ++ several_bytes place variants.now content.now }
     ensures room { vec_capacity out.old ≤ vec_capacity out.new }
 {
-    put_u8(place, out);
+    put_u8(place as u8, out);
     put_u8(variants.len() as u8, out);
     put_rows(variants, out);
     put(content, out);
