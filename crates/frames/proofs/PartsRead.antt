@@ -1,6 +1,6 @@
 -- What is for a node in a frame for several is packets of the list.
-use Rattle.std.proofs.Common.{◌≡◌, ◌≤◌, ◌+◌, ◌*◌, ◌%◌, ℕ, Bool, true, false, List, [], ◌∷◌, ◌++◌, length, take, drop, refl, sym, ap, ◌∙◌, subst, append_assoc, Option, Some, None, arith}
-use Rattle.std.specs.Prelude.{get_or, nat_eq, if◌then◌else◌}
+use Rattle.std.proofs.Common.{◌≡◌, ◌≤◌, ◌+◌, ◌*◌, ◌%◌, ℕ, suc, Bool, true, false, List, [], ◌∷◌, ◌++◌, length, take, drop, refl, sym, ap, ◌∙◌, subst, append_assoc, Option, Some, None, arith}
+use Rattle.std.specs.Prelude.{get_or, nat_eq, if◌then◌else◌, IfSome}
 use Rattle.std.specs.List.{AllByRecursion}
 use Rattle.std.proofs.Math.Seq.{drop-append_seam, take-append_seam}
 use Rattle.std.proofs.lemmas.List.{length-append, take-append-drop}
@@ -16,6 +16,7 @@ pub varied-is : (place : ℕ) (content other : List ℕ) → take place content 
 varied-is place content other front back =
     ap (λ (f : List ℕ). f ++ take 6 (drop place other) ++ drop (place + 6) content) front
     ∙ ap (λ (b : List ℕ). take place other ++ take 6 (drop place other) ++ b) (sym (drop-on ℕ place 6 content) ∙ back)
+    ∙ append_assoc (take place other) (take 6 (drop place other)) (drop 6 (drop place other))
     ∙ ap (λ (r : List ℕ). take place other ++ r) (take-append-drop 6 (drop place other)) ∙ take-append-drop place other
 
 -- ---- rows
@@ -31,7 +32,7 @@ length-rows [] six = refl
 length-rows (v ∷ variants) six =
     let rest : length (rows_of variants) ≡ 8 * length variants = length-rows variants six.1 in
     let row : length (v.bytes ++ rows_of variants) ≡ length v.bytes + length (rows_of variants) = length-append v.bytes (rows_of variants) in
-    let all : length (rows_of (v ∷ variants)) ≡ 2 + length (v.bytes ++ rows_of variants) = refl in
+    let all : length (rows_of (v ∷ variants)) ≡ suc (suc (length (v.bytes ++ rows_of variants))) = refl in
     omega (arith, rest, row, all, six.0)
 
 small : (n : ℕ) → n ≤ 255 → n % 256 ≡ n
@@ -42,6 +43,15 @@ front-six b c r l = ap (λ (n : ℕ). take n ((b ++ c) ++ r)) (sym l) ∙ ap (ta
 
 behind-six : (b c r : List ℕ) → length b ≡ 6 → drop 6 ((b ++ c) ++ r) ≡ c ++ r
 behind-six b c r l = ap (λ (n : ℕ). drop n ((b ++ c) ++ r)) (sym l) ∙ ap (drop (length b)) (append_assoc b c r) ∙ drop-append_seam b (c ++ r)
+
+-- the rows behind the first one
+pub bytes-behind : (node count n : ℕ) (rest rows : List ℕ) → count ≡ suc n → rest ≡ drop 8 rows → nat_eq (big_number 2 rows) node ≡ false → bytes_for node count rows ≡ bytes_for node n rest
+bytes-behind node count n rest rows e f other =
+    ap (λ (m : ℕ). bytes_for node m rows) e ∙ ap (λ (b : Bool). if b then Some (take 6 (drop 2 rows)) else bytes_for node n (drop 8 rows)) other ∙ ap (bytes_for node n) (sym f)
+
+pub if-some : {A : Type 0} (r : Option A) (One Other : A → Type 0) → ((x : A) → One x → Other x) → IfSome r One → IfSome r Other
+if-some None One Other also x = tt
+if-some (Some a) One Other also x = also a x
 
 -- ---- what holds of each variant of a content holds of what a node is sent
 

@@ -6,7 +6,7 @@ use Rattle.frames.proofs.SendsCarried.{adds-on}
 use Rattle.frames.proofs.framed_net.+flush_all.Goals as goal
 
 pub returns-clause-sends : goal.returns-clause-sends
-returns-clause-sends g c = λ long sent of known.
+returns-clause-sends g t c = λ long sent of known.
     let both = subst (λ (xs : List OutletModel). WaitOf sent xs) c.in-Some.ensures.cases.0 of in
     let longs = subst (λ (xs : List OutletModel). KeepLongs long xs) c.in-Some.ensures.cases.0 known in
     let one = c.flush_first.ensures.sends long sent both longs in
@@ -17,7 +17,7 @@ returns-clause-sends g c = λ long sent of known.
     )
 
 pub returns-clause-ways : goal.returns-clause-ways
-returns-clause-ways g c =
+returns-clause-ways g t c =
     let one = c.flush_first.ensures.ways in
     subst (λ (xs : List OutletModel). AreSameWays xs (c.flush_first.new.first ∷ c.flush_all.new.outlets)) (sym c.in-Some.ensures.cases.0)
     (one.0, one.1, ways-on c.in-Some.rest.now c.flush_first.new.rest c.flush_all.new.outlets one.2 c.flush_all.ensures.ways)
