@@ -1,8 +1,7 @@
 -- What waits for several nodes is of a list, also what is taken of it for one frame.
-use Rattle.std.proofs.Common.{◌≡◌, ◌≢◌, ◌≤◌, ◌<◌, ◌+◌, ◌*◌, ◌^◌, ℕ, List, [], ◌∷◌, ◌++◌, length, refl, sym, ap, ◌∙◌, subst, inl, inr, Option, arith}
+use Rattle.std.proofs.Common.{◌≡◌, ◌≢◌, ◌≤◌, ◌<◌, ◌+◌, ◌*◌, ◌^◌, ℕ, List, [], ◌∷◌, length, refl, sym, ap, ◌∙◌, subst, inl, inr, arith}
 use Rattle.std.specs.List.{AllByRecursion}
 use Rattle.std.proofs.lemmas.List.{length-append}
-use Rattle.udp_net.specs.Logs.{Log}
 use Rattle.frames.specs.declared.head.Kind.TheVariants.{Piece, Several}
 use Rattle.frames.specs.declared.outlet.Seal.{Seal}
 use Rattle.frames.specs.declared.several.Variant.{Variant}

@@ -5,7 +5,7 @@ use Rattle.std.specs.List.{AllByRecursion}
 use Rattle.std.proofs.Math.Seq.{drop-append_seam, take-append_seam}
 use Rattle.std.proofs.lemmas.List.{length-append, take-append-drop}
 use Rattle.std.proofs.lemmas.Option.{none-some, same_Some}
-use Rattle.byteorder.specs.Endian.{big_bytes, big_number}
+use Rattle.byteorder.specs.Endian.{big_number}
 use Rattle.frames.specs.declared.several.Variant.{Variant}
 use Rattle.frames.specs.Parts.{bytes_for, first_part, part_of, rows_of, several_bytes, varied, varied_by}
 use Rattle.frames.proofs.ReadAsCarried.{drop-on}

@@ -2,7 +2,6 @@
 use Rattle.std.specs.Prelude.{◌≡◌, ℕ, List, [], ◌∷◌, ◌++◌, ◌⊎◌, length}
 use Rattle.std.specs.List.{AllByRecursion}
 use Rattle.udp_net.specs.Logs.{Log, offering}
-use Rattle.frames.specs.declared.head.Head.{Head}
 use Rattle.frames.specs.declared.head.Kind.TheVariants.{Several}
 use Rattle.frames.specs.declared.outlet.Seal.{Seal}
 use Rattle.frames.specs.declared.several.Variant.{Variant}

@@ -76,12 +76,7 @@ fn place_in(content: &[u8], outlets: &[Outlet]) -> Option<usize>
 }
 
 // Takes what waits on a way, if that is as a content but for six bytes at a place.
-fn take_variant(
-    content: &[u8],
-    place: usize,
-    outlet: &mut Outlet,
-    variants: &mut Vec<Variant>,
-)
+fn take_variant(content: &[u8], place: usize, outlet: &mut Outlet, variants: &mut Vec<Variant>)
     ensures { Takes place content.now variants.old.items outlet.old variants.new.items outlet.new }
 {
     let Some(variant) = outlet.variant(content, place) else {
@@ -173,7 +168,10 @@ fn flush_first<N: Net>(
     ensures goes { OnOk result (first.new.waiting ≡ []) }
 {
     let content = first.content();
-    if content.is_empty() || rest.len() > MOST_ROWS || content.len() + 2 + ROW * rest.len() > CONTENT {
+    if content.is_empty()
+        || rest.len() > MOST_ROWS
+        || content.len() + 2 + ROW * rest.len() > CONTENT
+    {
         return first.flush(alloc, seal, net);
     }
     let Some(place) = place_in(content, rest) else {

@@ -1,4 +1,4 @@
-use Rattle.std.proofs.Common.{◌≡◌, ◌≤◌, ◌∙◌, ap, arith, length, refl, rules, subst, sym, ℕ, List}
+use Rattle.std.proofs.Common.{◌≤◌, ◌∙◌, ap, arith, length, refl, subst, sym, ℕ, List}
 use Rattle.frames.specs.declared.longs.Longs.{Longs}
 use Rattle.frames.specs.declared.several.Variant.{Variant}
 use Rattle.frames.specs.Arrivals.{StandsIn}
@@ -52,16 +52,25 @@ returns-then-is_empty-2-clause-ways g c =
 
 pub several_frame-frame-requires-clause-count : goal.several_frame-frame-requires-clause-count
 several_frame-frame-requires-clause-count g c =
-    omega
-    (arith, first-count c.in-Some.place c.content-content.result.now c.new-variants.result.items c.args.rest.now c.gather.new.variants.items c.gather.new.outlets c.new-variants.ensures.items
-    c.gather.ensures, ap length c.as_slice-variants.ensures.value, c.if-rest-gt-MOST_ROWS.false)
+    omega (
+      arith,
+      first-count c.in-Some.place c.content-content.result.now c.new-variants.result.items c.args.rest.now c.gather.new.variants.items c.gather.new.outlets c.new-variants.ensures.items
+          c.gather.ensures,
+      ap length c.as_slice-variants.ensures.value,
+      c.if-rest-gt-MOST_ROWS.false,
+    )
 
 pub several_frame-frame-requires-clause-room : goal.several_frame-frame-requires-clause-room
 several_frame-frame-requires-clause-room g c =
-    omega
-    (arith, first-rows c.in-Some.place c.content-content.result.now c.new-variants.result.items c.args.rest.now c.gather.new.variants.items c.gather.new.outlets c.new-variants.ensures.items
-    c.gather.ensures, ap (λ (vs : List Variant). length (rows_of vs)) c.as_slice-variants.ensures.value, ap length c.content-content.ensures.is, c.if-content-rest-gt-CONTENT.false,
-    c.in_ok-empty.ensures.capacity)
+    omega (
+      arith,
+      first-rows c.in-Some.place c.content-content.result.now c.new-variants.result.items c.args.rest.now c.gather.new.variants.items c.gather.new.outlets c.new-variants.ensures.items
+          c.gather.ensures,
+      ap (λ (vs : List Variant). length (rows_of vs)) c.as_slice-variants.ensures.value,
+      ap length c.content-content.ensures.is,
+      c.if-content-rest-gt-CONTENT.false,
+      c.in_ok-empty.ensures.capacity,
+    )
 
 pub returns-clause-sends : goal.returns-clause-sends
 returns-clause-sends g c = λ long sent of known.
@@ -76,9 +85,12 @@ returns-clause-sends g c = λ long sent of known.
     let good : AreVariantsOf sent place (packed first.waiting) variants =
     subst (AreVariantsOf sent place (packed first.waiting)) (sym c.as_slice-variants.ensures.value) (subst (λ (l : List ℕ). AreVariantsOf sent place l taken) c.content-content.ensures.is gathered) in
     let count : length variants ≤ 255 =
-    omega
-    (arith, first-count place content c.new-variants.result.items rest taken new c.new-variants.ensures.items c.gather.ensures, ap length c.as_slice-variants.ensures.value,
-    c.if-rest-gt-MOST_ROWS.false) in
+    omega (
+      arith,
+      first-count place content c.new-variants.result.items rest taken new c.new-variants.ensures.items c.gather.ensures,
+      ap length c.as_slice-variants.ensures.value,
+      c.if-rest-gt-MOST_ROWS.false,
+    ) in
     let carries : Carries c.args.seal.now.key c.args.seal.now.boot long (StandsIn sent) c.as_slice.result.now =
     subst (Carries c.args.seal.now.key c.args.seal.now.boot long (StandsIn sent)) (sym (c.as_slice.ensures.value ∙ c.several_frame-frame.ensures.is))
     (several-carries c.args.seal.now long sent c.args.counter.now place variants first c.several_frame-frame.ensures.fits c.in-Some.ensures count c.content-content.ensures.short of.0 good) in (

@@ -1,4 +1,4 @@
-use Rattle.std.proofs.Common.{◌≡◌, ◌∙◌, ap, drop, rules, sym, take, List, ℕ}
+use Rattle.std.proofs.Common.{◌≡◌, ◌∙◌, ap, drop, rules, take, List, ℕ}
 use Rattle.frames.specs.Parts.{varied}
 use Rattle.frames.proofs.PartsRead.{varied-is}
 use Rattle.frames.proofs.several.variant_of.Goals as goal
