@@ -9,7 +9,7 @@ fn node(number: u16) -> Node {
     Node::new(number).unwrap_or(Node::new(1).unwrap())
 }
 
-fn nodes() -> [NodePort; 2] {
+fn nodes() -> [NodePort; 3] {
     [
         NodePort {
             node: node(1),
@@ -18,6 +18,10 @@ fn nodes() -> [NodePort; 2] {
         NodePort {
             node: node(2),
             port: 2,
+        },
+        NodePort {
+            node: node(3),
+            port: 3,
         },
     ]
 }
@@ -58,13 +62,23 @@ fn frames(rt: &(impl Abort + AllocGlobal), from: FramedNet<MemoryNet>) -> Vec<Ve
     frames
 }
 
-// A net at node 2 to which these frames come.
-fn hears(rt: &(impl Abort + AllocGlobal), frames: &[Vec<u8>], key: &[u8]) -> FramedNet<MemoryNet> {
+// A net at a node to which these frames come.
+fn hears_at(
+    rt: &(impl Abort + AllocGlobal),
+    number: u16,
+    frames: &[Vec<u8>],
+    key: &[u8],
+) -> FramedNet<MemoryNet> {
     let mut inner = MemoryNet::new(rt.alloc());
     for frame in frames {
         inner.put(frame.as_slice()).expect(rt, "memory");
     }
-    net_over(rt, inner, 2, key)
+    net_over(rt, inner, number, key)
+}
+
+// One at node 2.
+fn hears(rt: &(impl Abort + AllocGlobal), frames: &[Vec<u8>], key: &[u8]) -> FramedNet<MemoryNet> {
+    hears_at(rt, 2, frames, key)
 }
 
 // What a net gives next.
@@ -110,7 +124,7 @@ fn small_packets_go_together(rt: HostRuntime) {
     sender.send(node(2), b"one");
     sender.send(node(1), b"other");
     sender.send(node(2), b"two");
-    sender.send(node(3), b"nobody");
+    sender.send(node(4), b"nobody");
     sender.send(node(2), b"");
     let found = frames(&rt, sender);
     assert!(rt; found.len() == 2);
@@ -355,5 +369,71 @@ fn what_is_damaged_is_not_given(rt: HostRuntime) {
     let mut receiver = net_over(&rt, inner, 2, b"key");
     assert!(rt; next(&rt, &mut receiver).is_none());
     assert!(rt; next(&rt, &mut receiver).is_none());
+    assert!(rt; receiver.refused() == 2 * frame.len() as u64);
+}
+
+// The frames of packets for nodes 2 and 3 that are the same but for the node, and of one more for node 1.
+fn for_several(rt: &(impl Abort + AllocGlobal)) -> Vec<Vec<u8>> {
+    let mut sender = net(rt, 1, b"key");
+    sender.send(node(1), b"of another length");
+    sender.send(node(2), b"for node 2: one");
+    sender.send(node(3), b"for node 3: one");
+    sender.send(node(2), b"for node 2: two");
+    sender.send(node(3), b"for node 3: two");
+    frames(rt, sender)
+}
+
+#[test]
+fn one_frame_goes_to_several(rt: HostRuntime) {
+    let found = for_several(&rt);
+    assert!(rt; found.len() == 3);
+    assert!(rt; found.as_slice()[1].as_slice() == found.as_slice()[2].as_slice());
+    assert!(rt; found.as_slice()[1].len() == 28 + (2 + 8) + (3 + 15) + (3 + 3) + 16);
+    let mut second = hears_at(&rt, 2, found.as_slice(), b"key");
+    assert!(rt; gives(&rt, &mut second, b"for node 2: one"));
+    assert!(rt; gives(&rt, &mut second, b"for node 2: two"));
+    assert!(rt; next(&rt, &mut second).is_none());
+    let mut third = hears_at(&rt, 3, found.as_slice(), b"key");
+    assert!(rt; gives(&rt, &mut third, b"for node 3: one"));
+    assert!(rt; gives(&rt, &mut third, b"for node 3: two"));
+    assert!(rt; next(&rt, &mut third).is_none());
+    assert!(rt; third.refused() == 2);
+    let mut other = hears_at(&rt, 4, found.as_slice(), b"key");
+    assert!(rt; next(&rt, &mut other).is_none());
+    assert!(rt; other.refused() == 3);
+}
+
+#[test]
+fn frames_for_several_have_counters_of_their_own(rt: HostRuntime) {
+    let mut sender = net(&rt, 1, b"key");
+    sender.send(node(2), b"for node 2");
+    sender.flush();
+    sender.send(node(2), b"for node 2 again");
+    sender.send(node(3), b"for node 3 again");
+    let found = frames(&rt, sender);
+    assert!(rt; found.len() == 3);
+    let mut receiver = hears(&rt, found.as_slice(), b"key");
+    assert!(rt; gives(&rt, &mut receiver, b"for node 2"));
+    assert!(rt; gives(&rt, &mut receiver, b"for node 2 again"));
+    assert!(rt; next(&rt, &mut receiver).is_none());
+    assert!(rt; receiver.refused() == 1);
+}
+
+#[test]
+fn what_is_damaged_is_not_given_to_several(rt: HostRuntime) {
+    let found = for_several(&rt);
+    assert!(rt; found.len() == 3);
+    let frame = found.as_slice()[1].as_slice();
+    let mut inner = MemoryNet::new(rt.alloc());
+    for place in 0..frame.len() {
+        let mut bytes = Vec::from_slice(rt.alloc(), frame).expect(&rt, "memory");
+        bytes.as_mut_slice()[place] ^= 1;
+        inner.put(bytes.as_slice()).expect(&rt, "memory");
+        inner.put(&frame[..place]).expect(&rt, "memory");
+    }
+    let mut receiver = net_over(&rt, inner, 3, b"key");
+    for _ in 0..4 {
+        assert!(rt; next(&rt, &mut receiver).is_none());
+    }
     assert!(rt; receiver.refused() == 2 * frame.len() as u64);
 }

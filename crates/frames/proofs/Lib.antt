@@ -1,8 +1,10 @@
 pub mod AllPieces
+pub mod GatheredSends
 pub mod KeepsCame
 pub mod Lives
 pub mod Logs
 pub mod Opened
+pub mod PartsRead
 pub mod PiecesCome
 pub mod ReadAsCarried
 pub mod ReadAsPut

@@ -1,5 +1,5 @@
 -- What is read of a frame is what it carries.
-use Rattle.std.proofs.Common.{◌≡◌, ◌<◌, ◌+◌, ◌*◌, ◌%◌, ◌^◌, ℕ, zero, suc, true, false, List, [], ◌∷◌, ◌++◌, length, take, drop, refl, sym, ap, ◌∙◌, subst, append_assoc, Option, Some, None, arith}
+use Rattle.std.proofs.Common.{◌≡◌, ◌≢◌, ◌<◌, ◌+◌, ◌*◌, ◌%◌, ◌^◌, ℕ, zero, suc, true, false, List, [], ◌∷◌, ◌++◌, length, take, drop, refl, sym, ap, ◌∙◌, subst, append_assoc, Option, Some, None, arith}
 use Rattle.std.specs.Prelude.{get_or}
 use Rattle.std.proofs.Math.Seq.{drop-append_seam, take-append_seam, take-add}
 use Rattle.std.proofs.lemmas.List.{take_all}
@@ -7,11 +7,12 @@ use Rattle.byteorder.specs.Endian.{big_bytes, big_number}
 use Rattle.byteorder.specs.Numbers.{big_number-reads_back}
 use Rattle.frames.specs.declared.head.Head.{Head}
 use Rattle.frames.specs.declared.head.Kind.{Kind}
-use Rattle.frames.specs.declared.head.Kind.TheVariants.{Packets, Piece}
-use Rattle.frames.specs.Frames.{head_bytes, kind_number, packed, IsHeadOf, Opens}
+use Rattle.frames.specs.declared.head.Kind.TheVariants.{Packets, Piece, Several}
+use Rattle.frames.specs.Frames.{head_bytes, kind_number, IsHeadOf, Opens}
 use Rattle.frames.specs.Partials.{PieceModel, IsPieceIn, piece_bytes}
+use Rattle.frames.specs.Parts.{IsPart}
 use Rattle.frames.specs.Arrivals.{is_whole, joined}
-use Rattle.frames.specs.Carried.{CarriesWhole, CarriesPiece, count_of, piece_at}
+use Rattle.frames.specs.Carried.{ArePacked, CarriesWhole, CarriesPiece, count_of, piece_at}
 use Rattle.frames.proofs.ReadAsPut.{sealed_once, length-head}
 
 -- ---- the head
@@ -19,12 +20,13 @@ use Rattle.frames.proofs.ReadAsPut.{sealed_once, length-head}
 same-kind : (a b : Kind) → kind_number a % 256 ≡ kind_number b → b ≡ a
 same-kind Packets Packets e = refl
 same-kind Packets Piece e = absurd (omega (arith, e))
+same-kind Packets Several e = absurd (omega (arith, e))
 same-kind Piece Packets e = absurd (omega (arith, e))
 same-kind Piece Piece e = refl
-
--- a frame is of one kind
-pub no-piece : (k : Kind) → k ≡ Packets → k ≡ Piece → ⊥
-no-piece k e f = cc
+same-kind Piece Several e = absurd (omega (arith, e))
+same-kind Several Packets e = absurd (omega (arith, e))
+same-kind Several Piece e = absurd (omega (arith, e))
+same-kind Several Several e = refl
 
 boot-front : (b c r : List ℕ) → length b ≡ 16 → take 16 ((b ++ c) ++ r) ≡ b
 boot-front b c r l =
@@ -61,25 +63,33 @@ module _ (content : List ℕ) (put read : PieceModel) (e : content ≡ piece_byt
 
 -- ---- a frame that is opened, by what it carries
 
-module _ (key boot : List ℕ) (node : ℕ) (WasSent : List ℕ → Type 0) (frame : List ℕ) (h : Head) (content : List ℕ) (l : length boot ≡ 16) (o : Opens key node frame h content) where
+module _ (key boot : List ℕ) (node : ℕ) (WasSent : List ℕ → Type 0) (frame : List ℕ) (h : Head) (part : List ℕ) (l : length boot ≡ 16) (o : Opens key node frame h part) where
   -- of a frame that carries whole packets
-  pub record ReadsWhole (packets : List (List ℕ)) : Type 0 where
-    pub kind : h.kind ≡ Packets
-    pub content_is : content ≡ packed packets
+  pub record ReadsWhole : Type 0 where
+    pub kind : h.kind ≢ Piece
+    pub packed : ArePacked WasSent part
 
-  pub whole-reads : (w : CarriesWhole key boot WasSent frame) → ReadsWhole w.packets
+  pub whole-reads : CarriesWhole key boot WasSent frame → ReadsWhole
   whole-reads w =
-      let body : o.body ≡ head_bytes w.head ++ packed w.packets = sealed_once key o.body (head_bytes w.head ++ packed w.packets) (sym o.seal ∙ w.frame_is) in
+      let b = o.sealed_is in
+      let body : b.body ≡ head_bytes w.head ++ w.content = sealed_once key b.body (head_bytes w.head ++ w.content) (sym b.seal ∙ w.frame_is) in
+      let kind : h.kind ≡ w.head.kind = kind-read b.body w.head h w.content body b.head in
+      let to : h.to ≡ w.head.to = to-read b.body w.head h w.content body b.head w.to_fits in
+      let content : o.content ≡ w.content = b.content_is ∙ content-read b.body w.head h w.content body b.head (ap length w.boot_is ∙ l) in
       record {
-        kind = kind-read o.body w.head h (packed w.packets) body o.head ∙ w.kind;
-        content_is = o.content_is ∙ content-read o.body w.head h (packed w.packets) body o.head (ap length w.boot_is ∙ l);
+        kind = λ e. w.kind (sym kind ∙ e);
+        packed =
+            w.parts node part
+            (subst (λ (k : Kind). IsPart k node w.head.to w.content part) kind
+            (subst (λ (t : ℕ). IsPart h.kind node t w.content part) to (subst (λ (c : List ℕ). IsPart h.kind node h.to c part) content o.part_is)));
       }
 
   pub piece-kind : (long : ℕ → ℕ → List ℕ) → CarriesPiece key boot long WasSent frame → h.kind ≡ Piece
   piece-kind long w =
+      let b = o.sealed_is in
       let put = piece_at w.number w.index (long w.head.to w.number) in
-      let body : o.body ≡ head_bytes w.head ++ piece_bytes put = sealed_once key o.body (head_bytes w.head ++ piece_bytes put) (sym o.seal ∙ w.frame_is) in
-      kind-read o.body w.head h (piece_bytes put) body o.head ∙ w.kind
+      let body : b.body ≡ head_bytes w.head ++ piece_bytes put = sealed_once key b.body (head_bytes w.head ++ piece_bytes put) (sym b.seal ∙ w.frame_is) in
+      kind-read b.body w.head h (piece_bytes put) body b.head ∙ w.kind
 
   -- of a frame that carries a piece
   pub record ReadsPiece (long : ℕ → ℕ → List ℕ) (read : PieceModel) : Type 0 where
@@ -89,21 +99,24 @@ module _ (key boot : List ℕ) (node : ℕ) (WasSent : List ℕ → Type 0) (fra
     pub bytes : read.bytes ≡ take 1344 (drop (1344 * read.index) (long node read.number))
     pub sent : WasSent (long node read.number)
 
-  pub piece-reads : (long : ℕ → ℕ → List ℕ) (w : CarriesPiece key boot long WasSent frame) (read : PieceModel) → IsPieceIn content read → ReadsPiece long read
+  pub piece-reads : (long : ℕ → ℕ → List ℕ) (w : CarriesPiece key boot long WasSent frame) (read : PieceModel) → IsPieceIn part read → ReadsPiece long read
   piece-reads long w read x =
+      let b = o.sealed_is in
       let put = piece_at w.number w.index (long w.head.to w.number) in
-      let body : o.body ≡ head_bytes w.head ++ piece_bytes put = sealed_once key o.body (head_bytes w.head ++ piece_bytes put) (sym o.seal ∙ w.frame_is) in
-      let inside : content ≡ piece_bytes put = o.content_is ∙ content-read o.body w.head h (piece_bytes put) body o.head (ap length w.boot_is ∙ l) in
-      let to : w.head.to ≡ node = sym (to-read o.body w.head h (piece_bytes put) body o.head w.to_fits) ∙ o.for_it in
-      let number : read.number ≡ w.number = number-read content put read inside x w.number_fits in
-      let index : read.index ≡ w.index = index-read content put read inside x w.index_fits in
+      let body : b.body ≡ head_bytes w.head ++ piece_bytes put = sealed_once key b.body (head_bytes w.head ++ piece_bytes put) (sym b.seal ∙ w.frame_is) in
+      let kind : h.kind ≡ Piece = kind-read b.body w.head h (piece_bytes put) body b.head ∙ w.kind in
+      let mine : IsPart Piece node h.to o.content part = subst (λ (k : Kind). IsPart k node h.to o.content part) kind o.part_is in
+      let inside : part ≡ piece_bytes put = mine.0 ∙ b.content_is ∙ content-read b.body w.head h (piece_bytes put) body b.head (ap length w.boot_is ∙ l) in
+      let to : w.head.to ≡ node = sym (to-read b.body w.head h (piece_bytes put) body b.head w.to_fits) ∙ mine.1 in
+      let number : read.number ≡ w.number = number-read part put read inside x w.number_fits in
+      let index : read.index ≡ w.index = index-read part put read inside x w.index_fits in
       let packet : long w.head.to w.number ≡ long node read.number = ap (λ (n : ℕ). long n w.number) to ∙ ap (long node) (sym number) in
       record {
-        kind = kind-read o.body w.head h (piece_bytes put) body o.head ∙ w.kind;
-        boot_is = boot-read o.body w.head h (piece_bytes put) body o.head (ap length w.boot_is ∙ l) ∙ w.boot_is;
-        count = count-read content put read inside x w.count_fits ∙ ap count_of packet;
+        kind = kind;
+        boot_is = boot-read b.body w.head h (piece_bytes put) body b.head (ap length w.boot_is ∙ l) ∙ w.boot_is;
+        count = count-read part put read inside x w.count_fits ∙ ap count_of packet;
         bytes =
-            bytes-read content put read inside x ∙ ap (λ (i : ℕ). take 1344 (drop (1344 * i) (long w.head.to w.number))) (sym index)
+            bytes-read part put read inside x ∙ ap (λ (i : ℕ). take 1344 (drop (1344 * i) (long w.head.to w.number))) (sym index)
             ∙ ap (λ (p : List ℕ). take 1344 (drop (1344 * read.index) p)) packet;
         sent = subst WasSent packet w.sent;
       }
@@ -123,7 +136,7 @@ drop-none A (suc n) = refl
 next : (a b : ℕ) → suc (a + b) ≡ suc a + b
 next a b = omega arith
 
-drop-on : (A : Type 0) (a b : ℕ) (xs : List A) → drop b (drop a xs) ≡ drop (a + b) xs
+pub drop-on : (A : Type 0) (a b : ℕ) (xs : List A) → drop b (drop a xs) ≡ drop (a + b) xs
 drop-on A zero b xs = ap (λ (n : ℕ). drop n xs) (omega arith)
 drop-on A (suc a) b [] = drop-none A b ∙ sym (drop-none A (suc a + b))
 drop-on A (suc a) b (x ∷ xs) = drop-on A a b xs ∙ ap (λ (n : ℕ). drop n (x ∷ xs)) (next a b)

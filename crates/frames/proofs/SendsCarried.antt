@@ -1,5 +1,5 @@
 -- What is offered to the net below carries what was sent.
-use Rattle.std.proofs.Common.{◌≡◌, ◌≤◌, ◌<◌, ◌^◌, ℕ, List, [], ◌∷◌, ◌++◌, length, take, drop, refl, sym, ap, ◌∙◌, subst, append_assoc, inl, inr, Option, Some, None, arith}
+use Rattle.std.proofs.Common.{◌≡◌, ◌≢◌, ◌≤◌, ◌<◌, ◌^◌, ℕ, List, [], ◌∷◌, ◌++◌, length, take, drop, refl, sym, ap, ◌∙◌, subst, append_assoc, inl, inr, Option, Some, None, arith}
 use Rattle.std.specs.List.{AllByRecursion}
 use Rattle.std.proofs.lemmas.List.{append-nil, take_all}
 use Rattle.udp_net.specs.declared.net.Received.{Received}
@@ -76,13 +76,25 @@ waited log old mid new f lists outlets node seal = record {
   same = record { node = node ∙ f.same.node; seal = seal ∙ f.same.seal };
 }
 
+packets-no-piece : Packets ≢ Piece
+packets-no-piece e = cc
+
 module _ (s : Seal) (long : ℕ → ℕ → List ℕ) (sent : List (List ℕ)) where
   -- the packets that wait, in one frame
-  pub flush-adds : (o : OutletModel) (old new : Option Log) (body : List ℕ) → body ≡ head_bytes (head_for Packets o s) ++ packed o.waiting → AllByRecursion IsShort o.waiting → AreOf sent o.waiting
+  pub flush-adds : (o : OutletModel) (old new : Option Log) (body : List ℕ) → body ≡ head_bytes (head_for Packets o s) ++ packed o.waiting → o.node < 2 ^ 16 → AllByRecursion IsShort o.waiting
+      → AreOf sent o.waiting
       → Lists old (offering o.node (sealed s.key body)) new → Adds (IsFrameOf s long sent) old new
-  flush-adds o old new body e short of ls =
+  flush-adds o old new body e fits short of ls =
       adds-one (IsFrameOf s long sent) old new o.node (sealed s.key body) ls
-      (inl (record { head = head_for Packets o s; packets = o.waiting; frame_is = ap (sealed s.key) e; kind = refl; boot_is = refl; short = short; sent = of }))
+      (inl (record {
+        head = head_for Packets o s;
+        content = packed o.waiting;
+        frame_is = ap (sealed s.key) e;
+        kind = packets-no-piece;
+        boot_is = refl;
+        to_fits = fits;
+        parts = λ node part is. record { packets = o.waiting; content_is = is.0; short = short; sent = of };
+      }))
 
   -- a piece of a packet
   pub piece-adds : (o : OutletModel) (old new : Option Log) (body packet : List ℕ) (number index : ℕ) → body ≡ head_bytes (head_for Piece o s) ++ piece_bytes (piece_at number index packet)

@@ -5,7 +5,7 @@ use Rattle.std.proofs.lemmas.Bool.{cases_lt}
 use Rattle.std.proofs.lemmas.Bool.Decides.{nat_tests}
 use Rattle.std.proofs.Math.ListN.{drop_of_length-le}
 use Rattle.std.proofs.Math.Seq.{drop-append_seam, drop-cons, drop-drop}
-use Rattle.std.proofs.lemmas.List.{append-nil, append_assoc, length-append, length-drop, length-take, take-append-drop}
+use Rattle.std.proofs.lemmas.List.{append-nil, append_assoc, length-append, length-drop, length-take, take-append-drop, take_all}
 use Rattle.std.proofs.lemmas.Option.{same_Some}
 use Rattle.big_endian.specs.Spelled.{IsBytes}
 use Rattle.big_endian.proofs.Bytes.{IsBytes-drop, IsBytes-take, wide2, wide8}
@@ -280,3 +280,15 @@ at-any (x ∷ l) (suc k) d e within = at-any l k d e (lt-suc k (length l) within
 pub on-good : {E : Type 0} (r : Result Bool E) (P Q : Type 0) → (P → Q) → IfOk r (λ good. good ≡ true → P) → IfOk r (λ good. good ≡ true → Q)
 on-good (Ok x) P Q so h = λ good. so (h good)
 on-good (Err e) P Q so h = tt
+
+-- ---- texts that are the same
+
+pub same-short : (one other : List ℕ) → length one ≡ length other → shared_front one other ≡ length one → one ≡ other
+same-short one other l e =
+    sym (take_all (shared_front one other) one (omega (arith, e))) ∙ sym (shared-same 255 one other) ∙ take_all (shared_front one other) other (omega (arith, e, l))
+
+pub same-on : (one other : List ℕ) → 255 ≤ shared_front one other → drop 255 one ≡ drop 255 other → one ≡ other
+same-on one other most rest =
+    let is : shared_front one other ≡ 255 = omega (arith, most, shared-most 255 one other) in
+    let front : take 255 other ≡ take 255 one = ap (λ (n : ℕ). take n other) (sym is) ∙ shared-same 255 one other ∙ ap (λ (n : ℕ). take n one) is in
+    sym (take-append-drop 255 one) ∙ ap (λ (f : List ℕ). f ++ drop 255 one) (sym front) ∙ ap (λ (r : List ℕ). take 255 other ++ r) rest ∙ take-append-drop 255 other

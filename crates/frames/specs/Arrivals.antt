@@ -1,10 +1,10 @@
 -- What came in frames: packets that stand whole in one, and packets whose pieces stand in several.
-use Rattle.std.specs.Prelude.{◌≡◌, ⊤, ℕ, suc, Bool, true, ◌&&◌, List, [], ◌∷◌, ◌++◌, ◌⊎◌, length, slice_get, Option, None, Some, is_some, IfSome}
+use Rattle.std.specs.Prelude.{◌≡◌, ◌≢◌, ⊤, ℕ, suc, Bool, true, ◌&&◌, List, [], ◌∷◌, ◌++◌, ◌⊎◌, length, slice_get, Option, None, Some, is_some, IfSome}
 use Rattle.std.specs.List.{AllByRecursion}
 use Rattle.udp_net.specs.declared.net.Received.TheVariants as received
 use Rattle.udp_net.specs.Logs.{Log, Answered}
 use Rattle.frames.specs.declared.head.Head.{Head}
-use Rattle.frames.specs.declared.head.Kind.TheVariants.{Packets, Piece}
+use Rattle.frames.specs.declared.head.Kind.TheVariants.{Piece}
 use Rattle.frames.specs.Frames.{Opens, packed, IsShort}
 use Rattle.frames.specs.Partials.{IsPieceIn}
 
@@ -24,7 +24,7 @@ pub record ArrivedWhole (Given : List ℕ → Type 0) (key : List ℕ) (node : �
   pub packets : List (List ℕ)
   pub given : Given frame
   pub opens : Opens key node frame head content
-  pub kind : head.kind ≡ Packets
+  pub kind : head.kind ≢ Piece
   pub short : AllByRecursion IsShort packets
   pub packed_is : content ≡ packed packets
   pub among : StandsIn packets packet

@@ -1,22 +1,30 @@
 -- What a frame carries, as who seals it knows.
-use Rattle.std.specs.Prelude.{◌≡◌, ◌<◌, ℕ, zero, suc, ◌+◌, ◌*◌, ◌/◌, ◌^◌, List, ◌++◌, ◌⊎◌, length, take, drop, min}
+use Rattle.std.specs.Prelude.{◌≡◌, ◌≢◌, ◌<◌, ℕ, zero, suc, ◌+◌, ◌*◌, ◌/◌, ◌^◌, List, ◌++◌, ◌⊎◌, length, take, drop, min}
 use Rattle.std.specs.List.{AllByRecursion}
 use Rattle.udp_net.specs.Logs.{Log, offering}
 use Rattle.frames.specs.declared.head.Head.{Head}
 use Rattle.frames.specs.declared.outlet.Seal.{Seal}
-use Rattle.frames.specs.declared.head.Kind.TheVariants.{Packets, Piece}
+use Rattle.frames.specs.declared.head.Kind.TheVariants.{Piece}
 use Rattle.frames.specs.Frames.{head_bytes, packed, sealed, IsShort}
 use Rattle.frames.specs.Partials.{PieceModel, piece_bytes}
+use Rattle.frames.specs.Parts.{IsPart}
 
--- whole packets, each of which was sent
-pub record CarriesWhole (key boot : List ℕ) (WasSent : List ℕ → Type 0) (frame : List ℕ) : Type 0 where
-  pub head : Head
+-- packets, each of which was sent
+pub record ArePacked (WasSent : List ℕ → Type 0) (content : List ℕ) : Type 0 where
   pub packets : List (List ℕ)
-  pub frame_is : frame ≡ sealed key (head_bytes head ++ packed packets)
-  pub kind : head.kind ≡ Packets
-  pub boot_is : head.boot ≡ boot
+  pub content_is : content ≡ packed packets
   pub short : AllByRecursion IsShort packets
   pub sent : AllByRecursion WasSent packets
+
+-- whole packets, for one node or for several: whatever node opens it, what is for that one are packets that were sent
+pub record CarriesWhole (key boot : List ℕ) (WasSent : List ℕ → Type 0) (frame : List ℕ) : Type 0 where
+  pub head : Head
+  pub content : List ℕ
+  pub frame_is : frame ≡ sealed key (head_bytes head ++ content)
+  pub kind : head.kind ≢ Piece
+  pub boot_is : head.boot ≡ boot
+  pub to_fits : head.to < 2 ^ 16
+  pub parts : (node : ℕ) (part : List ℕ) → IsPart head.kind node head.to content part → ArePacked WasSent part
 
 -- how many pieces a long packet has, and the one of an index
 abbrev pub count_of : List ℕ → ℕ

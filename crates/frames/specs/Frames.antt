@@ -4,12 +4,14 @@ use Rattle.std.specs.List.{AllByRecursion}
 use Rattle.byteorder.specs.Endian.{big_bytes, big_number}
 use Rattle.hmac.specs.Hmac.{hmac_sha256}
 use Rattle.frames.specs.declared.head.Kind.{Kind}
-use Rattle.frames.specs.declared.head.Kind.TheVariants.{Packets, Piece}
+use Rattle.frames.specs.declared.head.Kind.TheVariants.{Packets, Piece, Several}
 use Rattle.frames.specs.declared.head.Head.{Head}
+use Rattle.frames.specs.Parts.{IsPart}
 
 abbrev pub kind_number : Kind → ℕ
 kind_number Packets = 0
 kind_number Piece = 1
+kind_number Several = 2
 
 -- the head of a frame: `F`, the kind, the node that it is for, the boot id, the counter
 abbrev pub head_bytes : Head → List ℕ
@@ -77,10 +79,15 @@ pub record IsRead (last : List ℕ) (old : List (List ℕ)) (content : List ℕ)
   pub content_is : content ≡ packed_behind last more
   pub short : AllByRecursion IsShort more
 
--- a frame of somebody who has the key, for a node: its head and its content
-pub record Opens (key : List ℕ) (node : ℕ) (frame : List ℕ) (h : Head) (content : List ℕ) : Type 0 where
+-- a frame of somebody who has the key: its head, and what stands behind that
+pub record IsSealed (key : List ℕ) (frame : List ℕ) (h : Head) (content : List ℕ) : Type 0 where
   pub body : List ℕ
   pub seal : frame ≡ sealed key body
   pub head : IsHeadOf body h
   pub content_is : content ≡ drop 28 body
-  pub for_it : h.to ≡ node
+
+-- and what of this is for a node
+pub record Opens (key : List ℕ) (node : ℕ) (frame : List ℕ) (h : Head) (part : List ℕ) : Type 0 where
+  pub content : List ℕ
+  pub sealed_is : IsSealed key frame h content
+  pub part_is : IsPart h.kind node h.to content part

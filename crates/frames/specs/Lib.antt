@@ -1,10 +1,12 @@
 pub mod Frames
+pub mod Parts
 pub mod Rows
 pub mod Windows
 pub mod Taken
 pub mod Sendings
 pub mod Partials
 pub mod Outlets
+pub mod Gathered
 pub mod Longs
 pub mod Arrivals
 pub mod Carried

@@ -5,6 +5,9 @@ use Rattle.udp_net.specs.Logs.{Log}
 use Rattle.frames.specs.declared.opener.Opener.{Opener}
 use Rattle.frames.specs.declared.partial.Partial.{Partial}
 use Rattle.frames.specs.declared.head.Head.{Head}
+use Rattle.frames.specs.declared.head.Kind.{Kind}
+use Rattle.frames.specs.declared.head.Kind.TheVariants.{Packets, Piece, Several}
+use Rattle.frames.specs.declared.peers.Peer.{Peer}
 use Rattle.frames.specs.Frames.{Opens}
 use Rattle.frames.specs.Taken.{WasTaken}
 use Rattle.frames.specs.Arrivals.{Arrived, ArrivedPiece, GivenIn, PiecesCame}
@@ -39,10 +42,16 @@ Stands l key o = AreParts l key o.node o.partials × AllArrived l key o.node o.o
 abbrev pub OpensTo : List ℕ → List ℕ → Opener → Opener → Type 0
 OpensTo key frame old new = (l : Log) → GivenIn l frame → Stands l key old → Stands l key new
 
+-- the senders whose counters count for a frame of some kind: those for several nodes have counters of their own
+abbrev pub peers_for : Kind → Opener → List Peer
+peers_for Packets o = o.peers.peers.items
+peers_for Piece o = o.peers.peers.items
+peers_for Several o = o.several.peers.items
+
 -- a frame is opened whose counter was not taken before of its boot id, and is taken then
 pub record OpensOnce (key frame : List ℕ) (old new : Opener) : Type 0 where
   pub head : Head
-  pub content : List ℕ
-  pub opens : Opens key old.node frame head content
-  pub fresh : WasTaken head.boot head.counter old.peers.peers.items → ⊥
-  pub taken : WasTaken head.boot head.counter new.peers.peers.items
+  pub part : List ℕ
+  pub opens : Opens key old.node frame head part
+  pub fresh : WasTaken head.boot head.counter (peers_for head.kind old) → ⊥
+  pub taken : WasTaken head.boot head.counter (peers_for head.kind new)

@@ -51,6 +51,22 @@ pub(crate) fn shared_front(last: &[u8], packet: &[u8]) -> usize
     most
 }
 
+// Whether two texts are the same.
+pub(crate) fn is_same_text(one: &[u8], other: &[u8]) -> bool
+    ensures { result ≡ true → one.now ≡ other.now }
+{
+    if one.len() != other.len() {
+        return false;
+    }
+    let shared = shared_front(one, other);
+    if shared < MOST_SHARED {
+        return shared == one.len();
+    }
+    let (_, rest) = one.split_at(MOST_SHARED);
+    let (_, other_rest) = other.split_at(MOST_SHARED);
+    is_same_text(rest, other_rest)
+}
+
 // Appends a packet behind one with which it has so many bytes in common: how many these are, how many others it has, and these.
 pub(crate) fn put_packet(shared: usize, packet: &[u8], out: &mut Vec<u8>)
     requires most { shared ≤ 255 }

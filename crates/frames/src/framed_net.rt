@@ -1,13 +1,22 @@
-ghost use Rattle.std.specs.Prelude.{◌≡◌, ◌≤◌, ◌+◌, ℕ, List, length, min, IfOk, IfSome};
+ghost use Rattle.std.specs.Prelude.{◌≡◌, ◌≤◌, ◌<◌, ◌+◌, ◌^◌, ◌∷◌, ℕ, List, [], length, min, vec_len, vec_capacity, OnOk, IfOk, IfSome};
 ghost use Rattle.std.specs.List.{AllByRecursion};
 ghost use Rattle.frames.specs.Arrivals.{StandsIn};
-ghost use Rattle.frames.specs.Sendings.{Adds, AreSameWays, IsLongOn, KeepLongs, Sends, WaitOf};
+ghost use Rattle.frames.specs.Sendings.{Adds, AreSameWays, IsFrameOf, IsLongOn, KeepLongs, Sends, WaitOf};
 ghost use Rattle.frames.specs.Nets.{GivesArrived, Grows, HasFlushed, HasReceived, HasSent, IsAnswer, IsFresh, IsOver, IsSameNode};
-ghost use Rattle.udp_net.specs.Logs.{failures_after};
+ghost use Rattle.frames.specs.Carried.{Carries};
+ghost use Rattle.frames.specs.Frames.{packed};
+ghost use Rattle.frames.specs.Gathered.{Gathers, Takes, offering_each, several_frame as frame_of};
+ghost use Rattle.frames.specs.Parts.{rows_of};
+ghost use Rattle.frames.specs.declared.outlet.Seal.{Seal as SealValue};
+ghost use Rattle.udp_net.specs.Logs.{failures_after, offering, Lists};
 
+use crate::content::shared_front;
+use crate::head::put_head;
 use crate::opener::Opener;
 use crate::outlet::{Outlet, Seal};
-use crate::{BOOT, FRAME, OPENED};
+use crate::seal::seal;
+use crate::several::{Variant, put_several};
+use crate::{BOOT, CONTENT, FRAME, MOST_ROWS, OPENED, ROW};
 use address::Node;
 use hmac::Key;
 use std::alloc::{AllocError, Global};
@@ -24,6 +33,8 @@ pub struct FramedNet<N: Net> {
     inner: N,
     seal: Seal,
     outlets: Vec<Outlet>,
+    // How many frames for several nodes went.
+    several: u64,
     opener: Opener,
     buffer: Vec<u8>,
     refused: u64,
@@ -51,8 +62,142 @@ fn outlets_to(alloc: Global, nodes: &[NodePort]) -> Result<Vec<Outlet>, AllocErr
     Ok(outlets)
 }
 
+// Where a content first differs from one that is as long, among those that wait on some ways.
+fn place_in(content: &[u8], outlets: &[Outlet]) -> Option<usize>
+    ensures { IfSome result (λ place. place ≤ 255) }
+{
+    let Some((first, rest)) = outlets.split_first() else {
+        return None;
+    };
+    if first.content().len() == content.len() {
+        return Some(shared_front(content, first.content()));
+    }
+    place_in(content, rest)
+}
+
+// Takes what waits on a way, if that is as a content but for six bytes at a place.
+fn take_variant(content: &[u8], place: usize, outlet: &mut Outlet, variants: &mut Vec<Variant>)
+    ensures { Takes place content.now variants.old.items outlet.old variants.new.items outlet.new }
+{
+    let Some(variant) = outlet.variant(content, place) else {
+        return;
+    };
+    if variants.push(variant).is_ok() {
+        outlet.clear();
+    }
+}
+
+// Takes it from each of some ways.
+fn gather(content: &[u8], place: usize, outlets: &mut [Outlet], variants: &mut Vec<Variant>)
+    ensures { Gathers place content.now variants.old.items outlets.old variants.new.items outlets.new }
+{
+    let Some((first, rest)) = outlets.split_first_mut() else {
+        return;
+    };
+    take_variant(content, place, first, variants);
+    gather(content, place, rest, variants)
+}
+
+// Offers a frame to each of some nodes.
+fn send_each<N: Net>(net: &mut N, variants: &[Variant], frame: &[u8])
+    ensures lists { Lists (N.log net.old) (offering_each variants.now frame.now) (N.log net.new) }
+    ensures failed { N.failed net.new ≡ N.failed net.old }
+    ensures unsent { N.unsent net.old ≤ N.unsent net.new }
+    ensures grows { Grows (N.log net.old) (N.log net.new) }
+    ensures adds { (s : SealValue) (long : ℕ → ℕ → List ℕ) (sent : List (List ℕ)) → Carries s.key s.boot long (StandsIn sent) frame.now → Adds (IsFrameOf s long sent) (N.log net.old) (N.log net.new) }
+{
+    let Some((first, rest)) = variants.split_first() else {
+        return;
+    };
+    net.send(first.node, frame);
+    send_each(net, rest, frame)
+}
+
+// The frame of what waits on a way, for its node and for those that have a variant of it, in an empty vector.
+fn several_frame(
+    sealing: &Seal,
+    counter: u64,
+    outlet: &Outlet,
+    place: usize,
+    variants: &[Variant],
+    empty: Vec<u8>,
+) -> Vec<u8>
+    requires near { place ≤ 255 }
+    requires count { length variants.now ≤ 255 }
+    requires empty { empty.items ≡ [] }
+    requires room { 46 + length (rows_of variants.now) + length (packed outlet.now.waiting) ≤ vec_capacity empty }
+    ensures fits { outlet.now.node < 2 ^ 16 }
+    ensures is { result.items ≡ frame_of sealing.now counter place variants.now outlet.now }
+{
+    let mut frame = empty;
+    put_head(&outlet.head_of_several(sealing, counter), &mut frame);
+    put_several(place, variants, outlet.content(), &mut frame);
+    seal(&sealing.key, &mut frame);
+    frame
+}
+
+// Offers a frame of what waits on a way to its node and to those of some variants.
+fn send_several<N: Net>(net: &mut N, outlet: &mut Outlet, variants: &[Variant], frame: &[u8])
+    ensures lists { Lists (N.log net.old) (λ l. offering_each variants.now frame.now (offering outlet.old.node frame.now l)) (N.log net.new) }
+    ensures outlet { outlet.new ≡ record outlet.old { waiting = [] } }
+    ensures failed { N.failed net.new ≡ N.failed net.old }
+    ensures unsent { N.unsent net.old ≤ N.unsent net.new }
+    ensures grows { Grows (N.log net.old) (N.log net.new) }
+    ensures adds { (s : SealValue) (long : ℕ → ℕ → List ℕ) (sent : List (List ℕ)) → Carries s.key s.boot long (StandsIn sent) frame.now → Adds (IsFrameOf s long sent) (N.log net.old) (N.log net.new) }
+{
+    outlet.clear();
+    net.send(outlet.node(), frame);
+    send_each(net, variants, frame)
+}
+
+// Offers what waits on a way: also to nodes of others, if what waits there is the same but for six bytes.
+fn flush_first<N: Net>(
+    alloc: Global,
+    seal: &Seal,
+    counter: &mut u64,
+    net: &mut N,
+    first: &mut Outlet,
+    rest: &mut [Outlet],
+) -> Result<(), AllocError>
+    ensures failed { N.failed net.new ≡ N.failed net.old }
+    ensures unsent { N.unsent net.old ≤ N.unsent net.new }
+    ensures grows { Grows (N.log net.old) (N.log net.new) }
+    ensures sends { (long : ℕ → ℕ → List ℕ) (sent : List (List ℕ)) → WaitOf sent (first.old ∷ rest.old) → KeepLongs long (first.old ∷ rest.old)
+        → Sends seal.now long sent (N.log net.old) (N.log net.new) (first.new ∷ rest.new) }
+    ensures ways { AreSameWays (first.old ∷ rest.old) (first.new ∷ rest.new) }
+    ensures goes { OnOk result (first.new.waiting ≡ []) }
+{
+    let content = first.content();
+    if content.is_empty()
+        || rest.len() > MOST_ROWS
+        || content.len() + 2 + ROW * rest.len() > CONTENT
+    {
+        return first.flush(alloc, seal, net);
+    }
+    let Some(place) = place_in(content, rest) else {
+        return first.flush(alloc, seal, net);
+    };
+    let empty = Vec::with_capacity(alloc, FRAME)?;
+    let mut variants = Vec::new(alloc);
+    gather(content, place, rest, &mut variants);
+    let variants = variants.as_slice();
+    if variants.is_empty() {
+        return first.flush(alloc, seal, net);
+    }
+    let frame = several_frame(seal, *counter, first, place, variants, empty);
+    *counter = counter.saturating_add(1);
+    send_several(net, first, variants, frame.as_slice());
+    Ok(())
+}
+
 // Offers what waits on some ways; on how many of them memory was refused.
-fn flush_all<N: Net>(alloc: Global, seal: &Seal, net: &mut N, outlets: &mut [Outlet]) -> u64
+fn flush_all<N: Net>(
+    alloc: Global,
+    seal: &Seal,
+    counter: &mut u64,
+    net: &mut N,
+    outlets: &mut [Outlet],
+) -> u64
     ensures failed { N.failed net.new ≡ N.failed net.old }
     ensures unsent { N.unsent net.old ≤ N.unsent net.new }
     ensures grows { Grows (N.log net.old) (N.log net.new) }
@@ -62,8 +207,8 @@ fn flush_all<N: Net>(alloc: Global, seal: &Seal, net: &mut N, outlets: &mut [Out
     let Some((first, rest)) = outlets.split_first_mut() else {
         return 0;
     };
-    let lost = u64::from(first.flush(alloc, seal, net).is_err());
-    flush_all(alloc, seal, net, rest).saturating_add(lost)
+    let lost = u64::from(flush_first(alloc, seal, counter, net, first, rest).is_err());
+    flush_all(alloc, seal, counter, net, rest).saturating_add(lost)
 }
 
 // Sends a packet on the first way to a node, if there is one; on how many ways memory was refused.
@@ -111,6 +256,7 @@ impl<N: Net> FramedNet<N> {
                 boot: *boot,
             },
             outlets: outlets_to(alloc, nodes)?,
+            several: 0,
             opener: Opener::new(alloc, node),
             buffer: vec![in alloc; 0; FRAME + 1]?,
             refused: 0,
@@ -200,7 +346,13 @@ impl<N: Net> Net for FramedNet<N> {
         ensures sends { HasFlushed N.log self.old self.new }
     {
         let (seal, net) = (&self.seal, &mut self.inner);
-        let lost = flush_all(self.alloc, seal, net, self.outlets.as_mut_slice());
+        let lost = flush_all(
+            self.alloc,
+            seal,
+            &mut self.several,
+            net,
+            self.outlets.as_mut_slice(),
+        );
         self.lost = self.lost.saturating_add(lost);
     }
 

@@ -18,6 +18,8 @@ pub(crate) enum Kind {
     Packets,
     /// A piece of a packet.
     Piece,
+    /// Whole packets for several nodes.
+    Several,
 }
 
 /// What stands before a frame's content: what that is, for which node, and by which start of a process; how many frames that sent there before.
@@ -37,6 +39,7 @@ impl Kind {
         match self {
             Kind::Packets => 0,
             Kind::Piece => 1,
+            Kind::Several => 2,
         }
     }
 }
@@ -48,6 +51,7 @@ fn kind_of(number: u8) -> Option<Kind>
     match number {
         0 => Some(Kind::Packets),
         1 => Some(Kind::Piece),
+        2 => Some(Kind::Several),
         _ => None,
     }
 }

@@ -12,6 +12,7 @@ mod partial;
 mod peers;
 mod row;
 mod seal;
+mod several;
 mod window;
 
 pub use framed_net::FramedNet;
@@ -43,6 +44,15 @@ pub const MOST_SHARED: usize = 255;
 
 /// The most bytes of a packet that goes with others.
 pub const WHOLE: usize = CONTENT - 3;
+
+/// The bytes in which what one node is sent differs from what another one is, if both go in one frame: those of an address.
+pub const VARIED: usize = 6;
+
+/// The bytes of a row of a frame for several nodes: a node, and what it has in that place.
+pub const ROW: usize = 2 + VARIED;
+
+/// The most rows of a frame for several nodes.
+pub const MOST_ROWS: usize = 255;
 
 /// The bytes before those of a piece.
 pub const PIECE_HEAD: usize = 12;

@@ -1,22 +1,23 @@
 //! What is opened of the frames that come.
 
-ghost use Rattle.std.specs.Prelude.{◌≡◌, ◌≤◌, ℕ, List, length, true, IfOk, IfSome};
+ghost use Rattle.std.specs.Prelude.{◌≡◌, ◌≢◌, ◌≤◌, ℕ, List, length, true, IfOk, IfSome};
 ghost use Rattle.udp_net.specs.Logs.{Log};
 ghost use Rattle.frames.specs.Arrivals.{GivenIn};
-ghost use Rattle.frames.specs.Frames.{Opens};
+ghost use Rattle.frames.specs.Frames.{IsSealed, Opens};
 ghost use Rattle.frames.specs.Openers.{OpensOnce, OpensTo, Stands};
 ghost use Rattle.frames.specs.Rows.{Gives};
 ghost use Rattle.frames.specs.Taken.{StayTaken};
 ghost use Rattle.frames.specs.declared.head.Head.{Head as HeadValue};
-ghost use Rattle.frames.specs.declared.head.Kind.TheVariants.{Packets, Piece};
+ghost use Rattle.frames.specs.declared.head.Kind.TheVariants.{Piece, Several};
 
 use crate::BOOT;
 use crate::content::read_packets;
-use crate::head::Kind;
+use crate::head::{Head, Kind};
 use crate::partial::{Partials, piece_of};
 use crate::peers::Peers;
 use crate::row::Row;
 use crate::seal::open;
+use crate::several::part_of;
 use address::Node;
 use hmac::Key;
 use std::alloc::{AllocError, Global};
@@ -24,8 +25,11 @@ use std::alloc::{AllocError, Global};
 /// The frames that came for a node: who sent them, the long packets of which some pieces came, and the packets that were opened and not given yet.
 #[derive(Drop)]
 pub(crate) struct Opener {
+    alloc: Global,
     node: Node,
     peers: Peers,
+    // The same of frames for several nodes, which have counters of their own.
+    several: Peers,
     partials: Partials,
     opened: Row,
     // The last packet that was read of a content.
@@ -39,8 +43,10 @@ impl Opener {
         ensures node { result.node ≡ node }
     {
         Opener {
+            alloc,
             node,
             peers: Peers::new(alloc),
+            several: Peers::new(alloc),
             partials: Partials::new(alloc),
             opened: Row::new(alloc),
             last: Vec::new(alloc),
@@ -49,10 +55,11 @@ impl Opener {
 
     // Opens a content of packets; answers whether it is one.
     fn open_packets(&mut self, content: &[u8]) -> Result<bool, AllocError>
-        ensures stands { (l : Log) (key frame : List ℕ) (h : HeadValue) → GivenIn l frame → Opens key self.old.node frame h content.now → h.kind ≡ Packets
+        ensures stands { (l : Log) (key frame : List ℕ) (h : HeadValue) → GivenIn l frame → Opens key self.old.node frame h content.now → h.kind ≢ Piece
             → Stands l key self.old → Stands l key self.new }
         ensures node { self.new.node ≡ self.old.node }
         ensures peers { self.new.peers ≡ self.old.peers }
+        ensures several { self.new.several ≡ self.old.several }
     {
         self.opened.clear();
         self.last.clear();
@@ -71,6 +78,7 @@ impl Opener {
             → Stands l key self.old → Stands l key self.new }
         ensures node { self.new.node ≡ self.old.node }
         ensures peers { self.new.peers ≡ self.old.peers }
+        ensures several { self.new.several ≡ self.old.several }
     {
         let Some(piece) = piece_of(content) else {
             return Ok(false);
@@ -81,22 +89,60 @@ impl Opener {
         Ok(true)
     }
 
-    /// Opens a frame, and answers whether it is one of the group for this node that did not come before.
-    pub(crate) fn open(&mut self, key: &Key, frame: &[u8]) -> Result<bool, AllocError>
-        ensures stands { OpensTo key.now frame.now self.old self.new }
-        ensures once { IfOk result (λ good. good ≡ true → OpensOnce key.now frame.now self.old self.new) }
+    // Opens a frame for several nodes with this head and this content.
+    fn open_several(&mut self, head: &Head, content: &[u8]) -> Result<bool, AllocError>
+        requires { head.now.kind ≡ Several }
+        ensures stands { (key frame : List ℕ) → IsSealed key frame head.now content.now → OpensTo key frame self.old self.new }
+        ensures once { (key frame : List ℕ) → IsSealed key frame head.now content.now → IfOk result (λ good. good ≡ true → OpensOnce key frame self.old self.new) }
         ensures node { self.new.node ≡ self.old.node }
-        ensures stay { StayTaken self.old.peers.peers.items self.new.peers.peers.items }
+        ensures stay { StayTaken self.old.several.peers.items self.new.several.peers.items }
+        ensures peers { self.new.peers ≡ self.old.peers }
     {
-        let Some((head, content)) = open(key, self.node, frame) else {
+        let Some(part) = part_of(self.alloc, self.node, head.to, content)? else {
             return Ok(false);
         };
+        if !self.several.take(&head.boot, head.counter)? {
+            return Ok(false);
+        }
+        self.open_packets(part.as_slice())
+    }
+
+    // Opens a frame for one node with this head and this content.
+    fn open_one(&mut self, head: &Head, content: &[u8]) -> Result<bool, AllocError>
+        requires { head.now.kind ≢ Several }
+        ensures stands { (key frame : List ℕ) → IsSealed key frame head.now content.now → OpensTo key frame self.old self.new }
+        ensures once { (key frame : List ℕ) → IsSealed key frame head.now content.now → IfOk result (λ good. good ≡ true → OpensOnce key frame self.old self.new) }
+        ensures node { self.new.node ≡ self.old.node }
+        ensures stay { StayTaken self.old.peers.peers.items self.new.peers.peers.items }
+        ensures several { self.new.several ≡ self.old.several }
+    {
+        if head.to != self.node {
+            return Ok(false);
+        }
         if !self.peers.take(&head.boot, head.counter)? {
             return Ok(false);
         }
         match head.kind {
             Kind::Packets => self.open_packets(content),
             Kind::Piece => self.open_piece(&head.boot, content),
+            Kind::Several => unreachable!(),
+        }
+    }
+
+    /// Opens a frame, and answers whether it is one of the group for this node that did not come before.
+    pub(crate) fn open(&mut self, key: &Key, frame: &[u8]) -> Result<bool, AllocError>
+        ensures stands { OpensTo key.now frame.now self.old self.new }
+        ensures once { IfOk result (λ good. good ≡ true → OpensOnce key.now frame.now self.old self.new) }
+        ensures node { self.new.node ≡ self.old.node }
+        ensures stay { StayTaken self.old.peers.peers.items self.new.peers.peers.items × StayTaken self.old.several.peers.items self.new.several.peers.items }
+    {
+        let Some((head, content)) = open(key, frame) else {
+            return Ok(false);
+        };
+        if head.kind == Kind::Several {
+            self.open_several(&head, content)
+        } else {
+            self.open_one(&head, content)
         }
     }
 

@@ -1,15 +1,17 @@
 //! The packets for a node, until they go.
 
-ghost use Rattle.std.specs.Prelude.{◌≡◌, ◌≤◌, ◌<◌, ◌+◌, ◌-◌, ◌*◌, ◌++◌, ◌∷◌, ℕ, List, [], length, take, drop, min, vec_len, vec_capacity, true, OnOk, OnErr, IfOk};
+ghost use Rattle.std.specs.Prelude.{◌≡◌, ◌≤◌, ◌<◌, ◌+◌, ◌-◌, ◌*◌, ◌^◌, ◌++◌, ◌∷◌, ℕ, List, [], length, take, drop, min, vec_len, vec_capacity, true, OnOk, OnErr, IfOk, IfSome};
 ghost use Rattle.udp_net.specs.Logs.{Lists, offering};
-ghost use Rattle.frames.specs.Frames.{sealed, packed, head_bytes};
-ghost use Rattle.frames.specs.declared.head.Kind.TheVariants.{Packets, Piece as PieceKind};
+ghost use Rattle.frames.specs.Frames.{sealed, packed, head_bytes, IsShort};
+ghost use Rattle.frames.specs.declared.head.Kind.TheVariants.{Packets, Several, Piece as PieceKind};
 ghost use Rattle.frames.specs.Partials.{piece_bytes};
 ghost use Rattle.frames.specs.Arrivals.{StandsIn};
 ghost use Rattle.frames.specs.Carried.{count_of, offering_long, offering_pieces, piece_at as piece_of, piece_frame};
 ghost use Rattle.frames.specs.Nets.{Grows, IsFresh};
 ghost use Rattle.frames.specs.Sendings.{Adds, AreLongs, AreOf, IsFrameOf, IsLongAt};
 ghost use Rattle.frames.specs.Longs.{IsNumbered, number_for};
+ghost use Rattle.std.specs.List.{AllByRecursion};
+ghost use Rattle.frames.specs.Gathered.{IsVariant};
 ghost use Rattle.frames.specs.Outlets.{counter_behind, head_for, has_place, flushing, opening_for, waiting_after};
 
 use crate::content::{put_packet, shared_front};
@@ -18,6 +20,7 @@ use crate::longs::Longs;
 use crate::partial::put_piece;
 use crate::row::Row;
 use crate::seal::seal;
+use crate::several::{Variant, variant_of};
 use crate::{BOOT, CONTENT, FRAME, PIECE, WHOLE};
 use address::Node;
 use big_endian::put;
@@ -117,6 +120,20 @@ impl Outlet {
         }
     }
 
+    // The head of a frame for several nodes, of which this one is the first.
+    pub(crate) fn head_of_several(&self, seal: &Seal, counter: u64) -> Head
+        ensures is { result ≡ record { kind = Several; to = self.now.node; boot = seal.now.boot; counter = counter } }
+        ensures to { result.to < 2 ^ 16 }
+    {
+        let _node = self.node.number();
+        Head {
+            kind: Kind::Several,
+            to: self.node,
+            boot: seal.boot,
+            counter,
+        }
+    }
+
     // Seals a frame's body and offers it.
     fn offer<N: Net>(&mut self, sealing: &Seal, net: &mut N, body: Vec<u8>)
         requires { vec_len body + 16 ≤ vec_capacity body }
@@ -167,11 +184,40 @@ impl Outlet {
         if self.waiting.is_empty() {
             return Ok(());
         }
+        let _node = self.node.number();
         let body = self.body(alloc, seal)?;
         self.waiting.clear();
         self.content.clear();
         self.offer(seal, net, body);
         Ok(())
+    }
+
+    // What those that wait are in a frame.
+    pub(crate) fn content(&self) -> &[u8]
+        ensures is { result.now ≡ packed self.now.waiting }
+        ensures short { AllByRecursion IsShort self.now.waiting }
+        ensures most { length result.now ≤ 1356 }
+    {
+        self.content.as_slice()
+    }
+
+    // None waits any more.
+    pub(crate) fn clear(&mut self)
+        ensures { self.new ≡ record self.old { waiting = [] } }
+    {
+        self.waiting.clear();
+        self.content.clear();
+    }
+
+    // What is in place of the six bytes that a content has at a place, if what waits is the same but for these.
+    pub(crate) fn variant(&self, content: &[u8], place: usize) -> Option<Variant>
+        ensures { IfSome result (IsVariant place content.now self.now) }
+    {
+        let bytes = variant_of(content, self.content.as_slice(), place)?;
+        Some(Variant {
+            node: self.node,
+            bytes,
+        })
     }
 
     // Whether a packet has a place in the next frame, beside those that wait.

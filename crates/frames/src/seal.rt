@@ -1,11 +1,10 @@
 //! Frames sealed and opened.
 
 ghost use Rattle.std.specs.Prelude.{◌≡◌, ◌≤◌, ◌++◌, ◌+◌, length, vec_len, vec_capacity, IfSome};
-ghost use Rattle.frames.specs.Frames.{sealed, IsHeadOf, Opens};
+ghost use Rattle.frames.specs.Frames.{sealed, IsHeadOf, IsSealed};
 
 use crate::TAG;
 use crate::head::{Head, head_of};
-use address::Node;
 use big_endian::put;
 use hmac::Key;
 
@@ -32,14 +31,11 @@ fn body_of<'a>(key: &Key, frame: &'a [u8]) -> Option<&'a [u8]>
     Some(body)
 }
 
-// The head and the content of a frame for a node, where its tag is right.
-pub(crate) fn open<'a>(key: &Key, node: Node, frame: &'a [u8]) -> Option<(Head, &'a [u8])>
-    ensures { IfSome result (λ x. Opens key.now node frame.now x.0 x.1.now) }
+// The head of a frame whose tag is right, and its content.
+pub(crate) fn open<'a>(key: &Key, frame: &'a [u8]) -> Option<(Head, &'a [u8])>
+    ensures { IfSome result (λ x. IsSealed key.now frame.now x.0 x.1.now) }
 {
     let body = body_of(key, frame)?;
     let head = head_of(body)?;
-    if head.to != node {
-        return None;
-    }
     Some((head, &body[28..]))
 }

@@ -10,7 +10,7 @@ use Rattle.udp_net.specs.declared.net.Received.TheVariants as received
 use Rattle.udp_net.specs.Logs.{Log, NetEvent, Answered, Offered}
 use Rattle.frames.specs.declared.outlet.Seal.{Seal}
 use Rattle.frames.specs.Arrivals.{Arrived, ArrivedPiece, GivenIn, PiecesCame, StandsIn}
-use Rattle.frames.specs.Carried.{Carries}
+use Rattle.frames.specs.Carried.{ArePacked, Carries}
 use Rattle.frames.specs.Lives.{Side, Above as SideAbove, Below as SideBelow, CameBefore, CarriesSent, IsOfFrames, below, below_of, packet_of, packets_in}
 use Rattle.law_runners.specs.Items.{OfNet, OfMember}
 use Rattle.law_sealed_runners.specs.Sealed.{Acted, Deed, Above, Below, HasDone, side_in, side_of, sides}
@@ -37,16 +37,19 @@ all-as : (A : Type 0) (One Other : A → Type 0) → ((x : A) → One x → Othe
 all-as A One Other also [] all = tt
 all-as A One Other also (x ∷ xs) all = (also x all.0, all-as A One Other also xs all.1)
 
+packed-as : (One Other : List ℕ → Type 0) → ((p : List ℕ) → One p → Other p) → (content : List ℕ) → ArePacked One content → ArePacked Other content
+packed-as One Other also content x = record { packets = x.packets; content_is = x.content_is; short = x.short; sent = all-as (List ℕ) One Other also x.packets x.sent }
+
 pub carries-as : (key boot : List ℕ) (long : ℕ → ℕ → List ℕ) (One Other : List ℕ → Type 0) (frame : List ℕ) → ((p : List ℕ) → One p → Other p) → Carries key boot long One frame
     → Carries key boot long Other frame
 carries-as key boot long One Other frame also (inl w) = inl (record {
   head = w.head;
-  packets = w.packets;
+  content = w.content;
   frame_is = w.frame_is;
   kind = w.kind;
   boot_is = w.boot_is;
-  short = w.short;
-  sent = all-as (List ℕ) One Other also w.packets w.sent;
+  to_fits = w.to_fits;
+  parts = λ node part is. packed-as One Other also part (w.parts node part is);
 })
 carries-as key boot long One Other frame also (inr w) = inr (record {
   head = w.head;

@@ -67,10 +67,11 @@ module _ {S : Type 0} (group key : List ℕ) (boots : Address → List ℕ) (lon
       → Carries key (boots q) (longs q) (Sent (take place all) q) x.frame → IsSent place packet
   whole-by place p packet x q (inl w) =
       let reads = whole-reads key (boots q) p.node (Sent (take place all) q) x.frame x.head x.content (s.nets q).boot_long x.opens w in
-      let same : x.packets ≡ w.packets = packed_once x.packets w.packets x.short w.short (sym x.packed_is ∙ reads.content_is) in
-      (q, all-at (List ℕ) (Sent (take place all) q) w.packets x.among.0 packet (ap (λ (ps : List (List ℕ)). slice_get ps x.among.0) (sym same) ∙ x.among.1) w.sent)
+      let put = reads.packed in
+      let same : x.packets ≡ put.packets = packed_once x.packets put.packets x.short put.short (sym x.packed_is ∙ put.content_is) in
+      (q, all-at (List ℕ) (Sent (take place all) q) put.packets x.among.0 packet (ap (λ (ps : List (List ℕ)). slice_get ps x.among.0) (sym same) ∙ x.among.1) put.sent)
   whole-by place p packet x q (inr w) =
-      absurd (no-piece x.head.kind x.kind (piece-kind key (boots q) p.node (Sent (take place all) q) x.frame x.head x.content (s.nets q).boot_long x.opens (longs q) w))
+      absurd (x.kind (piece-kind key (boots q) p.node (Sent (take place all) q) x.frame x.head x.content (s.nets q).boot_long x.opens (longs q) w))
 
   -- ---- pieces
 

@@ -1,16 +1,23 @@
-use Rattle.std.proofs.Common.{subst, List}
+use Rattle.std.proofs.Common.{◌∷◌, subst, sym, List}
 use Rattle.frames.specs.Outlets.{OutletModel}
-use Rattle.frames.specs.Sendings.{IsFrameOf, KeepLongs, WaitOf}
-use Rattle.frames.proofs.SendsCarried.{adds-on, longs-on}
+use Rattle.frames.specs.Sendings.{AreSameWays, IsFrameOf, KeepLongs, WaitOf}
+use Rattle.frames.proofs.GatheredSends.{ways-on}
+use Rattle.frames.proofs.SendsCarried.{adds-on}
 use Rattle.frames.proofs.framed_net.+flush_all.Goals as goal
 
 pub returns-clause-sends : goal.returns-clause-sends
 returns-clause-sends g t c = λ long sent of known.
     let both = subst (λ (xs : List OutletModel). WaitOf sent xs) c.in-Some.ensures.cases.0 of in
     let longs = subst (λ (xs : List OutletModel). KeepLongs long xs) c.in-Some.ensures.cases.0 known in
-    let one = c.flush.ensures.sends long sent both.0 in
-    let others = c.flush_all.ensures.sends long sent both.1 longs.1 in (
-      adds-on (IsFrameOf c.args.seal.now long sent) (g.N.Net.log c.args.net.now) (g.N.Net.log c.flush.new.net) (g.N.Net.log c.flush_all.new.net) one.0 others.0,
-      (one.1, others.1),
-      (longs-on long c.in-Some.first.now c.flush.new.self c.flush.ensures.node c.flush.ensures.longs longs.0, others.2),
+    let one = c.flush_first.ensures.sends long sent both longs in
+    let others = c.flush_all.ensures.sends long sent one.1.1 one.2.1 in (
+      adds-on (IsFrameOf c.args.seal.now long sent) (g.N.Net.log c.args.net.now) (g.N.Net.log c.flush_first.new.net) (g.N.Net.log c.flush_all.new.net) one.0 others.0,
+      (one.1.0, others.1),
+      (one.2.0, others.2),
     )
+
+pub returns-clause-ways : goal.returns-clause-ways
+returns-clause-ways g t c =
+    let one = c.flush_first.ensures.ways in
+    subst (λ (xs : List OutletModel). AreSameWays xs (c.flush_first.new.first ∷ c.flush_all.new.outlets)) (sym c.in-Some.ensures.cases.0)
+    (one.0, one.1, ways-on c.in-Some.rest.now c.flush_first.new.rest c.flush_all.new.outlets one.2 c.flush_all.ensures.ways)

@@ -1,4 +1,4 @@
-use Rattle.std.proofs.Common.{◌≡◌, ◌++◌, ◌∙◌, ap, subst, sym}
+use Rattle.std.proofs.Common.{◌≡◌, ◌++◌, ◌∙◌, ap, arith, subst, sym}
 use Rattle.frames.specs.Frames.{head_bytes, packed}
 use Rattle.frames.specs.declared.head.Kind.TheVariants.{Packets}
 use Rattle.frames.specs.Outlets.{OutletModel, head_for}
@@ -12,7 +12,7 @@ returns-clause-sends g c = λ long sent of.
     let is : o ≡ c.args.self.now = c.self.view_is in (
       flush-adds c.args.seal.now long sent o (g.N.Net.log c.args.net.now) (g.N.Net.log c.offer.new.net) c.in_ok-body.body.items
           (subst (λ (x : OutletModel). c.in_ok-body.body.items ≡ head_bytes (head_for Packets x c.args.seal.now) ++ packed x.waiting) (sym is) c.in_ok-body.ensures.items)
-          c.self.invariant.0 (subst (λ (x : OutletModel). AreOf sent x.waiting) (sym is) of) c.offer.ensures.lists,
+          (omega (arith, c.number-node.ensures.value, c.number-node.type_inv)) c.self.invariant.0 (subst (λ (x : OutletModel). AreOf sent x.waiting) (sym is) of) c.offer.ensures.lists,
       subst (AreOf sent) (sym (c.offer.ensures.waiting ∙ c.clear.ensures)) tt,
     )
 

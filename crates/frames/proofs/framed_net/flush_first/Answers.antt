@@ -1,0 +1,107 @@
+use Rattle.std.proofs.Common.{◌≤◌, ◌∙◌, ap, arith, length, refl, subst, sym, ℕ, List}
+use Rattle.frames.specs.declared.longs.Longs.{Longs}
+use Rattle.frames.specs.declared.several.Variant.{Variant}
+use Rattle.frames.specs.Arrivals.{StandsIn}
+use Rattle.frames.specs.Carried.{Carries}
+use Rattle.frames.specs.Frames.{packed}
+use Rattle.frames.specs.Gathered.{AreVariantsOf}
+use Rattle.frames.specs.Outlets.{OutletModel}
+use Rattle.frames.specs.Parts.{rows_of}
+use Rattle.frames.specs.Sendings.{AreLongs, AreOf}
+use Rattle.frames.proofs.GatheredSends.{first-count, first-rows, first-variants, longs-gathered, several-carries, wait-gathered, ways-gathered}
+use Rattle.frames.proofs.SendsCarried.{longs-on, same-ways}
+use Rattle.frames.proofs.framed_net.flush_first.Goals as goal
+
+pub returns-then-is_empty-clause-sends : goal.returns-then-is_empty-clause-sends
+returns-then-is_empty-clause-sends g c = λ long sent of known.
+    let s = c.flush.ensures.sends long sent of.0 in
+    (s.0, (s.1, of.1), (longs-on long c.args.first.now c.flush.new.self c.flush.ensures.node c.flush.ensures.longs known.0, known.1))
+
+pub returns-then-is_empty-clause-ways : goal.returns-then-is_empty-clause-ways
+returns-then-is_empty-clause-ways g c = (c.flush.ensures.node, omega (arith, ap (λ (l : Longs). l.next) c.flush.ensures.longs), same-ways c.args.rest.now)
+
+pub returns-in_default-clause-sends : goal.returns-in_default-clause-sends
+returns-in_default-clause-sends g c = λ long sent of known.
+    let f = c.flush-in_default in
+    let s = f.ensures.sends long sent of.0 in
+    (s.0, (s.1, of.1), (longs-on long c.args.first.now f.new.self f.ensures.node f.ensures.longs known.0, known.1))
+
+pub returns-in_default-clause-ways : goal.returns-in_default-clause-ways
+returns-in_default-clause-ways g c =
+    (c.flush-in_default.ensures.node, omega (arith, ap (λ (l : Longs). l.next) c.flush-in_default.ensures.longs), same-ways c.args.rest.now)
+
+pub returns-in_err-empty-clause-ways : goal.returns-in_err-empty-clause-ways
+returns-in_err-empty-clause-ways g c = (refl, omega arith, same-ways c.args.rest.now)
+
+pub returns-then-is_empty-2-clause-sends : goal.returns-then-is_empty-2-clause-sends
+returns-then-is_empty-2-clause-sends g c = λ long sent of known.
+    let f = c.flush-then-is_empty-2 in
+    let s = f.ensures.sends long sent of.0 in (
+      s.0,
+      (s.1, wait-gathered _ _ sent _ c.args.rest.now _ c.gather.new.outlets c.gather.ensures of.1),
+      (
+        longs-on long c.args.first.now f.new.self f.ensures.node f.ensures.longs known.0,
+        longs-gathered _ _ long _ c.args.rest.now _ c.gather.new.outlets c.gather.ensures known.1,
+      ),
+    )
+
+pub returns-then-is_empty-2-clause-ways : goal.returns-then-is_empty-2-clause-ways
+returns-then-is_empty-2-clause-ways g c =
+    let f = c.flush-then-is_empty-2 in
+    (f.ensures.node, omega (arith, ap (λ (l : Longs). l.next) f.ensures.longs), ways-gathered _ _ _ c.args.rest.now _ c.gather.new.outlets c.gather.ensures)
+
+pub several_frame-frame-requires-clause-count : goal.several_frame-frame-requires-clause-count
+several_frame-frame-requires-clause-count g c =
+    omega (
+      arith,
+      first-count c.in-Some.place c.content-content.result.now c.new-variants.result.items c.args.rest.now c.gather.new.variants.items c.gather.new.outlets c.new-variants.ensures.items
+          c.gather.ensures,
+      ap length c.as_slice-variants.ensures.value,
+      c.if-rest-gt-MOST_ROWS.false,
+    )
+
+pub several_frame-frame-requires-clause-room : goal.several_frame-frame-requires-clause-room
+several_frame-frame-requires-clause-room g c =
+    omega (
+      arith,
+      first-rows c.in-Some.place c.content-content.result.now c.new-variants.result.items c.args.rest.now c.gather.new.variants.items c.gather.new.outlets c.new-variants.ensures.items
+          c.gather.ensures,
+      ap (λ (vs : List Variant). length (rows_of vs)) c.as_slice-variants.ensures.value,
+      ap length c.content-content.ensures.is,
+      c.if-content-rest-gt-CONTENT.false,
+      c.in_ok-empty.ensures.capacity,
+    )
+
+pub returns-clause-sends : goal.returns-clause-sends
+returns-clause-sends g c = λ long sent of known.
+    let place = c.in-Some.place in
+    let first = c.args.first.now in
+    let rest = c.args.rest.now in
+    let new = c.gather.new.outlets in
+    let content = c.content-content.result.now in
+    let taken = c.gather.new.variants.items in
+    let variants = c.as_slice-variants.result.now in
+    let gathered : AreVariantsOf sent place content taken = first-variants place content sent c.new-variants.result.items rest taken new c.new-variants.ensures.items c.gather.ensures of.1 in
+    let good : AreVariantsOf sent place (packed first.waiting) variants =
+    subst (AreVariantsOf sent place (packed first.waiting)) (sym c.as_slice-variants.ensures.value) (subst (λ (l : List ℕ). AreVariantsOf sent place l taken) c.content-content.ensures.is gathered) in
+    let count : length variants ≤ 255 =
+    omega (
+      arith,
+      first-count place content c.new-variants.result.items rest taken new c.new-variants.ensures.items c.gather.ensures,
+      ap length c.as_slice-variants.ensures.value,
+      c.if-rest-gt-MOST_ROWS.false,
+    ) in
+    let carries : Carries c.args.seal.now.key c.args.seal.now.boot long (StandsIn sent) c.as_slice.result.now =
+    subst (Carries c.args.seal.now.key c.args.seal.now.boot long (StandsIn sent)) (sym (c.as_slice.ensures.value ∙ c.several_frame-frame.ensures.is))
+    (several-carries c.args.seal.now long sent c.args.counter.now place variants first c.several_frame-frame.ensures.fits c.in-Some.ensures count c.content-content.ensures.short of.0 good) in (
+      c.send_several.ensures.adds c.args.seal.now long sent carries,
+      (subst (λ (x : OutletModel). AreOf sent x.waiting) (sym c.send_several.ensures.outlet) tt, wait-gathered place content sent _ rest taken new c.gather.ensures of.1),
+      (subst (AreLongs long) (sym c.send_several.ensures.outlet) known.0, longs-gathered place content long _ rest taken new c.gather.ensures known.1),
+    )
+
+pub returns-clause-ways : goal.returns-clause-ways
+returns-clause-ways g c = (
+  ap (λ (x : OutletModel). x.node) c.send_several.ensures.outlet,
+  omega (arith, ap (λ (x : OutletModel). x.longs.next) c.send_several.ensures.outlet),
+  ways-gathered c.in-Some.place c.content-content.result.now _ c.args.rest.now c.gather.new.variants.items c.gather.new.outlets c.gather.ensures,
+)
