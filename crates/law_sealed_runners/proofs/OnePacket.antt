@@ -17,7 +17,7 @@ use Rattle.frames.specs.Partials.{PieceModel}
 use Rattle.frames.specs.declared.outlet.Seal.{Seal}
 use Rattle.frames.specs.Lives.{LivesAreOfFrames}
 use Rattle.frames.proofs.ReadAsPut.{packed_once}
-use Rattle.frames.proofs.ReadAsCarried.{AreCut, no-piece, pieces-join, whole-reads, piece-reads, piece-kind}
+use Rattle.frames.proofs.ReadAsCarried.{AreCut, pieces-join, whole-reads, piece-reads, piece-kind}
 use Rattle.law_processes.specs.Deployments.{MayCome, WasPutOut, is_of}
 use Rattle.law_runners.specs.Items.{net_events}
 use Rattle.law_runners.specs.Merged.{IsCarried, RunnersAreSynchronous, all_offered, items_of}
@@ -86,7 +86,7 @@ module _ {S : Type 0} (group key : List ℕ) (boots : Address → List ℕ) (lon
       (x : ArrivedPiece (Gave (take place all) p) key p.node boot number count index bytes) (q : Address) → Carries key (boots q) (longs q) (Sent (take place all) q) x.frame
       → IsPieceOf place p boot number count index bytes
   piece-by place p boot number count index bytes x q (inl w) =
-      absurd (no-piece x.head.kind (whole-reads key (boots q) p.node (Sent (take place all) q) x.frame x.head x.content (s.nets q).boot_long x.opens w).kind x.kind)
+      absurd ((whole-reads key (boots q) p.node (Sent (take place all) q) x.frame x.head x.content (s.nets q).boot_long x.opens w).kind x.kind)
   piece-by place p boot number count index bytes x q (inr w) =
       let read : PieceModel = record { number = number; index = index; count = count; bytes = bytes } in
       let reads = piece-reads key (boots q) p.node (Sent (take place all) q) x.frame x.head x.content (s.nets q).boot_long x.opens (longs q) w read x.piece in
@@ -95,7 +95,7 @@ module _ {S : Type 0} (group key : List ℕ) (boots : Address → List ℕ) (lon
   piece-is : (place : ℕ) (p : Address) (boot : List ℕ) (number count index : ℕ) (bytes : List ℕ)
       → ArrivedPiece (Gave (take place all) p) key p.node boot number count index bytes → IsPieceOf place p boot number count index bytes
   piece-is place p boot number count index bytes x =
-      let o = origin place p x.frame x.opens.body x.given x.opens.seal in
+      let o = origin place p x.frame x.opens.sealed_is.body x.given x.opens.sealed_is.seal in
       piece-by place p boot number count index bytes x o.by o.carries
 
   -- pieces of one boot id and one number are of one packet
@@ -122,7 +122,7 @@ module _ {S : Type 0} (group key : List ℕ) (boots : Address → List ℕ) (lon
 
   was-sent : (place : ℕ) (p : Address) (packet : List ℕ) → Arrived (Gave (take place all) p) key p.node packet → (packet ≡ []) ⊎ IsSent place packet
   was-sent place p packet (inl x) =
-      let o = origin place p x.frame x.opens.body x.given x.opens.seal in
+      let o = origin place p x.frame x.opens.sealed_is.body x.given x.opens.sealed_is.seal in
       inr (whole-by place p packet x o.by o.carries)
   was-sent place p packet (inr x) = in-pieces place p packet x.boot x.number x.pieces x.came x.whole x.joined_is
 
