@@ -4,7 +4,7 @@ use lock_service::{
     standing_of,
 };
 use std::alloc::{AllocError, Global};
-use tickets::{Waiting, take_ticket};
+use followed_events::{Waiting, take_ticket};
 
 // By hand from the tables of docs/FORMATS.md, in the view 1@1.1: acquire `a`, release `a`.
 const ACQUIRE_A: &[u8] = b"\x01\0\0\0\0\0\0\0\x01\0\x01\0\0\0\x01\x01a";

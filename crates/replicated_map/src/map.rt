@@ -10,6 +10,7 @@ use crate::changing::{has_room, put_at, size_with};
 use crate::entries::found_at;
 use crate::{Command, Held, ValueBytes, Version};
 use address::{Address, ViewId};
+use followed_events::Replica;
 use keyed_entries::{Entry, KeyBytes, Place, find};
 use keyed_state::{contents_of, put_state, size_of_all};
 use state_transfer::Receiver;
@@ -278,5 +279,16 @@ impl Receiver for ReplicatedMap {
                 Ok(true)
             }
         }
+    }
+}
+
+impl Replica for ReplicatedMap {
+    fn apply(&mut self, from: Address, payload: &[u8]) -> Result<(), AllocError> {
+        self.receive(from, payload)
+    }
+
+    fn restore(&mut self, state: &[u8]) -> Result<(), AllocError> {
+        self.set_state(state)?;
+        Ok(())
     }
 }
