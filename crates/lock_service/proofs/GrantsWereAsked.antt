@@ -1,6 +1,6 @@
 -- The service follows its member; who is told that a lock is granted asked for it, and the member holds it then.
 use Rattle.std.proofs.Common.{◌≡◌, ◌⊎◌, inl, inr, ℕ, suc, true, List, [], ◌∷◌, ◌++◌, map, take, Option, None, Some, fold, refl, sym, ap, subst, ◌∙◌, append_assoc}
-use Rattle.std.specs.List.{Contains, slice_get, flat_map}
+use Rattle.std.specs.List.{Contains, flat_map}
 use Rattle.std.proofs.lemmas.List.{append-nil}
 use Rattle.std.proofs.lemmas.List.Elements.{Contains-append_cases, Contains-append_left, Contains-append_right, Contains-push, Contains-push_cases}
 use Rattle.address.specs.Ids.{Address, ViewId, same_address}
@@ -26,10 +26,10 @@ use Rattle.lock_service.specs.declared.standing.Standing.TheVariants.{Holds, Wai
 use Rattle.lock_service.specs.declared.answer.Answer.{Answer}
 use Rattle.lock_service.specs.declared.answer.Queued.{Queued}
 use Rattle.lock_service.specs.declared.answer.Fate.{Fate}
-use Rattle.lock_service.specs.declared.answer.Fate.TheVariants.{Granted, Full, Gone, Released, NotHeld, NoRequest, HandedBack}
+use Rattle.lock_service.specs.declared.answer.Fate.TheVariants.{Granted, HandedBack}
 use Rattle.lock_service.specs.Standings.{standing}
 use Rattle.lock_service.specs.Keeping.{Keeping, heard, delivered, installed, applied, late, answer_of, told_of, told, late_fate, first_verdict, release_fate, early, verdict, own_answers, back, table_in}
-use Rattle.lock_service.specs.Answers.{heard_all, answers_by, answers_to, AsksFor, IsGrantedAt, GrantsAreTrue}
+use Rattle.lock_service.specs.Answers.{heard_all, answers_by, answers_to, AsksFor, GrantsAreTrue}
 
 -- ---- what is told
 

@@ -8,7 +8,6 @@ use Rattle.trace_props.specs.declared.event.Event.{Event}
 use Rattle.trace_props.specs.declared.event.Event.TheVariants.{Delivered, Installed}
 use Rattle.trace_props.specs.declared.event.Delivery.{Delivery}
 use Rattle.trace_props.specs.declared.event.Install.{Install}
-use Rattle.trace_props.specs.State.{state_after}
 use Rattle.replicated_map.specs.Entries.{MapState}
 use Rattle.replicated_map.specs.Meanings.{map_meaning}
 use Rattle.replicated_map.specs.Outcomes.{outcome_at}
@@ -95,8 +94,8 @@ true-answers s t a c = let g = given heard answers_by s t a c in at g.0 g.1 g.2 
   at k h =
       let u = heard_all s (take k t) in
       by-own (λ h (l m : List Answer). slice_get t k ≡ Some h → Contains l a → IsTrueAnswer s t a) u.followed.own (given_by u) (λ i. map back u.followed.waiting) []
-          (given_by u) (λ i. map back u.followed.waiting) []
-          (λ d here e c. inl (k, d, true-delivery s t k d a e here c)) (λ i here e c. inr (k, i, true-install s t k i a e here c)) (λ h e c. absurd (nothing-stands a c)) h
+      (given_by u) (λ i. map back u.followed.waiting) []
+      (λ d here e c. inl (k, d, true-delivery s t k d a e here c)) (λ i here e c. inr (k, i, true-install s t k i a e here c)) (λ h e c. absurd (nothing-stands a c)) h
 
 own-answer : (u : Serving) (d : Delivery) (ticket : ℕ) → same_address d.member u.followed.own ≡ true → same_address d.message.sender u.followed.own ≡ true
     → ticket_of d.message.number u.followed.waiting ≡ Some ticket → Contains (answers_by u (Delivered d)) (answer_of ticket (fate_of d u))
