@@ -8,7 +8,7 @@ use crate::held::Held;
 use crate::{Command, Lock, Token};
 use address::{Address, ViewId};
 use followed_events::Replica;
-use keyed_entries::{Entry, Place, find};
+use keyed_entries::{KeyedEntry, Place, find};
 use keyed_state::{contents_of, put_state, size_of_all};
 use limits::GREATEST_NUMBER;
 use state_transfer::Receiver;
@@ -74,7 +74,7 @@ impl LockTable {
     }
 
     // The locks that are held, their names rising.
-    pub(crate) fn entries(&self) -> &[Entry<Lock>]
+    pub(crate) fn entries(&self) -> &[KeyedEntry<Lock>]
         ensures { result.now ≡ self.now.entries }
     {
         self.held.entries.as_slice()

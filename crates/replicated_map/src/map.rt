@@ -11,7 +11,7 @@ use crate::entries::found_at;
 use crate::{Command, Held, ValueBytes, Version};
 use address::{Address, ViewId};
 use followed_events::Replica;
-use keyed_entries::{Entry, KeyBytes, Place, find};
+use keyed_entries::{KeyBytes, KeyedEntry, Place, find};
 use keyed_state::{contents_of, put_state, size_of_all};
 use state_transfer::Receiver;
 use std::alloc::{AllocError, Global};
@@ -24,7 +24,7 @@ use view::View;
 #[derive(Debug, Drop)]
 pub struct ReplicatedMap {
     last: Token,
-    entries: Vec<Entry<Held>>,
+    entries: Vec<KeyedEntry<Held>>,
     // In how many bytes the state is encoded.
     size: usize,
 }
@@ -107,7 +107,7 @@ impl ReplicatedMap {
     }
 
     // Its entries, their keys rising.
-    pub(crate) fn entries(&self) -> &[Entry<Held>]
+    pub(crate) fn entries(&self) -> &[KeyedEntry<Held>]
         ensures entries { result.now ≡ self.now.entries }
         ensures rise { Rises result.now }
     {
