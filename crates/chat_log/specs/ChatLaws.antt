@@ -1,8 +1,7 @@
 -- The laws of the chat as a receiver, and of its encoding.
-use Rattle.std.proofs.Common.{◌≡◌, ℕ, zero, suc, ◌+◌, ◌-◌, ◌*◌, ◌≤◌, cond, eqb, List, [], ◌∷◌, ◌++◌, length, drop, Some, None, refl, sym, ap, subst, inl, inr, ◌∙◌, append_assoc, arith}
+use Rattle.std.proofs.Common.{◌≡◌, ℕ, zero, suc, ◌+◌, ◌-◌, ◌*◌, ◌≤◌, List, [], ◌∷◌, ◌++◌, length, drop, Some, refl, sym, ap, subst, inl, inr, ◌∙◌, append_assoc, arith}
 use Rattle.std.specs.List.{flat_map, AllByRecursion}
-use Rattle.std.proofs.lemmas.Bool.{eqb-true}
-use Rattle.std.proofs.lemmas.List.{append-nil, nil_from_length, length-append, length-drop}
+use Rattle.std.proofs.lemmas.List.{length-append, length-drop}
 use Rattle.byteorder.specs.Endian.{big_bytes}
 use Rattle.byteorder.specs.Numbers.{length-bytes_high_first}
 use Rattle.address.specs.Ids.{Address, IsAddress}
@@ -15,7 +14,6 @@ use Rattle.chat_log.specs.Encoding.{payload_bytes, address_bytes, line_bytes, li
 use Rattle.big_endian.proofs.Bytes.{IsWide, wide1, wide2}
 use Rattle.reading.specs.PartLaws.{bind_some, joined, IsPart, IsWithin, number_part, list_takes, list_again, to_end_takes, to_end_again}
 use Rattle.chat_log.specs.LineLaws.{line_part}
-use Rattle.std.proofs.lemmas.Option.{cond_some}
 
 -- ---- a message leaves a chat a chat
 

@@ -1,5 +1,5 @@
 -- What a line of the chat is read from is its spelling, and its spelling is read as it, whatever follows.
-use Rattle.std.proofs.Common.{◌≡◌, ℕ, ◌≤◌, List, ◌++◌, length, Some, refl, sym, ap, subst, ◌∙◌, append_assoc, arith}
+use Rattle.std.proofs.Common.{◌≡◌, ℕ, ◌≤◌, List, ◌++◌, length, Some, refl, ap, subst, ◌∙◌, append_assoc, arith}
 use Rattle.limits.specs.declared.TheConstants.{PAYLOAD}
 use Rattle.reading.specs.Reading.{◌>>=◌, address_at}
 use Rattle.reading.specs.PartLaws.{bind_some, some_is, joined, IsPart, sized_part, address_takes, address_again}

@@ -1,4 +1,6 @@
-use keyed_entries::{KeyedEntry, KeyBytes, is_rising, key_field, key_from, last_key, look_ups, put_key};
+use keyed_entries::{
+    KeyBytes, KeyedEntry, is_rising, key_field, key_from, last_key, look_ups, put_key,
+};
 use owned_bytes::Bytes;
 use reading::Reader;
 use std::alloc::{AllocError, Global};
