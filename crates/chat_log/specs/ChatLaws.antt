@@ -1,8 +1,7 @@
 -- The laws of the chat as a receiver, and of its encoding.
-use Rattle.std.proofs.Common.{◌≡◌, ℕ, zero, suc, ◌+◌, ◌-◌, ◌*◌, ◌≤◌, cond, eqb, List, [], ◌∷◌, ◌++◌, length, drop, Some, None, refl, sym, ap, subst, inl, inr, ◌∙◌, append_assoc, arith}
+use Rattle.std.proofs.Common.{◌≡◌, ℕ, zero, suc, ◌+◌, ◌-◌, ◌*◌, ◌≤◌, List, [], ◌∷◌, ◌++◌, length, drop, Some, refl, sym, ap, subst, inl, inr, ◌∙◌, append_assoc, arith}
 use Rattle.std.specs.List.{flat_map, AllByRecursion}
-use Rattle.std.proofs.lemmas.Bool.{eqb-true}
-use Rattle.std.proofs.lemmas.List.{append-nil, nil_from_length, length-append, length-drop}
+use Rattle.std.proofs.lemmas.List.{length-append, length-drop}
 use Rattle.byteorder.specs.Endian.{big_bytes}
 use Rattle.byteorder.specs.Numbers.{length-bytes_high_first}
 use Rattle.address.specs.Ids.{Address, IsAddress}
@@ -13,9 +12,8 @@ use Rattle.chat_log.specs.Chat.{IsLine, IsChat, chat_apply}
 use Rattle.reading.specs.Reading.{number_at, list_at}
 use Rattle.chat_log.specs.Encoding.{payload_bytes, address_bytes, line_bytes, line_at, chat_encode, lines_at, chat_decode}
 use Rattle.big_endian.proofs.Bytes.{IsWide, wide1, wide2}
-use Rattle.reading.specs.PartLaws.{bind_some, joined, IsPart, IsWithin, number_part, list_takes, list_again}
+use Rattle.reading.specs.PartLaws.{bind_some, joined, IsPart, IsWithin, number_part, list_takes, list_again, to_end_takes, to_end_again}
 use Rattle.chat_log.specs.LineLaws.{line_part}
-use Rattle.std.proofs.lemmas.Option.{cond_some}
 
 -- ---- a message leaves a chat a chat
 
@@ -67,27 +65,22 @@ lines_again lines width size s rest is =
     ap (lines_at lines width) (append_assoc (big_bytes width (length s)) (flat_map line_bytes s) rest)
     ∙ rw ((count_part lines width size).again (length s) (flat_map line_bytes s ++ rest) (omega arith, is.few), list_again line_at line_bytes IsLine line_part s rest is.each) refl
 
--- what is decoded is read whole
-whole_of : (lines width : ℕ) (bytes : List ℕ) (s : List Line) → chat_decode lines width bytes ≡ Some s → lines_at lines width bytes ≡ Some (s, [])
+lines_part : (lines width : ℕ) → IsSize lines width → IsPart (lines_at lines width) (chat_encode width) (IsChat lines)
+lines_part lines width size = record { takes = lines_takes lines width size; again = lines_again lines width size }
+
+decoded : (lines width : ℕ) → IsSize lines width → (bytes : List ℕ) (s : List Line) → chat_decode lines width bytes ≡ Some s → IsChat lines s × (chat_encode width s ≡ bytes)
 unfolding chat_decode
-whole_of lines width bytes s e =
-    let a = bind_some (lines_at lines width bytes) (λ state. cond (eqb (length state.1) 0) (Some state.0) None) s e in
-    let t = cond_some (eqb (length a.0.1) 0) a.0.0 s a.2 in
-    let nothing : a.0.1 ≡ [] = nil_from_length a.0.1 (eqb-true _ _ t.0) in
-    a.1 ∙ ap (λ (q : List Line). Some (q, a.0.1)) t.1 ∙ ap (λ (rest : List ℕ). Some (s, rest)) nothing
+decoded lines width size bytes s e = to_end_takes (lines_at lines width) (chat_encode width) (IsChat lines) (lines_part lines width size) bytes s e
 
 pub decoded_is_chat : (lines width : ℕ) → IsSize lines width → (bytes : List ℕ) (s : List Line) → chat_decode lines width bytes ≡ Some s → IsChat lines s
-decoded_is_chat lines width size bytes s e = (lines_takes lines width size bytes s [] (whole_of lines width bytes s e)).1
+decoded_is_chat lines width size bytes s e = (decoded lines width size bytes s e).0
 
 pub decoded_is_encoded : (lines width : ℕ) → IsSize lines width → (bytes : List ℕ) (s : List Line) → chat_decode lines width bytes ≡ Some s → chat_encode width s ≡ bytes
-decoded_is_encoded lines width size bytes s e =
-    sym ((lines_takes lines width size bytes s [] (whole_of lines width bytes s e)).0 ∙ append-nil (chat_encode width s))
+decoded_is_encoded lines width size bytes s e = (decoded lines width size bytes s e).1
 
 pub encoded_is_decoded : (lines width : ℕ) → IsSize lines width → (s : List Line) → IsChat lines s → chat_decode lines width (chat_encode width s) ≡ Some s
 unfolding chat_decode
-encoded_is_decoded lines width size s is =
-    let again : lines_at lines width (chat_encode width s) ≡ Some (s, []) = ap (lines_at lines width) (sym (append-nil (chat_encode width s))) ∙ lines_again lines width size s [] is in
-    rw again refl
+encoded_is_decoded lines width size s is = to_end_again (lines_at lines width) (chat_encode width) (IsChat lines) (lines_part lines width size) s is
 
 -- ---- its length
 

@@ -1,21 +1,19 @@
 -- The chat's state as bytes, and the state that bytes stand for.
-use Rattle.std.specs.Prelude.{ℕ, List, ◌++◌, length, Option, Some, None, ◌==◌, if◌then◌else◌}
+use Rattle.std.specs.Prelude.{ℕ, List, ◌++◌, length, Option, Some}
 use Rattle.std.specs.List.{flat_map}
 use Rattle.byteorder.specs.Endian.{big_bytes}
 pub use Rattle.big_endian.specs.Spelled.{address_bytes}
 use Rattle.limits.specs.declared.TheConstants.{PAYLOAD}
 use Rattle.chat_log.specs.declared.lines.Line.{Line}
-use Rattle.reading.specs.Reading.{Read, ◌>>=◌, bytes_at, number_at, address_at, list_at}
+use Rattle.reading.specs.Reading.{Read, ◌>>=◌, number_at, sized_bytes, sized_at, address_at, list_at, read_to_end}
 
 -- ---- a payload: its length in two bytes, and the bytes
 
 abbrev pub payload_bytes : List ℕ → List ℕ
-payload_bytes payload = big_bytes 2 (length payload) ++ payload
+payload_bytes payload = sized_bytes payload
 
-unfoldable pub payload_at : List ℕ → Read (List ℕ)
-payload_at bytes = do
-  len ← number_at 2 0 PAYLOAD bytes
-  bytes_at len.0 len.1
+abbrev pub payload_at : List ℕ → Read (List ℕ)
+payload_at bytes = sized_at PAYLOAD bytes
 
 -- ---- a line: its sender and its payload
 
@@ -40,6 +38,4 @@ lines_at lines width bytes = do
 
 -- the state that bytes stand for: nothing follows its last line
 unfoldable pub chat_decode : ℕ → ℕ → List ℕ → Option (List Line)
-chat_decode lines width bytes = do
-  state ← lines_at lines width bytes
-  if length state.1 == 0 then Some state.0 else None
+chat_decode lines width bytes = read_to_end (lines_at lines width) bytes

@@ -1,10 +1,8 @@
 -- What a line of the chat is read from is its spelling, and its spelling is read as it, whatever follows.
-use Rattle.std.proofs.Common.{◌≡◌, ℕ, ◌≤◌, List, ◌++◌, length, Some, refl, sym, ap, subst, ◌∙◌, append_assoc, arith}
-use Rattle.byteorder.specs.Endian.{big_bytes}
+use Rattle.std.proofs.Common.{◌≡◌, ℕ, ◌≤◌, List, ◌++◌, length, Some, refl, ap, subst, ◌∙◌, append_assoc, arith}
 use Rattle.limits.specs.declared.TheConstants.{PAYLOAD}
-use Rattle.big_endian.proofs.Bytes.{wide2}
-use Rattle.reading.specs.Reading.{◌>>=◌, bytes_at, number_at, address_at}
-use Rattle.reading.specs.PartLaws.{bind_some, some_is, joined, IsPart, bytes_takes, bytes_again, number_takes, number_again, address_takes, address_again}
+use Rattle.reading.specs.Reading.{◌>>=◌, address_at}
+use Rattle.reading.specs.PartLaws.{bind_some, some_is, joined, IsPart, sized_part, address_takes, address_again}
 use Rattle.chat_log.specs.declared.lines.Line.{Line}
 use Rattle.chat_log.specs.Chat.{IsLine}
 use Rattle.chat_log.specs.Encoding.{address_bytes, payload_bytes, line_bytes, payload_at, line_at}
@@ -14,23 +12,8 @@ use Rattle.chat_log.specs.Encoding.{address_bytes, payload_bytes, line_bytes, pa
 abbrev pub IsPayload : List ℕ → Type 0
 IsPayload payload = length payload ≤ PAYLOAD
 
-payload_takes : (bytes x rest : List ℕ) → payload_at bytes ≡ Some (x, rest) → (bytes ≡ payload_bytes x ++ rest) × IsPayload x
-unfolding payload_at
-payload_takes bytes x rest e =
-    let a = bind_some (number_at 2 0 PAYLOAD bytes) (λ len. bytes_at len.0 len.1) (x, rest) e in
-    let t = number_takes 2 wide2 0 PAYLOAD bytes a.0.0 a.0.1 a.1 in
-    let u = bytes_takes a.0.0 a.0.1 x rest a.2 in
-    let both : bytes ≡ (big_bytes 2 a.0.0 ++ x) ++ rest = joined bytes (big_bytes 2 a.0.0) a.0.1 x rest t.0 u.0 in
-    (subst (λ (n : ℕ). bytes ≡ (big_bytes 2 n ++ x) ++ rest) (sym u.1) both, omega (arith, u.1, t.1.1))
-
-payload_again : (x rest : List ℕ) → IsPayload x → payload_at (payload_bytes x ++ rest) ≡ Some (x, rest)
-unfolding payload_at
-payload_again x rest few =
-    ap payload_at (append_assoc (big_bytes 2 (length x)) x rest)
-    ∙ rw (number_again 2 0 PAYLOAD (length x) (x ++ rest) (omega arith) (omega arith, few), bytes_again (length x) x rest refl) refl
-
 pub payload_part : IsPart payload_at payload_bytes IsPayload
-payload_part = record { takes = payload_takes; again = payload_again }
+payload_part = sized_part PAYLOAD (omega arith)
 
 -- ---- lines
 
@@ -40,7 +23,7 @@ line_takes bytes l rest e =
     let a = bind_some (address_at bytes) (λ sender. payload_at sender.1 >>= λ payload. Some (record { sender = sender.0; payload = payload.0 }, payload.1)) (l, rest) e in
     let b = bind_some (payload_at a.0.1) (λ payload. Some (record { sender = a.0.0; payload = payload.0 }, payload.1)) (l, rest) a.2 in
     let t = address_takes bytes a.0.0 a.0.1 a.1 in
-    let u = payload_takes a.0.1 b.0.0 b.0.1 b.1 in
+    let u = payload_part.takes a.0.1 b.0.0 b.0.1 b.1 in
     let made : Line = record { sender = a.0.0; payload = b.0.0 } in
     subst (λ (p : Line × List ℕ). (bytes ≡ line_bytes p.0 ++ p.1) × IsLine p.0) (some_is (made, b.0.1) (l, rest) b.2)
     (joined bytes (address_bytes a.0.0) a.0.1 (payload_bytes b.0.0) b.0.1 t.0 u.0, record { sender = t.1; payload = u.1 })
@@ -49,7 +32,7 @@ line_again : (l : Line) (rest : List ℕ) → IsLine l → line_at (line_bytes l
 unfolding line_at
 line_again l rest is =
     ap line_at (append_assoc (address_bytes l.sender) (payload_bytes l.payload) rest)
-    ∙ rw (address_again l.sender (payload_bytes l.payload ++ rest) is.sender, payload_again l.payload rest is.payload) refl
+    ∙ rw (address_again l.sender (payload_bytes l.payload ++ rest) is.sender, payload_part.again l.payload rest is.payload) refl
 
 pub line_part : IsPart line_at line_bytes IsLine
 line_part = record { takes = line_takes; again = line_again }

@@ -20,7 +20,7 @@ struct LentLine<'a> {
     payload: &'a [u8],
 }
 
-#[tactic(auto, unfolding(crate::specs::Encoding::payload_at))]
+#[tactic(auto, unfolding(reading::specs::Reading::sized_at))]
 fn payload_at<'a>(from: &mut Reader<'a>) -> Option<&'a [u8]>
     ensures { IsReadOrNone (λ x. (x.now, from.new)) result (payload_at from.old) }
 {

@@ -3,7 +3,7 @@
 
 ghost use Rattle.std.specs.Prelude.{◌≡◌, ℕ, List, Some, None, if◌then◌else◌};
 ghost use Rattle.std.specs.Ordering.{is_eq};
-ghost use Rattle.keyed_entries.specs.declared.Entry.{Entry as EntryValue};
+ghost use Rattle.keyed_entries.specs.declared.KeyedEntry.{KeyedEntry as KeyedEntryValue};
 ghost use Rattle.keyed_entries.specs.Entries.{IsPlace, Rises, rises, key_cmp, value_of, put, without};
 
 mod keys;
@@ -19,7 +19,7 @@ pub const KEY: usize = 64;
 
 /// A key and its value.
 #[derive(Debug, Drop)]
-pub struct Entry<V> {
+pub struct KeyedEntry<V> {
     /// The key.
     pub key: Bytes,
     /// Its value.
@@ -62,7 +62,7 @@ fn key_order(key: &[u8], other: &[u8]) -> Ordering
 }
 
 /// The place of a key among entries whose keys rise. It halves them until it has found it.
-pub fn find<V: Drop>(entries: &[Entry<V>], key: &[u8]) -> Place
+pub fn find<V: Drop>(entries: &[KeyedEntry<V>], key: &[u8]) -> Place
     requires { Rises entries.now }
     ensures { IsPlace key.now entries.now result }
 {
@@ -80,7 +80,7 @@ pub fn find<V: Drop>(entries: &[Entry<V>], key: &[u8]) -> Place
 }
 
 /// Whether each key is below the next one.
-pub fn is_rising<V: Drop>(entries: &[Entry<V>]) -> bool
+pub fn is_rising<V: Drop>(entries: &[KeyedEntry<V>]) -> bool
     ensures { result ≡ rises entries.now }
 {
     for i in 1..entries.len() {
@@ -94,7 +94,7 @@ pub fn is_rising<V: Drop>(entries: &[Entry<V>]) -> bool
 /// The law of look-ups: a put gives its key its value, a removal takes it, and the value of each other key stays. Entries in which each key has the same
 /// value are the same.
 pub fn look_ups<V: Drop>()
-    ensures put { (k : List ℕ) (v : V) (s : List (EntryValue V)) (q : List ℕ) → value_of q (put k v s) ≡ (if is_eq (key_cmp q k) then Some v else value_of q s) }
-    ensures without { (k : List ℕ) (s : List (EntryValue V)) (q : List ℕ) → Rises s → value_of q (without k s) ≡ (if is_eq (key_cmp q k) then None else value_of q s) }
-    ensures alike { (s u : List (EntryValue V)) → Rises s → Rises u → ((q : List ℕ) → value_of q s ≡ value_of q u) → s ≡ u }
+    ensures put { (k : List ℕ) (v : V) (s : List (KeyedEntryValue V)) (q : List ℕ) → value_of q (put k v s) ≡ (if is_eq (key_cmp q k) then Some v else value_of q s) }
+    ensures without { (k : List ℕ) (s : List (KeyedEntryValue V)) (q : List ℕ) → Rises s → value_of q (without k s) ≡ (if is_eq (key_cmp q k) then None else value_of q s) }
+    ensures alike { (s u : List (KeyedEntryValue V)) → Rises s → Rises u → ((q : List ℕ) → value_of q s ≡ value_of q u) → s ≡ u }
 {}

@@ -2,18 +2,18 @@
 use Rattle.std.proofs.Common.{◌≡◌, ℕ, zero, suc, ◌<◌, List, [], ◌∷◌, ◌++◌, length, take, get_or, sym, ap, ◌∙◌, arith}
 use Rattle.std.specs.List.{flat_map}
 use Rattle.std.proofs.lemmas.List.{flat_map_more}
-use Rattle.keyed_entries.specs.declared.Entry.{Entry}
+use Rattle.keyed_entries.specs.declared.KeyedEntry.{KeyedEntry}
 use Rattle.keyed_state.specs.States.{Form, entry_bytes}
 
 module _ {V : Type 0} (form : Form V) where
   -- one more of some entries, as it is read at its place
-  take-next : (es : List (Entry V)) (i : ℕ) (e : Entry V) → i < length es → e ≡ get_or es i e → take (suc i) es ≡ take i es ++ e ∷ []
+  take-next : (es : List (KeyedEntry V)) (i : ℕ) (e : KeyedEntry V) → i < length es → e ≡ get_or es i e → take (suc i) es ≡ take i es ++ e ∷ []
   take-next [] i e lt at = absurd (omega (arith, lt))
-  take-next (x ∷ es) zero e lt at = ap (λ (y : Entry V). y ∷ []) (sym at)
-  take-next (x ∷ es) (suc i) e lt at = ap (λ (l : List (Entry V)). x ∷ l) (take-next es i e (omega (arith, lt)) at)
+  take-next (x ∷ es) zero e lt at = ap (λ (y : KeyedEntry V). y ∷ []) (sym at)
+  take-next (x ∷ es) (suc i) e lt at = ap (λ (l : List (KeyedEntry V)). x ∷ l) (take-next es i e (omega (arith, lt)) at)
 
-  pub one-more : (out mid new : List ℕ) (es : List (Entry V)) (i n : ℕ) (e : Entry V) → i < length es → n ≡ suc i → e ≡ get_or es i e → mid ≡ out ++ flat_map (entry_bytes form) (take i es)
+  pub one-more : (out mid new : List ℕ) (es : List (KeyedEntry V)) (i n : ℕ) (e : KeyedEntry V) → i < length es → n ≡ suc i → e ≡ get_or es i e → mid ≡ out ++ flat_map (entry_bytes form) (take i es)
       → new ≡ mid ++ entry_bytes form e → new ≡ out ++ flat_map (entry_bytes form) (take n es)
   one-more out mid new es i n e lt next at so_far put =
       put ∙ ap (λ (t : List ℕ). t ++ entry_bytes form e) so_far ∙ flat_map_more (entry_bytes form) out (take i es) e
-      ∙ ap (λ (l : List (Entry V)). out ++ flat_map (entry_bytes form) l) (sym (ap (λ (k : ℕ). take k es) next ∙ take-next es i e lt at))
+      ∙ ap (λ (l : List (KeyedEntry V)). out ++ flat_map (entry_bytes form) l) (sym (ap (λ (k : ℕ). take k es) next ∙ take-next es i e lt at))

@@ -13,7 +13,7 @@ use Rattle.big_endian.proofs.Bytes.{wide4}
 use Rattle.limits.specs.declared.TheConstants.{STATE}
 use Rattle.reading.specs.Reading.{number_at, list_at, ◌>>=◌}
 use Rattle.reading.specs.PartLaws.{bind_some, some_is, joined, IsPart, IsWithin, number_part, list_takes, list_again}
-use Rattle.keyed_entries.specs.declared.Entry.{Entry}
+use Rattle.keyed_entries.specs.declared.KeyedEntry.{KeyedEntry}
 use Rattle.keyed_entries.specs.Entries.{key_cmp, entry_of, put, without, rises}
 use Rattle.keyed_entries.specs.EntryLaws.{rises-found, rises-tested, all-put, all-without, rises-put, rises-without}
 use Rattle.keyed_entries.specs.Keys.{IsKey, key_bytes, key_at}
@@ -35,7 +35,7 @@ pub record FormLaws {V : Type 0} (form : Form V) : Type 0 where
 module _ {V : Type 0} (form : Form V) where
   -- ---- sizes
 
-  pub size-without : (k : List ℕ) (xs : List (Entry V)) → sum_by (entry_size form) (without k xs) ≤ sum_by (entry_size form) xs
+  pub size-without : (k : List ℕ) (xs : List (KeyedEntry V)) → sum_by (entry_size form) (without k xs) ≤ sum_by (entry_size form) xs
   size-without k [] = omega arith
   size-without k (x ∷ xs) = by (key_cmp k x.key) (size-without k xs) where
     by : (o : Ordering) → sum_by (entry_size form) (without k xs) ≤ sum_by (entry_size form) xs → sum_by (entry_size form) (match_ordering o (x ∷ xs) xs (x ∷ without k xs)) ≤ sum_by (entry_size form) (x ∷ xs)
@@ -43,7 +43,7 @@ module _ {V : Type 0} (form : Form V) where
     by Equal rest = omega (arith, sum_by-cons (entry_size form) x xs)
     by Greater rest = omega (arith, rest, sum_by-cons (entry_size form) x xs, sum_by-cons (entry_size form) x (without k xs))
 
-  pub few_entries : (s : List (Entry V)) → length s ≤ sum_by (entry_size form) s
+  pub few_entries : (s : List (KeyedEntry V)) → length s ≤ sum_by (entry_size form) s
   few_entries [] = omega arith
   few_entries (e ∷ s) = let rest = few_entries s in omega (arith, rest, sum_by-cons (entry_size form) e s)
 
@@ -51,12 +51,12 @@ module _ {V : Type 0} (form : Form V) where
   count_of s is = let fits : state_size form s.entries ≤ STATE = is.fits in omega (arith, few_entries s.entries, fits)
 
   module _ (laws : FormLaws form) where
-    pub length_entry : (e : Entry V) → length (entry_bytes form e) ≡ entry_size form e
+    pub length_entry : (e : KeyedEntry V) → length (entry_bytes form e) ≡ entry_size form e
     length_entry e =
         let size = laws.sized e.value in
         omega (arith, length-append (key_bytes e.key) (form.bytes_of e.value), length-append (big_bytes 1 (length e.key)) e.key, size)
 
-    length-entries : (s : List (Entry V)) → length (flat_map (entry_bytes form) s) ≡ sum_by (entry_size form) s
+    length-entries : (s : List (KeyedEntry V)) → length (flat_map (entry_bytes form) s) ≡ sum_by (entry_size form) s
     length-entries [] = refl
     length-entries (e ∷ s) = let rest = length-entries s in omega (arith, length-append (entry_bytes form e) (flat_map (entry_bytes form) s), length_entry e, rest, sum_by-cons (entry_size form) e s)
 
@@ -67,21 +67,21 @@ module _ {V : Type 0} (form : Form V) where
 
     -- ---- reading
 
-    record IsShortEntry (e : Entry V) : Type 0 where
+    record IsShortEntry (e : KeyedEntry V) : Type 0 where
       key : IsKey e.key
       value : form.IsShort e.value
 
-    entry_takes : (bytes : List ℕ) (x : Entry V) (rest : List ℕ) → entry_at form bytes ≡ Some (x, rest) → (bytes ≡ entry_bytes form x ++ rest) × IsShortEntry x
+    entry_takes : (bytes : List ℕ) (x : KeyedEntry V) (rest : List ℕ) → entry_at form bytes ≡ Some (x, rest) → (bytes ≡ entry_bytes form x ++ rest) × IsShortEntry x
     unfolding entry_at
     entry_takes bytes x rest e =
         let a = bind_some (key_at bytes) (λ key. form.read_at key.1 >>= λ value. Some (entry_of key.0 value.0, value.1)) (x, rest) e in
         let b = bind_some (form.read_at a.0.1) (λ value. Some (entry_of a.0.0 value.0, value.1)) (x, rest) a.2 in
         let t = key_takes bytes a.0.0 a.0.1 a.1 in
         let u = laws.part.takes a.0.1 b.0.0 b.0.1 b.1 in
-        subst (λ (p : Entry V × List ℕ). (bytes ≡ entry_bytes form p.0 ++ p.1) × IsShortEntry p.0) (some_is (entry_of a.0.0 b.0.0, b.0.1) (x, rest) b.2)
+        subst (λ (p : KeyedEntry V × List ℕ). (bytes ≡ entry_bytes form p.0 ++ p.1) × IsShortEntry p.0) (some_is (entry_of a.0.0 b.0.0, b.0.1) (x, rest) b.2)
         (joined bytes (key_bytes a.0.0) a.0.1 (form.bytes_of b.0.0) b.0.1 t.0 u.0, record { key = t.1; value = u.1 })
 
-    entry_again : (x : Entry V) (rest : List ℕ) → IsShortEntry x → entry_at form (entry_bytes form x ++ rest) ≡ Some (x, rest)
+    entry_again : (x : KeyedEntry V) (rest : List ℕ) → IsShortEntry x → entry_at form (entry_bytes form x ++ rest) ≡ Some (x, rest)
     unfolding entry_at
     entry_again x rest is =
         ap (entry_at form) (append_assoc (key_bytes x.key) (form.bytes_of x.value) rest)
@@ -121,21 +121,21 @@ module _ {V : Type 0} (form : Form V) where
 
     -- ---- what is tested
 
-    up-found : (last : Token) (es : List (Entry V)) → are_up_to form last es ≡ true → AreUpTo form last es
+    up-found : (last : Token) (es : List (KeyedEntry V)) → are_up_to form last es ≡ true → AreUpTo form last es
     up-found last [] e = tt
     up-found last (x ∷ es) e = let both = and_parts (is_up_to (form.token_of x.value) last) (are_up_to form last es) e in (both.0, up-found last es both.1)
 
-    up-tested : (last : Token) (es : List (Entry V)) → AreUpTo form last es → are_up_to form last es ≡ true
+    up-tested : (last : Token) (es : List (KeyedEntry V)) → AreUpTo form last es → are_up_to form last es ≡ true
     up-tested last [] up = refl
     up-tested last (x ∷ es) up = rw (up.0, up-tested last es up.1) refl
 
-    short-entries : (es : List (Entry V)) → AllByRecursion (IsEntry form) es → sum_by (entry_size form) es ≤ STATE → AllByRecursion IsShortEntry es
+    short-entries : (es : List (KeyedEntry V)) → AllByRecursion (IsEntry form) es → sum_by (entry_size form) es ≤ STATE → AllByRecursion IsShortEntry es
     short-entries [] all fits = tt
     short-entries (e ∷ es) all fits =
         let both = sum_by-cons (entry_size form) e es in
         (record { key = all.0.key; value = laws.short e.value all.0.value (omega (arith, fits, both)) }, short-entries es all.1 (omega (arith, fits, both)))
 
-    plain-entries : (es : List (Entry V)) → AllByRecursion IsShortEntry es → AllByRecursion (IsEntry form) es
+    plain-entries : (es : List (KeyedEntry V)) → AllByRecursion IsShortEntry es → AllByRecursion (IsEntry form) es
     plain-entries [] all = tt
     plain-entries (e ∷ es) all = (record { key = all.0.key; value = laws.plain e.value all.0.value }, plain-entries es all.1)
 
@@ -196,7 +196,7 @@ module _ {V : Type 0} (form : Form V) where
   }
 
   -- the tokens of entries are up to a greater one too
-  pub all-up : (a b : Token) (es : List (Entry V)) → AreUpTo form a es → is_up_to a b ≡ true → AreUpTo form b es
+  pub all-up : (a b : Token) (es : List (KeyedEntry V)) → AreUpTo form a es → is_up_to a b ≡ true → AreUpTo form b es
   all-up a b [] up more = tt
   all-up a b (x ∷ es) up more = (up-trans (form.token_of x.value) a b up.0 more, all-up a b es up.1 more)
 

@@ -4,7 +4,7 @@ use Rattle.std.specs.List.{AllByRecursion, flat_map, list_all, sum_by}
 use Rattle.byteorder.specs.Endian.{big_bytes}
 use Rattle.limits.specs.declared.TheConstants.{STATE}
 use Rattle.reading.specs.Reading.{Read, ◌>>=◌, number_at, list_at}
-use Rattle.keyed_entries.specs.declared.Entry.{Entry}
+use Rattle.keyed_entries.specs.declared.KeyedEntry.{KeyedEntry}
 use Rattle.keyed_entries.specs.Keys.{IsKey, key_bytes, key_at}
 use Rattle.keyed_entries.specs.Entries.{entry_of, rises, Rises}
 use Rattle.tokens.specs.declared.token.Token.{Token}
@@ -23,24 +23,24 @@ pub record Form (V : Type 0) : Type 1 where
 -- the last token that was given, and what the keys have
 pub record KeyedState (V : Type 0) : Type 0 where
   pub last : Token
-  pub entries : List (Entry V)
+  pub entries : List (KeyedEntry V)
 
-abbrev pub state_of : {V : Type 0} → Token → List (Entry V) → KeyedState V
+abbrev pub state_of : {V : Type 0} → Token → List (KeyedEntry V) → KeyedState V
 state_of last entries = record { last = last; entries = entries }
 
 -- ---- an entry: its key, and what it has
 
-abbrev pub entry_bytes : {V : Type 0} → Form V → Entry V → List ℕ
+abbrev pub entry_bytes : {V : Type 0} → Form V → KeyedEntry V → List ℕ
 entry_bytes form e = key_bytes e.key ++ form.bytes_of e.value
 
-unfoldable pub entry_at : {V : Type 0} → Form V → List ℕ → Read (Entry V)
+unfoldable pub entry_at : {V : Type 0} → Form V → List ℕ → Read (KeyedEntry V)
 entry_at form bytes = do
   key ← key_at bytes
   value ← form.read_at key.1
   Some (entry_of key.0 value.0, value.1)
 
 -- in how many bytes: the length of the key in one
-abbrev pub entry_size : {V : Type 0} → Form V → Entry V → ℕ
+abbrev pub entry_size : {V : Type 0} → Form V → KeyedEntry V → ℕ
 entry_size form e = 1 + length e.key + form.size_of e.value
 
 -- ---- the state: the last token, the number of entries in four bytes, and the entries, their keys rising
@@ -56,11 +56,11 @@ state_at form bytes = do
   Some (state_of last.0 entries.0, entries.1)
 
 -- in how many bytes: the last token in 22, the number of entries in four
-abbrev pub state_size : {V : Type 0} → Form V → List (Entry V) → ℕ
+abbrev pub state_size : {V : Type 0} → Form V → List (KeyedEntry V) → ℕ
 state_size form entries = 26 + sum_by (entry_size form) entries
 
 -- whether no token is above the last
-abbrev pub are_up_to : {V : Type 0} → Form V → Token → List (Entry V) → Bool
+abbrev pub are_up_to : {V : Type 0} → Form V → Token → List (KeyedEntry V) → Bool
 are_up_to form last entries = list_all (λ e. is_up_to (form.token_of e.value) last) entries
 
 -- the state that bytes stand for: nothing follows its last entry, the bytes are few enough, the keys rise, and no token is above the last
@@ -71,12 +71,12 @@ state_decode form bytes = do
 
 -- ---- the states that there are
 
-pub record IsEntry {V : Type 0} (form : Form V) (e : Entry V) : Type 0 where
+pub record IsEntry {V : Type 0} (form : Form V) (e : KeyedEntry V) : Type 0 where
   pub key : IsKey e.key
   pub value : form.IsValue e.value
 
 -- no token is above the last
-abbrev pub AreUpTo : {V : Type 0} → Form V → Token → List (Entry V) → Type 0
+abbrev pub AreUpTo : {V : Type 0} → Form V → Token → List (KeyedEntry V) → Type 0
 AreUpTo form last entries = AllByRecursion (λ e. is_up_to (form.token_of e.value) last ≡ true) entries
 
 -- the keys rise, no token is above the last, and the encoding fits into a state

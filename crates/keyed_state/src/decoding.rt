@@ -3,7 +3,7 @@ ghost use Rattle.reading.specs.Reading.{IsReadOrNone, list_at};
 ghost use Rattle.keyed_state.specs.States.{are_up_to, entry_at, state_at, state_decode, state_of};
 
 use crate::Kept;
-use keyed_entries::{Entry, is_rising, key_from};
+use keyed_entries::{KeyedEntry, is_rising, key_from};
 use limits::STATE;
 use owned_bytes::Bytes;
 use reading::Reader;
@@ -17,11 +17,14 @@ pub struct Contents<V> {
     /// The last token that was given.
     pub last: Token,
     /// The entries, in the order of their keys.
-    pub entries: Vec<Entry<V>>,
+    pub entries: Vec<KeyedEntry<V>>,
 }
 
 #[tactic(auto, unfolding(crate::specs::States::entry_at))]
-fn entry_from<V: Kept>(alloc: Global, from: &mut Reader<'_>) -> Result<Option<Entry<V>>, AllocError>
+fn entry_from<V: Kept>(
+    alloc: Global,
+    from: &mut Reader<'_>,
+) -> Result<Option<KeyedEntry<V>>, AllocError>
     ensures { IfOk result (λ e. IsReadOrNone (λ x. (x, from.new)) e (entry_at V.form from.old)) }
 {
     let Some(key) = key_from(from) else {
@@ -31,14 +34,14 @@ fn entry_from<V: Kept>(alloc: Global, from: &mut Reader<'_>) -> Result<Option<En
         return Ok(None);
     };
     let key = Bytes::from_slice(alloc, key.as_slice())?;
-    Ok(Some(Entry { key, value }))
+    Ok(Some(KeyedEntry { key, value }))
 }
 
 fn some_entries<V: Kept>(
     alloc: Global,
     count: u32,
     from: &mut Reader<'_>,
-) -> Result<Option<Vec<Entry<V>>>, AllocError>
+) -> Result<Option<Vec<KeyedEntry<V>>>, AllocError>
     ensures { IfOk result (λ entries. IsReadOrNone (λ l. (l.items, from.new)) entries (list_at (entry_at V.form) count from.old)) }
 {
     let mut entries = Vec::new(alloc);
@@ -71,7 +74,7 @@ fn contents_from<V: Kept>(
 }
 
 // Whether no token is above the last.
-fn are_up_to<V: Kept>(last: Token, entries: &[Entry<V>]) -> bool
+fn are_up_to<V: Kept>(last: Token, entries: &[KeyedEntry<V>]) -> bool
     ensures { result ≡ are_up_to V.form last entries.now }
 {
     entries.iter().all(|entry| entry.value.token().cmp(&last) != Ordering::Greater)

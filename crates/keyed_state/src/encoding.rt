@@ -5,11 +5,11 @@ ghost use Rattle.keyed_state.specs.States.{IsEntry, IsState, entry_bytes, entry_
 
 use crate::Kept;
 use big_endian::put_u32;
-use keyed_entries::{Entry, put_key};
+use keyed_entries::{KeyedEntry, put_key};
 use std::alloc::AllocError;
 use tokens::{Token, put_token};
 
-fn size_of_entry<V: Kept>(entry: &Entry<V>) -> usize
+fn size_of_entry<V: Kept>(entry: &KeyedEntry<V>) -> usize
     requires { entry_size V.form entry.now ≤ STATE }
     ensures { result ≡ entry_size V.form entry.now }
 {
@@ -17,7 +17,7 @@ fn size_of_entry<V: Kept>(entry: &Entry<V>) -> usize
 }
 
 /// In how many bytes a state with these entries is encoded: 26, and what each entry takes.
-pub fn size_of_all<V: Kept>(entries: &[Entry<V>]) -> usize
+pub fn size_of_all<V: Kept>(entries: &[KeyedEntry<V>]) -> usize
     requires { state_size V.form entries.now ≤ STATE }
     ensures { result ≡ state_size V.form entries.now }
 {
@@ -28,7 +28,7 @@ pub fn size_of_all<V: Kept>(entries: &[Entry<V>]) -> usize
     size
 }
 
-fn put_entry<V: Kept>(entry: &Entry<V>, out: &mut Vec<u8>)
+fn put_entry<V: Kept>(entry: &KeyedEntry<V>, out: &mut Vec<u8>)
     requires entry { IsEntry V.form entry.now }
     requires few { entry_size V.form entry.now ≤ STATE }
     requires room { vec_len out.old + entry_size V.form entry.now ≤ vec_capacity out.old }
@@ -39,7 +39,7 @@ fn put_entry<V: Kept>(entry: &Entry<V>, out: &mut Vec<u8>)
     entry.value.put(out);
 }
 
-fn put_entries<V: Kept>(entries: &[Entry<V>], out: &mut Vec<u8>)
+fn put_entries<V: Kept>(entries: &[KeyedEntry<V>], out: &mut Vec<u8>)
     requires few { state_size V.form entries.now ≤ STATE }
     requires entries { AllByRecursion (IsEntry V.form) entries.now }
     requires room { vec_len out.old + sum_by (entry_size V.form) entries.now ≤ vec_capacity out.old }
@@ -51,7 +51,7 @@ fn put_entries<V: Kept>(entries: &[Entry<V>], out: &mut Vec<u8>)
     }
 }
 
-fn put_all<V: Kept>(last: Token, entries: &[Entry<V>], out: &mut Vec<u8>)
+fn put_all<V: Kept>(last: Token, entries: &[KeyedEntry<V>], out: &mut Vec<u8>)
     requires state { IsState V.form (state_of last entries.now) }
     requires room { vec_len out.old + state_size V.form entries.now ≤ vec_capacity out.old }
     ensures { out.new.items ≡ out.old.items ++ state_encode V.form (state_of last entries.now) }
@@ -64,7 +64,7 @@ fn put_all<V: Kept>(last: Token, entries: &[Entry<V>], out: &mut Vec<u8>)
 /// Appends the encoding of a state of this size, whose room is taken at once. Where memory is refused, the bytes are as they were.
 pub fn put_state<V: Kept>(
     last: Token,
-    entries: &[Entry<V>],
+    entries: &[KeyedEntry<V>],
     size: usize,
     out: &mut Vec<u8>,
 ) -> Result<(), AllocError>

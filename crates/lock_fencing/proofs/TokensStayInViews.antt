@@ -13,7 +13,7 @@ use Rattle.address.proofs.SameIds.{same_view_id-true}
 use Rattle.view.specs.Members.{stands_in}
 use Rattle.trace_props.proofs.EqualByTests.{is_eq-view_id}
 use Rattle.trace_props.proofs.InstallsOfRisingViews.{IsUpTo}
-use Rattle.keyed_entries.specs.declared.Entry.{Entry}
+use Rattle.keyed_entries.specs.declared.KeyedEntry.{KeyedEntry}
 use Rattle.keyed_entries.specs.Entries.{key_cmp, value_of, put, Rises}
 use Rattle.keyed_entries.proofs.LookUpsFind.{found-put, found-without}
 use Rattle.tokens.specs.declared.token.Token.{Token}
@@ -64,14 +64,14 @@ left-stays stays v last l up = by (stays l.holder) where
   by true = up
   by false = by-first (filter stays l.waiters)
 
-came-stays : (stays : Address → Bool) (v : ViewId) (last : Token) (name : List ℕ) (es : List (Entry Lock)) → IsUpTo last.view v → IsUpTo (came stays v last name es).view v
+came-stays : (stays : Address → Bool) (v : ViewId) (last : Token) (name : List ℕ) (es : List (KeyedEntry Lock)) → IsUpTo last.view v → IsUpTo (came stays v last name es).view v
 came-stays stays v last name [] up = up
 came-stays stays v last name (e ∷ es) up = by (is_eq (key_cmp name e.key)) (came-stays stays v (left_to stays v last e.value).last name es (left-stays stays v last e.value up)) where
   by : (b : Bool) → IsUpTo (came stays v (left_to stays v last e.value).last name es).view v → IsUpTo (cond b last (came stays v (left_to stays v last e.value).last name es)).view v
   by true rest = up
   by false rest = rest
 
-rolled-stays : (stays : Address → Bool) (v : ViewId) (last : Token) (es : List (Entry Lock)) → IsUpTo last.view v → IsUpTo (rolled stays v last es).last.view v
+rolled-stays : (stays : Address → Bool) (v : ViewId) (last : Token) (es : List (KeyedEntry Lock)) → IsUpTo last.view v → IsUpTo (rolled stays v last es).last.view v
 rolled-stays stays v last [] up = up
 rolled-stays stays v last (e ∷ es) up = by (left_to stays v last e.value).lock (rolled-stays stays v (left_to stays v last e.value).last es (left-stays stays v last e.value up)) where
   by : (k : Option Lock) → IsUpTo (rolled stays v (left_to stays v last e.value).last es).last.view v → IsUpTo (before e.key k (rolled stays v (left_to stays v last e.value).last es)).last.view v
@@ -111,7 +111,7 @@ carried-stays from c s up = by (is_used_up (view_of c) s) where
 same-key : (k : List ℕ) → is_eq (key_cmp k k) ≡ true
 same-key k = is_eq-slice_cmp k k ∙ (bytes_eq-Decides k k).1 refl
 
-found-there : (name : List ℕ) (l : Lock) (es : List (Entry Lock)) → value_of name (put name l es) ≡ Some l
+found-there : (name : List ℕ) (l : Lock) (es : List (KeyedEntry Lock)) → value_of name (put name l es) ≡ Some l
 found-there name l es = found-put name l es name ∙ ap (λ (b : Bool). cond b (Some l) (value_of name es)) (same-key name)
 
 -- where nothing changes nothing is granted

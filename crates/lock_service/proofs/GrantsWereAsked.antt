@@ -1,10 +1,11 @@
--- Who is told that a lock is granted asked for it, and the member holds it then.
-use Rattle.std.proofs.Common.{◌≡◌, ◌⊎◌, inl, inr, ℕ, zero, suc, if◌then◌else◌, ◌<◌, Bool, true, false, List, [], ◌∷◌, ◌++◌, map, take, Option, None, Some, fold, refl, sym, ap, subst, ◌∙◌, arith}
-use Rattle.std.specs.List.{Contains, slice_get, flat_map}
+-- The service follows its member; who is told that a lock is granted asked for it, and the member holds it then.
+use Rattle.std.proofs.Common.{◌≡◌, ◌⊎◌, inl, inr, ℕ, suc, true, List, [], ◌∷◌, ◌++◌, map, take, Option, None, Some, fold, refl, sym, ap, subst, ◌∙◌, append_assoc}
+use Rattle.std.specs.List.{Contains, flat_map}
+use Rattle.std.proofs.lemmas.List.{append-nil}
 use Rattle.std.proofs.lemmas.List.Elements.{Contains-append_cases, Contains-append_left, Contains-append_right, Contains-push, Contains-push_cases}
 use Rattle.address.specs.Ids.{Address, ViewId, same_address}
 use Rattle.trace_props.specs.declared.event.Event.{Event}
-use Rattle.trace_props.specs.declared.event.Event.TheVariants.{Started, Sent, Delivered, Blocked, Installed, Left, Crashed}
+use Rattle.trace_props.specs.declared.event.Event.TheVariants.{Delivered, Installed}
 use Rattle.trace_props.specs.declared.event.Delivery.{Delivery}
 use Rattle.trace_props.specs.declared.event.Install.{Install}
 use Rattle.trace_props.specs.State.{state_after}
@@ -14,34 +15,21 @@ use Rattle.tokens.specs.declared.token.Token.{Token}
 use Rattle.lock_table.specs.Locks.{Table}
 use Rattle.lock_table.specs.Commands.{command_of}
 use Rattle.lock_table.specs.Meanings.{table_meaning}
-use Rattle.tickets.specs.declared.Waiting.{Waiting}
-use Rattle.tickets.specs.Waits.{ticket_of}
-use Rattle.tickets.specs.Places.{next_place}
+use Rattle.followed_events.specs.declared.waiting.Waiting.{Waiting}
+use Rattle.followed_events.specs.Waits.{ticket_of}
+use Rattle.followed_events.specs.Places.{next_place}
+use Rattle.followed_events.specs.Followed.{Followed, Follows, after_delivery, after_event, after_install, due}
+use Rattle.followed_events.proofs.OwnEvents.{nothing-stands, by-own, given, next-heard, answers-stay as stay}
+use Rattle.followed_events.proofs.EventsFollowed.{due-own, service-follows}
 use Rattle.lock_service.specs.declared.standing.Standing.{Standing}
 use Rattle.lock_service.specs.declared.standing.Standing.TheVariants.{Holds, Waits, Apart}
 use Rattle.lock_service.specs.declared.answer.Answer.{Answer}
 use Rattle.lock_service.specs.declared.answer.Queued.{Queued}
 use Rattle.lock_service.specs.declared.answer.Fate.{Fate}
-use Rattle.lock_service.specs.declared.answer.Fate.TheVariants.{Granted, Full, Gone, Released, NotHeld, NoRequest, HandedBack}
+use Rattle.lock_service.specs.declared.answer.Fate.TheVariants.{Granted, HandedBack}
 use Rattle.lock_service.specs.Standings.{standing}
-use Rattle.lock_service.specs.Keeping.{Keeping, heard, applied, answer_of, told_of, told, late_fate, first_verdict, release_fate, early, verdict, own_answers, back, table_in}
-use Rattle.lock_service.specs.Answers.{heard_all, answers_by, answers_to, AsksBy, AsksFor, IsGrantedAt, GrantsAreTrue}
-use Rattle.lock_service.proofs.EventsServed.{after, follows, next-heard}
-
-nothing-stands : (a : Answer) → Contains [] a → ⊥
-nothing-stands a c = let none : c.0 < 0 = c.1 in omega arith
-
--- ---- each answer is given by one event
-
-abbrev Given : Keeping → List Event → Answer → Type 0
-Given s t a = (k : ℕ) × (h : Event) × (slice_get t k ≡ Some h) × Contains (answers_by (heard_all s (take k t)) h) a
-
-given : (s : Keeping) (t : List Event) (a : Answer) → Contains (answers_to s t) a → Given s t a
-given s [] a c = absurd (nothing-stands a c)
-given s (h ∷ t) a c = by (Contains-append_cases (answers_by s h) (answers_to (heard s h) t) a c) (given (heard s h) t a) where
-  by : Contains (answers_by s h) a ⊎ Contains (answers_to (heard s h) t) a → (Contains (answers_to (heard s h) t) a → Given (heard s h) t a) → Given s (h ∷ t) a
-  by (inl here) rest = (zero, h, refl, here)
-  by (inr later) rest = let more = rest later in (suc more.0, more.1, more.2, more.3)
+use Rattle.lock_service.specs.Keeping.{Keeping, heard, delivered, installed, applied, late, answer_of, told_of, told, late_fate, first_verdict, release_fate, early, verdict, own_answers, back, table_in}
+use Rattle.lock_service.specs.Answers.{heard_all, answers_by, answers_to, AsksFor, GrantsAreTrue}
 
 -- ---- what is told
 
@@ -93,24 +81,24 @@ late-grants own s view place (q ∷ qs) token a c e = by (Contains-append_cases 
 record IsEarlyGrant (u : Keeping) (d : Delivery) (token : Token) (a : Answer) : Type 0 where
   name : List ℕ
   view : ViewId
-  ticket : ticket_of d.message.number u.waiting ≡ Some a.ticket
+  ticket : (same_address d.message.sender u.followed.own ≡ true) × (ticket_of d.message.number u.followed.waiting ≡ Some a.ticket)
   asks : command_of d.message.payload ≡ Some (Acquire view name)
-  holds : standing u.own name (applied d u) ≡ Holds token
+  holds : standing u.followed.own name (applied d u) ≡ Holds token
 
-early-grants : (u : Keeping) (d : Delivery) (token : Token) (a : Answer) → Contains (own_answers (ticket_of d.message.number u.waiting) d u (applied d u)) a → a.fate ≡ Granted token → IsEarlyGrant u d token a
-early-grants u d token a = by (ticket_of d.message.number u.waiting) refl where
-  which : (ticket : ℕ) (o : Option Command) → ticket_of d.message.number u.waiting ≡ Some ticket → ticket ≡ a.ticket → command_of d.message.payload ≡ o
-      → verdict u.own (applied d u) (early u.own u.copy o) ≡ Some (Granted token) → IsEarlyGrant u d token a
+early-grants : (u : Keeping) (d : Delivery) (token : Token) (a : Answer) → Contains (own_answers (due d u.followed) d u (applied d u)) a → a.fate ≡ Granted token → IsEarlyGrant u d token a
+early-grants u d token a = by (due d u.followed) refl where
+  which : (ticket : ℕ) (o : Option Command) → due d u.followed ≡ Some ticket → ticket ≡ a.ticket → command_of d.message.payload ≡ o
+      → verdict u.followed.own (applied d u) (early u.followed.own u.followed.copy o) ≡ Some (Granted token) → IsEarlyGrant u d token a
   which ticket None at same e says = absurd cc
   which ticket (Some (Acquire view name)) at same e says =
-      record { name = name; view = view; ticket = at ∙ ap (λ (n : ℕ). Some n) same; asks = e; holds = first-grant (standing u.own name (applied d u)) token says }
-  which ticket (Some (Release view name)) at same e says = absurd (no-release-grants (standing u.own name u.copy) token says)
+      record { name = name; view = view; ticket = due-own d u.followed a.ticket (at ∙ ap (λ (n : ℕ). Some n) same); asks = e; holds = first-grant (standing u.followed.own name (applied d u)) token says }
+  which ticket (Some (Release view name)) at same e says = absurd (no-release-grants (standing u.followed.own name u.followed.copy) token says)
   which ticket (Some (Roll view)) at same e says = absurd cc
 
-  by : (o : Option ℕ) → ticket_of d.message.number u.waiting ≡ o → Contains (own_answers o d u (applied d u)) a → a.fate ≡ Granted token → IsEarlyGrant u d token a
+  by : (o : Option ℕ) → due d u.followed ≡ o → Contains (own_answers o d u (applied d u)) a → a.fate ≡ Granted token → IsEarlyGrant u d token a
   by None at c e = absurd (nothing-stands a c)
   by (Some ticket) at c e =
-      let said = one-told ticket d.view (next_place u.place) (verdict u.own (applied d u) (early u.own u.copy (command_of d.message.payload))) a c in
+      let said = one-told ticket d.view (next_place u.followed.place) (verdict u.followed.own (applied d u) (early u.followed.own u.followed.copy (command_of d.message.payload))) a c in
       which ticket (command_of d.message.payload) at said.0 refl (said.1 ∙ ap (λ (f : Fate). Some f) e)
 
 no-back-grants : (view : ViewId) (ws : List Waiting) (a : Answer) (token : Token) → Contains (map (back view) ws) a → a.fate ≡ Granted token → ⊥
@@ -128,83 +116,72 @@ no-back-grants view (w ∷ ws) a token c e = by (Contains-append_cases (back vie
 
 -- ---- an event that grants
 
-record IsGrant (u : Keeping) (h : Event) (token : Token) (a : Answer) : Type 0 where
+abbrev given_by : Keeping → Delivery → List Answer
+given_by s d = late s d ++ own_answers (due d s.followed) d s (applied d s)
+
+abbrev given_at : Keeping → Install → List Answer
+given_at s i = map (back i.view.id) s.followed.waiting ++ flat_map (told s.followed.own (table_in i s) i.view.id 0) s.queued
+
+record IsGrant (u new : Keeping) (h : Event) (token : Token) (a : Answer) : Type 0 where
   name : List ℕ
   asks : AsksFor u a.ticket name h
-  holds : standing u.own name (heard u h).copy ≡ Holds token
+  holds : standing u.followed.own name new.followed.copy ≡ Holds token
 
-delivery-grants : (u : Keeping) (d : Delivery) (token : Token) (a : Answer) → Contains (answers_by u (Delivered d)) a → a.fate ≡ Granted token → IsGrant u (Delivered d) token a
-delivery-grants u d token a = by (same_address d.member u.own) (same_address d.message.sender u.own) refl refl where
-  copy-is : (own : Bool) → same_address d.member u.own ≡ true → same_address d.message.sender u.own ≡ own → (heard u (Delivered d)).copy ≡ applied d u
-  copy-is true e f = rw (e, f) refl
-  copy-is false e f = rw (e, f) refl
+abbrev Grants : Keeping → Answer → Token → Event → Keeping → List Answer → Type 0
+Grants u a token h new l = Contains l a → a.fate ≡ Granted token → IsGrant u new h token a
 
-  late : (own : Bool) → same_address d.member u.own ≡ true → same_address d.message.sender u.own ≡ own → Contains (flat_map (told u.own (applied d u) d.view (next_place u.place)) u.queued) a → a.fate ≡ Granted token → IsGrant u (Delivered d) token a
-  late own e f c g = let x = late-grants u.own (applied d u) d.view (next_place u.place) u.queued token a c g in
-      record { name = x.name; asks = inl x.queued; holds = ap (standing u.own x.name) (copy-is own e f) ∙ x.holds }
+delivery-grants : (u : Keeping) (a : Answer) (token : Token) (d : Delivery) → Grants u a token (Delivered d) (delivered d u) (given_by u d)
+delivery-grants u a token d c g = by (Contains-append_cases (late u d) (own_answers (due d u.followed) d u (applied d u)) a c) where
+  by : Contains (late u d) a ⊎ Contains (own_answers (due d u.followed) d u (applied d u)) a → IsGrant u (delivered d u) (Delivered d) token a
+  by (inl told) = let x = late-grants u.followed.own (applied d u) d.view (next_place u.followed.place) u.queued token a told g in record { name = x.name; asks = inl x.queued; holds = x.holds }
+  by (inr said) = let x = early-grants u d token a said g in record { name = x.name; asks = inr (x.ticket.0, x.ticket.1, x.view, x.asks); holds = x.holds }
 
-  own-grant : same_address d.member u.own ≡ true → same_address d.message.sender u.own ≡ true → Contains (own_answers (ticket_of d.message.number u.waiting) d u (applied d u)) a → a.fate ≡ Granted token → IsGrant u (Delivered d) token a
-  own-grant e f c g = let x = early-grants u d token a c g in
-      record { name = x.name; asks = inr (f, x.ticket, x.view, x.asks); holds = ap (standing u.own x.name) (copy-is true e f) ∙ x.holds }
+install-grants : (u : Keeping) (a : Answer) (token : Token) (i : Install) → Grants u a token (Installed i) (installed i u) (given_at u i)
+install-grants u a token i c g = by (Contains-append_cases (map (back i.view.id) u.followed.waiting) (flat_map (told u.followed.own (table_in i u) i.view.id 0) u.queued) a c) where
+  by : Contains (map (back i.view.id) u.followed.waiting) a ⊎ Contains (flat_map (told u.followed.own (table_in i u) i.view.id 0) u.queued) a → IsGrant u (installed i u) (Installed i) token a
+  by (inl handed) = absurd (no-back-grants i.view.id u.followed.waiting a token handed g)
+  by (inr told) = let x = late-grants u.followed.own (table_in i u) i.view.id 0 u.queued token a told g in record { name = x.name; asks = inl x.queued; holds = x.holds }
 
-  either : same_address d.member u.own ≡ true → same_address d.message.sender u.own ≡ true
-      → Contains (flat_map (told u.own (applied d u) d.view (next_place u.place)) u.queued) a ⊎ Contains (own_answers (ticket_of d.message.number u.waiting) d u (applied d u)) a
-      → a.fate ≡ Granted token → IsGrant u (Delivered d) token a
-  either e f (inl c) g = late true e f c g
-  either e f (inr c) g = own-grant e f c g
+event-grants : (u : Keeping) (a : Answer) (token : Token) (h : Event) → Grants u a token h (heard u h) (answers_by u h)
+event-grants u a token h = by-own (Grants u a token) u.followed.own (λ d. delivered d u) (λ i. installed i u) u (given_by u) (given_at u) []
+    (λ d here. delivery-grants u a token d) (λ i here. install-grants u a token i) (λ h c g. absurd (nothing-stands a c)) h
 
-  other : same_address d.member u.own ≡ true → same_address d.message.sender u.own ≡ false
-      → Contains (flat_map (told u.own (applied d u) d.view (next_place u.place)) u.queued) a ⊎ Contains [] a → a.fate ≡ Granted token → IsGrant u (Delivered d) token a
-  other e f (inl c) g = late false e f c g
-  other e f (inr c) g = absurd (nothing-stands a c)
+-- ---- what it knows, and what stays
 
-  by : (here own : Bool) → same_address d.member u.own ≡ here → same_address d.message.sender u.own ≡ own
-      → Contains (if here then flat_map (told u.own (applied d u) d.view (next_place u.place)) u.queued ++ (if own then own_answers (ticket_of d.message.number u.waiting) d u (applied d u) else []) else []) a
-      → a.fate ≡ Granted token → IsGrant u (Delivered d) token a
-  by true true e f c g = either e f (Contains-append_cases (flat_map (told u.own (applied d u) d.view (next_place u.place)) u.queued) (own_answers (ticket_of d.message.number u.waiting) d u (applied d u)) a c) g
-  by true false e f c g = other e f (Contains-append_cases (flat_map (told u.own (applied d u) d.view (next_place u.place)) u.queued) [] a c) g
-  by false own e f c g = absurd (nothing-stands a c)
+followed-one : (s : Keeping) (h : Event) → (heard s h).followed ≡ after_event table_meaning s.followed h
+followed-one s h = by-own (λ h (x : Keeping) (f : Followed Table). x.followed ≡ f) s.followed.own (λ d. delivered d s) (λ i. installed i s) s
+    (λ d. after_delivery table_meaning d s.followed) (λ i. after_install table_meaning i s.followed) s.followed (λ d e. refl) (λ i e. refl) (λ h. refl) h
 
-install-grants : (u : Keeping) (i : Install) (token : Token) (a : Answer) → Contains (answers_by u (Installed i)) a → a.fate ≡ Granted token → IsGrant u (Installed i) token a
-install-grants u i token a = by (same_address i.member u.own) refl where
-  copy-is : same_address i.member u.own ≡ true → (heard u (Installed i)).copy ≡ table_in i u
-  copy-is e = rw e refl
+pub follows : (s : Keeping) (t : List Event) → Follows table_meaning s.followed (heard_all s t).followed t
+follows s t = service-follows table_meaning heard (λ (x : Keeping). x.followed) followed-one s t
 
-  either : same_address i.member u.own ≡ true → Contains (map (back i.view.id) u.waiting) a ⊎ Contains (flat_map (told u.own (table_in i u) i.view.id 0) u.queued) a → a.fate ≡ Granted token → IsGrant u (Installed i) token a
-  either e (inl c) g = absurd (no-back-grants i.view.id u.waiting a token c g)
-  either e (inr c) g = let x = late-grants u.own (table_in i u) i.view.id 0 u.queued token a c g in
-      record { name = x.name; asks = inl x.queued; holds = ap (standing u.own x.name) (copy-is e) ∙ x.holds }
+answers-one : (s : Keeping) (h : Event) → (heard s h).answers ≡ s.answers ++ answers_by s h
+answers-one s h = by-own (λ h (x : Keeping) (l : List Answer). x.answers ≡ s.answers ++ l) s.followed.own (λ d. delivered d s) (λ i. installed i s) s (given_by s) (given_at s) []
+    (λ d e. append_assoc s.answers (late s d) (own_answers (due d s.followed) d s (applied d s)))
+    (λ i e. append_assoc s.answers (map (back i.view.id) s.followed.waiting) (flat_map (told s.followed.own (table_in i s) i.view.id 0) s.queued))
+    (λ h. sym (append-nil s.answers)) h
 
-  by : (here : Bool) → same_address i.member u.own ≡ here → Contains (if here then map (back i.view.id) u.waiting ++ flat_map (told u.own (table_in i u) i.view.id 0) u.queued else []) a → a.fate ≡ Granted token → IsGrant u (Installed i) token a
-  by true e c g = either e (Contains-append_cases (map (back i.view.id) u.waiting) (flat_map (told u.own (table_in i u) i.view.id 0) u.queued) a c) g
-  by false e c g = absurd (nothing-stands a c)
-
-event-grants : (u : Keeping) (h : Event) (token : Token) (a : Answer) → Contains (answers_by u h) a → a.fate ≡ Granted token → IsGrant u h token a
-event-grants u (Started p) token a c g = absurd (nothing-stands a c)
-event-grants u (Sent m) token a c g = absurd (nothing-stands a c)
-event-grants u (Delivered d) token a c g = delivery-grants u d token a c g
-event-grants u (Blocked p) token a c g = absurd (nothing-stands a c)
-event-grants u (Installed i) token a c g = install-grants u i token a c g
-event-grants u (Left p) token a c g = absurd (nothing-stands a c)
-event-grants u (Crashed p) token a c g = absurd (nothing-stands a c)
+pub answers-stay : (s : Keeping) (t : List Event) → (heard_all s t).answers ≡ s.answers ++ answers_to s t
+answers-stay s t = stay heard answers_by (λ (x : Keeping). x.answers) answers-one s t
 
 -- ---- the law
 
 pub true-grants : (s : Keeping) (t : List Event) → GrantsAreTrue s t
 true-grants s t a token c e =
-    let g = given s t a c in
+    let g = given heard answers_by s t a c in
     let u = heard_all s (take g.0 t) in
-    let x = event-grants u g.1 token a g.3 e in
-    let own : u.own ≡ s.own = (follows s (take g.0 t)).own in
-    let next : heard_all s (take (suc g.0) t) ≡ heard u g.1 = next-heard s t g.0 g.1 g.2 in
-    let copy : (heard u g.1).copy ≡ fold (state_after table_meaning s.own) s.copy (take (suc g.0) t) = ap (λ (k : Keeping). k.copy) (sym next) ∙ (follows s (take (suc g.0) t)).copy in (
+    let x = event-grants u a token g.1 g.3 e in
+    let own : u.followed.own ≡ s.followed.own = (follows s (take g.0 t)).own in
+    let next : heard_all s (take (suc g.0) t) ≡ heard u g.1 = next-heard heard s t g.0 g.1 g.2 in
+    let copy : (heard u g.1).followed.copy ≡ fold (state_after table_meaning s.followed.own) s.followed.copy (take (suc g.0) t)
+    = ap (λ (k : Keeping). k.followed.copy) (sym next) ∙ (follows s (take (suc g.0) t)).copy in (
       g.0,
       x.name,
       record {
         event = g.1;
         stands = g.2;
         asks = x.asks;
-        holds = ap (λ (p : Address). standing p x.name (fold (state_after table_meaning s.own) s.copy (take (suc g.0) t))) (sym own)
-            ∙ ap (standing u.own x.name) (sym copy) ∙ x.holds;
+        holds = ap (λ (p : Address). standing p x.name (fold (state_after table_meaning s.followed.own) s.followed.copy (take (suc g.0) t))) (sym own)
+            ∙ ap (standing u.followed.own x.name) (sym copy) ∙ x.holds;
       },
     )

@@ -1,3 +1,2 @@
-pub mod EventsServed
 pub mod GrantsWereAsked
 pub mod WaitersAreKept

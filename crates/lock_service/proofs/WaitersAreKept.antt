@@ -1,18 +1,18 @@
 -- The member waits for each lock that somebody waits for; and who waits or is answered is so as often as before.
-use Rattle.std.proofs.Common.{◌≡◌, ℕ, ◌+◌, ◌==◌, Bool, true, false, List, [], ◌∷◌, ◌++◌, map, cond, Option, None, Some, count_by, refl, sym, ap, subst, ◌∙◌, arith}
+use Rattle.std.proofs.Common.{◌≡◌, ℕ, ◌+◌, ◌==◌, Bool, true, false, List, [], ◌∷◌, ◌++◌, map, cond, Option, None, Some, count_by, refl, ap, ◌∙◌, arith}
 use Rattle.std.specs.List.{AllByRecursion, filter, flat_map}
 use Rattle.std.proofs.lemmas.List.Sums.{sum_by-cons, sum_by-append}
-use Rattle.address.specs.Ids.{Address, ViewId, same_address}
+use Rattle.address.specs.Ids.{Address, ViewId}
 use Rattle.trace_props.specs.declared.event.Event.{Event}
-use Rattle.trace_props.specs.declared.event.Event.TheVariants.{Started, Sent, Delivered, Blocked, Installed, Left, Crashed}
 use Rattle.trace_props.specs.declared.event.Delivery.{Delivery}
 use Rattle.trace_props.specs.declared.event.Install.{Install}
 use Rattle.lock_table.specs.Locks.{Table}
 use Rattle.lock_table.specs.Commands.{command_of}
-use Rattle.tickets.specs.declared.Waiting.{Waiting}
-use Rattle.tickets.specs.Waits.{ticket_of, others_of, waits_with}
-use Rattle.tickets.specs.Places.{next_place}
-use Rattle.tickets.proofs.FirstWaits.{is_taken, taken-once}
+use Rattle.followed_events.specs.Places.{next_place}
+use Rattle.followed_events.specs.Followed.{due}
+use Rattle.followed_events.proofs.FirstWaits.{is_taken, backs}
+use Rattle.followed_events.proofs.OwnEvents.{by-own, kept-all}
+use Rattle.followed_events.proofs.EventsFollowed.{due-once}
 use Rattle.lock_service.specs.declared.standing.Standing.{Standing}
 use Rattle.lock_service.specs.declared.standing.Standing.TheVariants.{Holds, Waits, Apart}
 use Rattle.lock_service.specs.declared.answer.Answer.{Answer}
@@ -22,7 +22,7 @@ use Rattle.lock_service.specs.declared.answer.Queued.{Queued}
 use Rattle.lock_service.specs.declared.answer.Fate.{Fate}
 use Rattle.lock_service.specs.declared.answer.Fate.TheVariants.{Granted, Full, Gone}
 use Rattle.lock_service.specs.Standings.{standing, is_waiting}
-use Rattle.lock_service.specs.Keeping.{Keeping, heard, applied, answer_of, told_of, told, late_fate, first_verdict, early, verdict, queue_as, queue_by, own_answers, own_queued, back, table_in, still_waits}
+use Rattle.lock_service.specs.Keeping.{Keeping, heard, delivered, installed, applied, late, answer_of, told_of, told, late_fate, first_verdict, early, verdict, queue_as, queue_by, own_answers, own_queued, back, table_in, still_waits}
 use Rattle.lock_service.specs.Answers.{heard_all, AllWait, waits_often, answered_often}
 
 abbrev AllStill : Address → Table → List Queued → Type 0
@@ -48,31 +48,20 @@ queued-by : (own : Address) (s : Table) (ticket : ℕ) (x : Early) → AllStill 
 queued-by own s ticket (Told f) = tt
 queued-by own s ticket (Asks name) = queued-as own s ticket name (standing own name s) refl
 
-own-still : (o : Option ℕ) (d : Delivery) (s : Keeping) → AllStill s.own (applied d s) (own_queued o d s (applied d s))
+own-still : (o : Option ℕ) (d : Delivery) (s : Keeping) → AllStill s.followed.own (applied d s) (own_queued o d s (applied d s))
 own-still None d s = tt
-own-still (Some ticket) d s = queued-by s.own (applied d s) ticket (early s.own s.copy (command_of d.message.payload))
+own-still (Some ticket) d s = queued-by s.followed.own (applied d s) ticket (early s.followed.own s.followed.copy (command_of d.message.payload))
 
-delivery-waits : (s : Keeping) (d : Delivery) (here own : Bool) → same_address d.member s.own ≡ here → same_address d.message.sender s.own ≡ own → AllWait s → AllWait (heard s (Delivered d))
-delivery-waits s d true true e f all = rw (e, f) (all-append s.own (applied d s) (filter (still_waits s.own (applied d s)) s.queued) (own_queued (ticket_of d.message.number s.waiting) d s (applied d s)) (all-still s.own (applied d s) s.queued) (own-still (ticket_of d.message.number s.waiting) d s))
-delivery-waits s d true false e f all = rw (e, f) (all-still s.own (applied d s) s.queued)
-delivery-waits s d false own e f all = rw e all
-
-install-waits : (s : Keeping) (i : Install) (here : Bool) → same_address i.member s.own ≡ here → AllWait s → AllWait (heard s (Installed i))
-install-waits s i true e all = rw e (all-still s.own (table_in i s) s.queued)
-install-waits s i false e all = rw e all
+delivery-waits : (s : Keeping) (d : Delivery) → AllWait (delivered d s)
+delivery-waits s d = all-append s.followed.own (applied d s) (filter (still_waits s.followed.own (applied d s)) s.queued) (own_queued (due d s.followed) d s (applied d s))
+    (all-still s.followed.own (applied d s) s.queued) (own-still (due d s.followed) d s)
 
 event-waits : (s : Keeping) (h : Event) → AllWait s → AllWait (heard s h)
-event-waits s (Started p) all = all
-event-waits s (Sent m) all = all
-event-waits s (Delivered d) all = delivery-waits s d (same_address d.member s.own) (same_address d.message.sender s.own) refl refl all
-event-waits s (Blocked p) all = all
-event-waits s (Installed i) all = install-waits s i (same_address i.member s.own) refl all
-event-waits s (Left p) all = all
-event-waits s (Crashed p) all = all
+event-waits s h = by-own (λ h (x y : Keeping). AllWait s → AllWait x) s.followed.own (λ d. delivered d s) (λ i. installed i s) s (λ d. delivered d s) (λ i. installed i s) s
+    (λ d e all. delivery-waits s d) (λ i e all. all-still s.followed.own (table_in i s) s.queued) (λ h all. all) h
 
 pub all-wait : (s : Keeping) (t : List Event) → AllWait s → AllWait (heard_all s t)
-all-wait s [] all = all
-all-wait s (h ∷ t) all = all-wait (heard s h) t (event-waits s h all)
+all-wait s t all = kept-all heard AllWait event-waits s t all
 
 -- ---- tickets
 
@@ -130,55 +119,33 @@ settled-by ticket n view place own new (Asks name) = settled-as ticket n view pl
 own-settled : (ticket : ℕ) (o : Option ℕ) (d : Delivery) (s : Keeping)
     → queued_with ticket (own_queued o d s (applied d s)) + answers_with ticket (own_answers o d s (applied d s)) ≡ is_taken ticket o
 own-settled ticket None d s = refl
-own-settled ticket (Some n) d s = settled-by ticket n d.view (next_place s.place) s.own (applied d s) (early s.own s.copy (command_of d.message.payload))
-
-backs : (view : ViewId) (ws : List Waiting) (ticket : ℕ) → answers_with ticket (map (back view) ws) ≡ waits_with ticket ws
-backs view [] ticket = refl
-backs view (w ∷ ws) ticket =
-    sum_by-cons (λ a. cond (a.ticket == ticket) 1 0) (back view w) (map (back view) ws)
-    ∙ ap (λ (n : ℕ). cond (w.ticket == ticket) 1 0 + n) (backs view ws ticket)
-    ∙ sym (sum_by-cons (λ v. cond (v.ticket == ticket) 1 0) w ws)
+own-settled ticket (Some n) d s = settled-by ticket n d.view (next_place s.followed.place) s.followed.own (applied d s) (early s.followed.own s.followed.copy (command_of d.message.payload))
 
 abbrev KeepsTickets : Keeping → Keeping → Type 0
 KeepsTickets old new = (ticket : ℕ) → waits_often ticket new + answered_often ticket new ≡ waits_often ticket old + answered_often ticket old
 
-abbrev late : Keeping → Delivery → List Answer
-late s d = flat_map (told s.own (applied d s) d.view (next_place s.place)) s.queued
-
-delivery-keeps : (s : Keeping) (d : Delivery) (here own : Bool) → same_address d.member s.own ≡ here → same_address d.message.sender s.own ≡ own → KeepsTickets s (heard s (Delivered d))
-delivery-keeps s d true true e f = λ ticket.
-    let o = ticket_of d.message.number s.waiting in
-    let part = parted ticket s.own (applied d s) d.view (next_place s.place) s.queued in
+delivery-keeps : (s : Keeping) (d : Delivery) → KeepsTickets s (delivered d s)
+delivery-keeps s d = λ ticket.
+    let o = due d s.followed in
+    let part = parted ticket s.followed.own (applied d s) d.view (next_place s.followed.place) s.queued in
     let once = own-settled ticket o d s in
-    let taken = taken-once d.message.number s.waiting ticket in
+    let taken = due-once d s.followed ticket in
     let first = answers-more ticket s.answers (late s d) in
     let then = answers-more ticket (s.answers ++ late s d) (own_answers o d s (applied d s)) in
-    let more = queued-more ticket (filter (still_waits s.own (applied d s)) s.queued) (own_queued o d s (applied d s)) in
-    rw (e, f) (omega (arith, part, once, taken, first, then, more))
-delivery-keeps s d true false e f = λ ticket.
-    let part = parted ticket s.own (applied d s) d.view (next_place s.place) s.queued in
-    let first = answers-more ticket s.answers (late s d) in
-    rw (e, f) (omega (arith, part, first))
-delivery-keeps s d false own e f = λ ticket. rw e refl
+    let more = queued-more ticket (filter (still_waits s.followed.own (applied d s)) s.queued) (own_queued o d s (applied d s)) in
+    omega (arith, part, once, taken, first, then, more)
 
-install-keeps : (s : Keeping) (i : Install) (here : Bool) → same_address i.member s.own ≡ here → KeepsTickets s (heard s (Installed i))
-install-keeps s i true e = λ ticket.
-    let part = parted ticket s.own (table_in i s) i.view.id 0 s.queued in
-    let all = backs i.view.id s.waiting ticket in
-    let first = answers-more ticket s.answers (map (back i.view.id) s.waiting) in
-    let then = answers-more ticket (s.answers ++ map (back i.view.id) s.waiting) (flat_map (told s.own (table_in i s) i.view.id 0) s.queued) in
-    rw e (omega (arith, part, all, first, then))
-install-keeps s i false e = λ ticket. rw e refl
+install-keeps : (s : Keeping) (i : Install) → KeepsTickets s (installed i s)
+install-keeps s i = λ ticket.
+    let part = parted ticket s.followed.own (table_in i s) i.view.id 0 s.queued in
+    let all = backs (λ (a : Answer). a.ticket) (back i.view.id) (λ w. refl) s.followed.waiting ticket in
+    let first = answers-more ticket s.answers (map (back i.view.id) s.followed.waiting) in
+    let then = answers-more ticket (s.answers ++ map (back i.view.id) s.followed.waiting) (flat_map (told s.followed.own (table_in i s) i.view.id 0) s.queued) in
+    omega (arith, part, all, first, then)
 
-after : (s : Keeping) (h : Event) → KeepsTickets s (heard s h)
-after s (Started p) = λ ticket. refl
-after s (Sent m) = λ ticket. refl
-after s (Delivered d) = delivery-keeps s d (same_address d.member s.own) (same_address d.message.sender s.own) refl refl
-after s (Blocked p) = λ ticket. refl
-after s (Installed i) = install-keeps s i (same_address i.member s.own) refl
-after s (Left p) = λ ticket. refl
-after s (Crashed p) = λ ticket. refl
+event-keeps : (s : Keeping) (h : Event) → KeepsTickets s (heard s h)
+event-keeps s h = by-own (λ h (x y : Keeping). KeepsTickets s x) s.followed.own (λ d. delivered d s) (λ i. installed i s) s (λ d. delivered d s) (λ i. installed i s) s
+    (λ d e. delivery-keeps s d) (λ i e. install-keeps s i) (λ h ticket. refl) h
 
 pub forgets-nobody : (s : Keeping) (t : List Event) → KeepsTickets s (heard_all s t)
-forgets-nobody s [] = λ ticket. refl
-forgets-nobody s (h ∷ t) = λ ticket. forgets-nobody (heard s h) t ticket ∙ after s h ticket
+forgets-nobody s t = kept-all heard (KeepsTickets s) (λ u h (keeps : KeepsTickets s u) ticket. event-keeps u h ticket ∙ keeps ticket) s t (λ ticket. refl)

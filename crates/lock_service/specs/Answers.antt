@@ -1,62 +1,43 @@
 -- What a service knows after events, and what its answers say of them.
-use Rattle.std.specs.Prelude.{◌≡◌, ◌⊎◌, ℕ, ◌+◌, ◌&&◌, true, List, [], ◌∷◌, ◌++◌, map, fold, take, slice_get, Some, suc, count_by, ◌==◌, if◌then◌else◌}
+use Rattle.std.specs.Prelude.{◌≡◌, ◌⊎◌, ℕ, ◌+◌, true, List, [], ◌++◌, map, fold, take, slice_get, Some, suc, count_by, ◌==◌}
 use Rattle.std.specs.List.{AllByRecursion, Contains, flat_map}
-use Rattle.address.specs.Ids.{Address, ViewId, same_address}
+use Rattle.address.specs.Ids.{ViewId, same_address}
 use Rattle.trace_props.specs.declared.event.Event.{Event}
 use Rattle.trace_props.specs.declared.event.Event.TheVariants.{Started, Sent, Delivered, Blocked, Installed, Left, Crashed}
-use Rattle.trace_props.specs.Observed.{view_after}
 use Rattle.trace_props.specs.State.{state_after}
 use Rattle.lock_table.specs.declared.command.Command.TheVariants.{Acquire}
 use Rattle.tokens.specs.declared.token.Token.{Token}
 use Rattle.lock_table.specs.Commands.{command_of}
 use Rattle.lock_table.specs.Meanings.{table_meaning}
-use Rattle.tickets.specs.Waits.{ticket_of, waits_with}
-use Rattle.tickets.specs.Places.{next_place, place_after}
+use Rattle.followed_events.specs.Waits.{ticket_of, waits_with}
+use Rattle.followed_events.specs.Services.{of_own, answers_given}
+use Rattle.followed_events.specs.Followed.{due}
 use Rattle.lock_service.specs.declared.standing.Standing.TheVariants.{Holds}
 use Rattle.lock_service.specs.declared.answer.Answer.{Answer}
 use Rattle.lock_service.specs.declared.answer.Fate.TheVariants.{Granted}
 use Rattle.lock_service.specs.Standings.{standing}
-use Rattle.lock_service.specs.Keeping.{Keeping, heard, applied, told, own_answers, back, table_in, still_waits}
+use Rattle.lock_service.specs.Keeping.{Keeping, heard, applied, late, told, own_answers, back, table_in, still_waits}
 
 abbrev pub heard_all : Keeping → List Event → Keeping
 heard_all s t = fold heard s t
-
--- ---- the state
-
--- it knows the view, the place and the state that the events say
-pub record Follows (s : Keeping) (t : List Event) : Type 0 where
-  pub own : (heard_all s t).own ≡ s.own
-  pub view : (heard_all s t).view ≡ fold (view_after s.own) s.view t
-  pub place : (heard_all s t).place ≡ fold (place_after s.own) s.place t
-  pub copy : (heard_all s t).copy ≡ fold (state_after table_meaning s.own) s.copy t
 
 -- ---- answers
 
 -- the answers that an event gives
 abbrev pub answers_by : Keeping → Event → List Answer
-answers_by s (Started p) = []
-answers_by s (Sent m) = []
-answers_by s (Delivered d) =
-    if same_address d.member s.own
-    then flat_map (told s.own (applied d s) d.view (next_place s.place)) s.queued
-    ++ (if same_address d.message.sender s.own then own_answers (ticket_of d.message.number s.waiting) d s (applied d s) else [])
-    else []
-answers_by s (Blocked p) = []
-answers_by s (Installed i) = if same_address i.member s.own then map (back i.view.id) s.waiting ++ flat_map (told s.own (table_in i s) i.view.id 0) s.queued else []
-answers_by s (Left p) = []
-answers_by s (Crashed p) = []
+answers_by s h = of_own s.followed.own (λ d. late s d ++ own_answers (due d s.followed) d s (applied d s))
+    (λ i. map (back i.view.id) s.followed.waiting ++ flat_map (told s.followed.own (table_in i s) i.view.id 0) s.queued) [] h
 
 -- those that events give, one after another
 abbrev pub answers_to : Keeping → List Event → List Answer
-answers_to s [] = []
-answers_to s (h ∷ t) = answers_by s h ++ answers_to (heard s h) t
+answers_to s t = answers_given heard answers_by s t
 
 -- an event is the delivery of an own message by which a ticket asks for a lock
 abbrev pub AsksBy : Keeping → ℕ → List ℕ → Event → Type 0
 AsksBy s ticket name (Started p) = ⊥
 AsksBy s ticket name (Sent m) = ⊥
 AsksBy s ticket name (Delivered d) =
-    (same_address d.message.sender s.own ≡ true) × (ticket_of d.message.number s.waiting ≡ Some ticket) × (view : ViewId) × (command_of d.message.payload ≡ Some (Acquire view name))
+    (same_address d.message.sender s.followed.own ≡ true) × (ticket_of d.message.number s.followed.waiting ≡ Some ticket) × (view : ViewId) × (command_of d.message.payload ≡ Some (Acquire view name))
 AsksBy s ticket name (Blocked p) = ⊥
 AsksBy s ticket name (Installed i) = ⊥
 AsksBy s ticket name (Left p) = ⊥
@@ -71,7 +52,7 @@ pub record IsGrantedAt (s : Keeping) (t : List Event) (k : ℕ) (name : List ℕ
   pub event : Event
   pub stands : slice_get t k ≡ Some event
   pub asks : AsksFor (heard_all s (take k t)) a.ticket name event
-  pub holds : standing s.own name (fold (state_after table_meaning s.own) s.copy (take (suc k) t)) ≡ Holds token
+  pub holds : standing s.followed.own name (fold (state_after table_meaning s.followed.own) s.followed.copy (take (suc k) t)) ≡ Holds token
 
 -- who is told that a lock is granted asked for it, and its member holds it at that place of the trace, with the token that is named
 abbrev pub GrantsAreTrue : Keeping → List Event → Type 0
@@ -81,13 +62,13 @@ GrantsAreTrue s t = (a : Answer) (token : Token) → Contains (answers_to s t) a
 
 -- the member waits for each lock that somebody waits for: so who still waits has missed no grant
 abbrev pub AllWait : Keeping → Type 0
-AllWait s = AllByRecursion (λ q. still_waits s.own s.copy q ≡ true) s.queued
+AllWait s = AllByRecursion (λ q. still_waits s.followed.own s.followed.copy q ≡ true) s.queued
 
 -- ---- tickets
 
 -- how often a ticket waits for a message, or for a lock
 abbrev pub waits_often : ℕ → Keeping → ℕ
-waits_often ticket s = waits_with ticket s.waiting + count_by (λ q. q.ticket == ticket) s.queued
+waits_often ticket s = waits_with ticket s.followed.waiting + count_by (λ q. q.ticket == ticket) s.queued
 
 -- and how often it is answered
 abbrev pub answered_often : ℕ → Keeping → ℕ

@@ -1,21 +1,19 @@
 -- What a node that keeps the table of locks knows by what happened to its member, and what it answers to those who ask for locks.
-use Rattle.std.specs.Prelude.{ℕ, ◌==◌, Bool, List, [], ◌∷◌, ◌++◌, map, Option, None, Some, unwrap_or, if◌then◌else◌}
+use Rattle.std.specs.Prelude.{ℕ, ◌==◌, Bool, List, [], ◌∷◌, ◌++◌, map, Option, None, Some}
 use Rattle.std.specs.List.{filter, flat_map, list_any}
-use Rattle.std.specs.Option.{option_and_then}
-use Rattle.address.specs.Ids.{Address, ViewId, same_address}
+use Rattle.address.specs.Ids.{Address, ViewId}
 use Rattle.trace_props.specs.declared.event.Event.{Event}
-use Rattle.trace_props.specs.declared.event.Event.TheVariants.{Started, Sent, Delivered, Blocked, Installed, Left, Crashed}
 use Rattle.trace_props.specs.declared.event.Delivery.{Delivery}
 use Rattle.trace_props.specs.declared.event.Install.{Install}
 use Rattle.lock_table.specs.declared.command.Command.{Command}
 use Rattle.lock_table.specs.declared.command.Command.TheVariants.{Acquire, Release, Roll}
 use Rattle.lock_table.specs.Locks.{Table}
 use Rattle.lock_table.specs.Commands.{command_of, table_apply}
-use Rattle.lock_table.specs.Encoding.{table_decode}
-use Rattle.lock_table.specs.Meanings.{no_locks}
-use Rattle.tickets.specs.declared.Waiting.{Waiting}
-use Rattle.tickets.specs.Waits.{ticket_of, others_of}
-use Rattle.tickets.specs.Places.{next_place}
+use Rattle.lock_table.specs.Meanings.{table_meaning}
+use Rattle.followed_events.specs.declared.waiting.Waiting.{Waiting}
+use Rattle.followed_events.specs.Places.{next_place}
+use Rattle.followed_events.specs.Services.{of_own}
+use Rattle.followed_events.specs.Followed.{Followed, nothing_followed, noting, due, state_in, after_delivery, after_install}
 use Rattle.lock_service.specs.declared.standing.Standing.{Standing}
 use Rattle.lock_service.specs.declared.standing.Standing.TheVariants.{Holds, Waits, Apart}
 use Rattle.lock_service.specs.declared.answer.Answer.{Answer}
@@ -26,24 +24,19 @@ use Rattle.lock_service.specs.declared.answer.Fate.{Fate}
 use Rattle.lock_service.specs.declared.answer.Fate.TheVariants.{Granted, Full, Gone, Released, NotHeld, NoRequest, HandedBack}
 use Rattle.lock_service.specs.Standings.{standing, is_waiting}
 
--- whose events it follows, its member's view, how many messages were delivered there, the table at that place, who waits for which of its own messages, who waits for which lock,
--- and the answers that nobody has taken
+-- what it knows of its member, with the table, which ticket waits for which lock, and the answers that nobody has taken
 pub record Keeping : Type 0 where
-  pub own : Address
-  pub view : Option ViewId
-  pub place : ℕ
-  pub copy : Table
-  pub waiting : List Waiting
+  pub followed : Followed Table
   pub queued : List Queued
   pub answers : List Answer
 
 -- nothing happened yet
 abbrev pub nothing_heard : Address → Keeping
-nothing_heard own = record { own = own; view = None; place = 0; copy = no_locks; waiting = []; queued = []; answers = [] }
+nothing_heard own = record { followed = nothing_followed table_meaning own; queued = []; answers = [] }
 
 -- a message of this number was sent for a ticket
 abbrev pub noted : ℕ → ℕ → Keeping → Keeping
-noted number ticket s = record s { waiting = s.waiting ++ record { number = number; ticket = ticket } ∷ [] }
+noted number ticket s = record s { followed = noting number ticket s.followed }
 
 -- only these tickets wait for locks
 abbrev pub kept_of : List ℕ → Keeping → Keeping
@@ -116,59 +109,42 @@ queue_by own new ticket (Asks name) = queue_as ticket name (standing own name ne
 -- for the ticket of the message, if it has one
 abbrev pub own_answers : Option ℕ → Delivery → Keeping → Table → List Answer
 own_answers None d s new = []
-own_answers (Some ticket) d s new = told_of ticket d.view (next_place s.place) (verdict s.own new (early s.own s.copy (command_of d.message.payload)))
+own_answers (Some ticket) d s new = told_of ticket d.view (next_place s.followed.place) (verdict s.followed.own new (early s.followed.own s.followed.copy (command_of d.message.payload)))
 
 abbrev pub own_queued : Option ℕ → Delivery → Keeping → Table → List Queued
 own_queued None d s new = []
-own_queued (Some ticket) d s new = queue_by s.own new ticket (early s.own s.copy (command_of d.message.payload))
+own_queued (Some ticket) d s new = queue_by s.followed.own new ticket (early s.followed.own s.followed.copy (command_of d.message.payload))
 
 -- ---- events
 
 -- the table after a message
 abbrev pub applied : Delivery → Keeping → Table
-applied d s = table_apply s.copy d.message.sender d.message.payload
+applied d s = table_apply s.followed.copy d.message.sender d.message.payload
 
--- its member delivers a message: the table goes on, those who wait for locks are told what became of it, and then who asked by this message, if it is the member's own
-abbrev pub passed : Delivery → Keeping → Keeping
-passed d s = record s {
-  place = next_place s.place;
-  copy = applied d s;
-  queued = filter (still_waits s.own (applied d s)) s.queued;
-  answers = s.answers ++ flat_map (told s.own (applied d s) d.view (next_place s.place)) s.queued;
-}
+-- those that wait for locks are told what became of it
+abbrev pub late : Keeping → Delivery → List Answer
+late s d = flat_map (told s.followed.own (applied d s) d.view (next_place s.followed.place)) s.queued
 
-abbrev pub settled : Option ℕ → Delivery → Keeping → Keeping → Keeping
-settled ticket d old s = record s {
-  waiting = others_of d.message.number s.waiting;
-  queued = s.queued ++ own_queued ticket d old s.copy;
-  answers = s.answers ++ own_answers ticket d old s.copy;
-}
-
+-- its member delivers a message: the table goes on, those that wait for locks are told what became of it, and then the ticket of this message, if it is the member's own
 abbrev pub delivered : Delivery → Keeping → Keeping
-delivered d s = if same_address d.message.sender s.own then settled (ticket_of d.message.number s.waiting) d s (passed d s) else passed d s
+delivered d s = record {
+  followed = after_delivery table_meaning d s.followed;
+  queued = filter (still_waits s.followed.own (applied d s)) s.queued ++ own_queued (due d s.followed) d s (applied d s);
+  answers = (s.answers ++ late s d) ++ own_answers (due d s.followed) d s (applied d s);
+}
 
 -- the table that an install gives, or the one that there was
 abbrev pub table_in : Install → Keeping → Table
-table_in i s = unwrap_or (option_and_then table_decode i.given) s.copy
+table_in i s = state_in table_meaning i s.followed
 
--- its member installs a view: all who wait for messages are told that these are handed back, and those who wait for locks what became of it
+-- its member installs a view: all that wait for messages are told that these are handed back, and those that wait for locks what became of it
 abbrev pub installed : Install → Keeping → Keeping
 installed i s = record {
-  own = s.own;
-  view = Some i.view.id;
-  place = 0;
-  copy = table_in i s;
-  waiting = [];
-  queued = filter (still_waits s.own (table_in i s)) s.queued;
-  answers = (s.answers ++ map (back i.view.id) s.waiting) ++ flat_map (told s.own (table_in i s) i.view.id 0) s.queued;
+  followed = after_install table_meaning i s.followed;
+  queued = filter (still_waits s.followed.own (table_in i s)) s.queued;
+  answers = (s.answers ++ map (back i.view.id) s.followed.waiting) ++ flat_map (told s.followed.own (table_in i s) i.view.id 0) s.queued;
 }
 
 -- one event; those of other members leave it as it is
 abbrev pub heard : Keeping → Event → Keeping
-heard s (Started p) = s
-heard s (Sent m) = s
-heard s (Delivered d) = if same_address d.member s.own then delivered d s else s
-heard s (Blocked p) = s
-heard s (Installed i) = if same_address i.member s.own then installed i s else s
-heard s (Left p) = s
-heard s (Crashed p) = s
+heard s h = of_own s.followed.own (λ d. delivered d s) (λ i. installed i s) s h

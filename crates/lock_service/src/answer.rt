@@ -1,16 +1,16 @@
 //! Who waits for a lock, and what each is told.
 
-ghost use Rattle.std.specs.Prelude.{◌≡◌, ◌+◌, ◌≤◌, ◌++◌, [], vec_len, vec_capacity, length, map};
+ghost use Rattle.std.specs.Prelude.{◌≡◌, ◌+◌, ◌≤◌, ◌++◌, vec_len, vec_capacity, length, map};
 ghost use Rattle.std.specs.List.{filter, flat_map};
 ghost use Rattle.lock_service.specs.Keeping.{late_fate, still_waits, told, back};
 
 use crate::standing::is_waiting;
 use crate::{Standing, standing_of};
 use address::{Address, ViewId};
+use followed_events::Waiting;
 use lock_table::{LockTable, Token};
 use owned_bytes::Bytes;
 use std::alloc::{AllocError, Global};
-use tickets::Waiting;
 
 /// What became of a request for a lock.
 #[derive(Clone, Copy, Debug, Drop)]
@@ -111,15 +111,14 @@ pub(crate) fn keep_waiting(own: &Address, copy: &LockTable, queued: &mut Vec<Que
     queued.retain(|waits| is_waiting(&standing_of(own, waits.name.as_slice(), copy)));
 }
 
-// Answers all who wait for a message that it is handed back.
-pub(crate) fn hand_back(view: ViewId, waiting: &mut Vec<Waiting>, answers: &mut Vec<Answer>)
-    requires { vec_len answers.old + vec_len waiting.old ≤ vec_capacity answers.old }
-    ensures waiting { waiting.new.items ≡ [] }
-    ensures answers { answers.new.items ≡ answers.old.items ++ map (back view) waiting.old.items }
+// Answers all that wait for a message that it is handed back.
+pub(crate) fn hand_back(view: ViewId, waiting: &[Waiting], answers: &mut Vec<Answer>)
+    requires { vec_len answers.old + length waiting.now ≤ vec_capacity answers.old }
+    ensures items { answers.new.items ≡ answers.old.items ++ map (back view) waiting.now }
     ensures room { vec_capacity answers.old ≤ vec_capacity answers.new }
-    ensures few { vec_len answers.new ≤ vec_len answers.old + vec_len waiting.old }
+    ensures few { vec_len answers.new ≤ vec_len answers.old + length waiting.now }
 {
-    for waits in waiting.iter() {
+    for waits in waiting {
         answers.push_reserved(Answer {
             ticket: waits.ticket,
             view,
@@ -127,5 +126,4 @@ pub(crate) fn hand_back(view: ViewId, waiting: &mut Vec<Waiting>, answers: &mut 
             fate: Fate::HandedBack,
         });
     }
-    waiting.clear();
 }

@@ -1,11 +1,13 @@
 ghost use Rattle.std.specs.Prelude.{◌≡◌, ℕ, ◌+◌, ◌++◌, List};
 ghost use Rattle.trace_props.specs.declared.event.Event.{Event};
+ghost use Rattle.lock_table.specs.Meanings.{table_meaning};
+ghost use Rattle.followed_events.specs.Followed.{Follows};
 ghost use Rattle.lock_service.specs.Keeping.{Keeping};
-ghost use Rattle.lock_service.specs.Answers.{AllWait, Follows, GrantsAreTrue, answered_often, answers_to, heard_all, waits_often};
+ghost use Rattle.lock_service.specs.Answers.{AllWait, GrantsAreTrue, answered_often, answers_to, heard_all, waits_often};
 
 /// The law of the copy: after any events the service knows the view, the place and the table that they say (docs/EMBEDDING.md, "What became of a request for a lock").
 pub fn follows()
-    ensures { (s : Keeping) (t : List Event) → Follows s t }
+    ensures { (s : Keeping) (t : List Event) → Follows table_meaning s.followed (heard_all s t).followed t }
 {}
 
 /// The law of grants, after any events. What was answered stays. Who is told that a lock is granted asked for it, and the member holds it at that place of the trace, with the

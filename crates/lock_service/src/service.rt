@@ -6,24 +6,19 @@ use crate::answer::{hand_back, keep_waiting, tell_all};
 use crate::own_message::{early_in, settle};
 use crate::{Answer, Queued};
 use address::{Address, ViewId};
+use followed_events::FollowedMember;
 use lock_table::LockTable;
-use state_transfer::Receiver;
 use std::alloc::{AllocError, Global};
 use std::marker::Model;
 use std::mem::replace;
-use tickets::{Waiting, take_ticket};
 use trace_props::{Delivery, Event, Install};
 
-/// What a node knows by the events of its member: the member's view, how many messages it delivered there, the table of locks at that place, who waits
-/// for which of its own messages, who waits for which lock, and the answers that nobody has taken.
+/// What a node knows by the events of its member, with a copy of the table of locks; which ticket waits for which lock; and the answers that nobody has
+/// taken.
 #[derive(Debug, Drop)]
 pub struct LockService {
     alloc: Global,
-    own: Address,
-    view: Option<ViewId>,
-    place: u64,
-    copy: LockTable,
-    waiting: Vec<Waiting>,
+    followed: FollowedMember<LockTable>,
     queued: Vec<Queued>,
     answers: Vec<Answer>,
 }
@@ -33,7 +28,7 @@ impl Model for LockService {
 
     ghost Value = { Keeping };
 
-    ghost view = { λ m. record { own = m.own; view = m.view; place = m.place; copy = m.copy; waiting = m.waiting.items; queued = m.queued.items; answers = m.answers.items } };
+    ghost view = { λ m. record { followed = m.followed; queued = m.queued.items; answers = m.answers.items } };
 }
 
 impl LockService {
@@ -43,11 +38,7 @@ impl LockService {
     {
         Ok(LockService {
             alloc,
-            own,
-            view: None,
-            place: 0,
-            copy: LockTable::opening(alloc)?,
-            waiting: Vec::new(alloc),
+            followed: FollowedMember::new(alloc, own)?,
             queued: Vec::new(alloc),
             answers: Vec::new(alloc),
         })
@@ -55,33 +46,33 @@ impl LockService {
 
     /// The table after all that was heard. Other members may have delivered more, or less.
     pub fn copy(&self) -> &LockTable
-        ensures { result.now ≡ self.now.copy }
+        ensures { result.now ≡ self.now.followed.copy }
     {
-        &self.copy
+        self.followed.copy()
     }
 
     /// The view that its member installed last; `None` before the first.
     pub fn view(&self) -> Option<ViewId>
-        ensures { result ≡ self.now.view }
+        ensures { result ≡ self.now.followed.view }
     {
-        self.view
+        self.followed.view()
     }
 
     /// How many messages its member delivered in this view.
     pub fn place(&self) -> u64
-        ensures { result ≡ self.now.place }
+        ensures { result ≡ self.now.followed.place }
     {
-        self.place
+        self.followed.place()
     }
 
-    /// How many wait for a message of its member.
+    /// How many tickets wait for a message of its member.
     pub fn waits(&self) -> usize
-        ensures { result ≡ length self.now.waiting }
+        ensures { result ≡ length self.now.followed.waiting }
     {
-        self.waiting.len()
+        self.followed.waits()
     }
 
-    /// How many wait for a lock.
+    /// How many tickets wait for a lock.
     pub fn queued(&self) -> usize
         ensures { result ≡ length self.now.queued }
     {
@@ -102,8 +93,7 @@ impl LockService {
         ensures ok { OnOk result (self.new ≡ noted number ticket self.old) }
         ensures err { OnErr result (self.new ≡ self.old) }
     {
-        self.waiting.push(Waiting { number, ticket })?;
-        Ok(())
+        self.followed.note(number, ticket)
     }
 
     /// Only tickets of this list wait for locks from now on: nobody asks any more what becomes of the others. Its member waits for their locks all the same.
@@ -134,20 +124,10 @@ impl LockService {
         ensures ok { OnOk result (self.new ≡ heard self.old event.now) }
         ensures err { OnErr result (self.new ≡ self.old) }
     {
+        let own = self.followed.own();
         match event {
-            Event::Delivered(delivery) => {
-                if delivery.member == self.own {
-                    return self.deliver(delivery);
-                }
-                Ok(())
-            }
-            Event::Installed(install) => {
-                let install = install.get();
-                if install.member == self.own {
-                    return self.install(install);
-                }
-                Ok(())
-            }
+            Event::Delivered(delivery) if delivery.member == own => self.deliver(delivery),
+            Event::Installed(install) if install.get().member == own => self.install(install.get()),
             _ => Ok(()),
         }
     }
@@ -157,36 +137,33 @@ impl LockService {
         ensures ok { OnOk result (self.new ≡ delivered delivery.now self.old) }
         ensures err { OnErr result (self.new ≡ self.old) }
     {
-        let message = &delivery.message;
-        let payload = message.payload.as_slice();
-        let early = early_in(self.alloc, &self.own, &self.copy, payload)?;
+        let own = self.followed.own();
+        let payload = delivery.message.payload.as_slice();
+        let early = early_in(self.alloc, &own, self.followed.copy(), payload)?;
         self.queued.reserve(1)?;
         let room = self.queued.len().saturating_add(1);
         self.answers.reserve(room)?;
-        self.copy.receive(message.sender, payload)?;
-        self.place = self.place.saturating_add(1);
+        let ticket = self.followed.deliver(delivery)?;
         tell_all(
-            &self.own,
-            &self.copy,
+            &own,
+            self.followed.copy(),
             delivery.view,
-            self.place,
+            self.followed.place(),
             self.queued.as_slice(),
             &mut self.answers,
         );
-        keep_waiting(&self.own, &self.copy, &mut self.queued);
-        if message.sender == self.own {
-            if let Some(ticket) = take_ticket(&mut self.waiting, message.number) {
-                settle(
-                    &self.own,
-                    &self.copy,
-                    ticket,
-                    delivery.view,
-                    self.place,
-                    early,
-                    &mut self.queued,
-                    &mut self.answers,
-                );
-            }
+        keep_waiting(&own, self.followed.copy(), &mut self.queued);
+        if let Some(ticket) = ticket {
+            settle(
+                &own,
+                self.followed.copy(),
+                ticket,
+                delivery.view,
+                self.followed.place(),
+                early,
+                &mut self.queued,
+                &mut self.answers,
+            );
         }
         Ok(())
     }
@@ -196,24 +173,21 @@ impl LockService {
         ensures ok { OnOk result (self.new ≡ installed install.now self.old) }
         ensures err { OnErr result (self.new ≡ self.old) }
     {
-        let room = self.waiting.len().saturating_add(self.queued.len());
-        self.answers.reserve(room)?;
-        if let Some(state) = &install.given {
-            let _taken = self.copy.set_state(state.as_slice())?;
-        }
+        let own = self.followed.own();
         let view = install.view.id();
-        self.view = Some(view);
-        self.place = 0;
-        hand_back(view, &mut self.waiting, &mut self.answers);
+        let room = self.followed.waits().saturating_add(self.queued.len());
+        self.answers.reserve(room)?;
+        let waiting = self.followed.install(install)?;
+        hand_back(view, waiting.as_slice(), &mut self.answers);
         tell_all(
-            &self.own,
-            &self.copy,
+            &own,
+            self.followed.copy(),
             view,
             0,
             self.queued.as_slice(),
             &mut self.answers,
         );
-        keep_waiting(&self.own, &self.copy, &mut self.queued);
+        keep_waiting(&own, self.followed.copy(), &mut self.queued);
         Ok(())
     }
 }

@@ -7,7 +7,7 @@ use Rattle.std.proofs.lemmas.List.Sums.{sum_by-insert}
 use Rattle.limits.specs.declared.TheConstants.{STATE}
 use Rattle.address.specs.Ids.{Address, ViewId, same_address}
 use Rattle.view.specs.Members.{stands_in}
-use Rattle.keyed_entries.specs.declared.Entry.{Entry}
+use Rattle.keyed_entries.specs.declared.KeyedEntry.{KeyedEntry}
 use Rattle.keyed_entries.specs.Entries.{entry_of, value_of, put, IsHeldAt, IsFreeAt}
 use Rattle.tokens.specs.declared.token.Token.{Token}
 use Rattle.tokens.specs.Tokens.{next_token}
@@ -21,7 +21,7 @@ remove-set (x ∷ xs) (suc i) y = ap (λ (l : List _). x ∷ l) (remove-set xs i
 
 -- ---- a release
 
-pub gone-freed : (p : Address) (view : ViewId) (k : List ℕ) (last : Token) (entries : List (Entry Lock)) (i : ℕ) (x : Entry Lock) (l : Lock) (token : Token) → IsHeldAt k entries i → slice_get entries i ≡ Some x
+pub gone-freed : (p : Address) (view : ViewId) (k : List ℕ) (last : Token) (entries : List (KeyedEntry Lock)) (i : ℕ) (x : KeyedEntry Lock) (l : Lock) (token : Token) → IsHeldAt k entries i → slice_get entries i ≡ Some x
     → IsLeft (others p) (left_to (others p) view last x.value) l token → same_address p l.holder ≡ true → table_of token (remove (set entries i (entry_of x.key l)) i) ≡ released p view k (table_of last entries)
 gone-freed p view k last entries i x l token held stands left is =
     let at : value_of k entries ≡ Some x.value = held.value x stands in
@@ -30,7 +30,7 @@ gone-freed p view k last entries i x l token held stands left is =
     let entries-are : remove (set entries i (entry_of x.key l)) i ≡ with_lock k o.lock entries = remove-set entries i (entry_of x.key l) ∙ sym held.takes ∙ ap (λ (m : Option Lock). with_lock k m entries) (sym free) in
     ap (table_of token) entries-are ∙ ap (λ (t : Token). table_of t (with_lock k o.lock entries)) (sym left.last) ∙ ap (gone_from p view k (table_of last entries)) (sym at)
 
-pub gone-kept : (p : Address) (view : ViewId) (k : List ℕ) (last : Token) (entries : List (Entry Lock)) (i : ℕ) (x : Entry Lock) (l : Lock) (token : Token) → IsHeldAt k entries i → slice_get entries i ≡ Some x
+pub gone-kept : (p : Address) (view : ViewId) (k : List ℕ) (last : Token) (entries : List (KeyedEntry Lock)) (i : ℕ) (x : KeyedEntry Lock) (l : Lock) (token : Token) → IsHeldAt k entries i → slice_get entries i ≡ Some x
     → IsLeft (others p) (left_to (others p) view last x.value) l token → same_address p l.holder ≡ false → table_of token (set entries i (entry_of x.key l)) ≡ released p view k (table_of last entries)
 gone-kept p view k last entries i x l token held stands left is =
     let at : value_of k entries ≡ Some x.value = held.value x stands in
@@ -57,13 +57,13 @@ either-way s new same = by (leb (table_size new.entries) STATE) where
   by false = refl
 
 -- what is asked for where a lock is held
-asked-held : (p : Address) (view : ViewId) (k : List ℕ) (last : Token) (entries : List (Entry Lock)) (l : Lock) → value_of k entries ≡ Some l → acquired p view k (table_of last entries) ≡ table_of last (put k (joined_by p l) entries)
+asked-held : (p : Address) (view : ViewId) (k : List ℕ) (last : Token) (entries : List (KeyedEntry Lock)) (l : Lock) → value_of k entries ≡ Some l → acquired p view k (table_of last entries) ≡ table_of last (put k (joined_by p l) entries)
 asked-held p view k last entries l at = ap (asked p view k (table_of last entries)) at
 
-pub set-same : (xs : List (Entry Lock)) (i : ℕ) (x : Entry Lock) → slice_get xs i ≡ Some x → set xs i x ≡ xs
+pub set-same : (xs : List (KeyedEntry Lock)) (i : ℕ) (x : KeyedEntry Lock) → slice_get xs i ≡ Some x → set xs i x ≡ xs
 set-same [] i x e = refl
-set-same (y ∷ xs) zero x e = let same : y ≡ x = cc in ap (λ (z : Entry Lock). z ∷ xs) (sym same)
-set-same (y ∷ xs) (suc i) x e = ap (λ (l : List (Entry Lock)). y ∷ l) (set-same xs i x e)
+set-same (y ∷ xs) zero x e = let same : y ≡ x = cc in ap (λ (z : KeyedEntry Lock). z ∷ xs) (sym same)
+set-same (y ∷ xs) (suc i) x e = ap (λ (l : List (KeyedEntry Lock)). y ∷ l) (set-same xs i x e)
 
 joined-there : (p : Address) (l : Lock) → stands_in p (queue l) ≡ true → joined_by p l ≡ l
 joined-there p l e = ap (λ (b : Bool). cond b l (record { holder = l.holder; token = l.token; waiters = l.waiters ++ p ∷ [] })) e
@@ -72,14 +72,14 @@ joined-new : (p : Address) (l : Lock) → stands_in p (queue l) ≡ false → le
 joined-new p l e = ap (λ (b : Bool). length (cond b l (record { holder = l.holder; token = l.token; waiters = l.waiters ++ p ∷ [] })).waiters) e ∙ length-append l.waiters (p ∷ [])
 
 -- one stands there already
-pub stands-already : (p : Address) (view : ViewId) (k : List ℕ) (last : Token) (entries : List (Entry Lock)) (i : ℕ) (x : Entry Lock) → IsHeldAt k entries i → slice_get entries i ≡ Some x → stands_in p (queue x.value) ≡ true
+pub stands-already : (p : Address) (view : ViewId) (k : List ℕ) (last : Token) (entries : List (KeyedEntry Lock)) (i : ℕ) (x : KeyedEntry Lock) → IsHeldAt k entries i → slice_get entries i ≡ Some x → stands_in p (queue x.value) ≡ true
     → table_of last entries ≡ within (table_of last entries) (acquired p view k (table_of last entries))
 stands-already p view k last entries i x held stands e =
     either-way (table_of last entries) (acquired p view k (table_of last entries))
     (asked-held p view k last entries x.value (held.value x stands) ∙ ap (λ (l : Lock). table_of last (put k l entries)) (joined-there p x.value e) ∙ ap (table_of last) (held.puts x x.value stands ∙ set-same entries i x stands))
 
 -- one waits
-pub joins : (p : Address) (view : ViewId) (k : List ℕ) (last : Token) (entries : List (Entry Lock)) (i : ℕ) (x : Entry Lock) (l : Lock) → IsHeldAt k entries i → slice_get entries i ≡ Some x → stands_in p (queue x.value) ≡ false → l ≡ joined_by p x.value → table_size entries + 6 ≤ STATE
+pub joins : (p : Address) (view : ViewId) (k : List ℕ) (last : Token) (entries : List (KeyedEntry Lock)) (i : ℕ) (x : KeyedEntry Lock) (l : Lock) → IsHeldAt k entries i → slice_get entries i ≡ Some x → stands_in p (queue x.value) ≡ false → l ≡ joined_by p x.value → table_size entries + 6 ≤ STATE
     → table_of last (set entries i (entry_of x.key l)) ≡ within (table_of last entries) (acquired p view k (table_of last entries))
 joins p view k last entries i x l held stands e is few =
     let at = held.value x stands in
@@ -90,7 +90,7 @@ joins p view k last entries i x l held stands e is few =
     ap (table_of last) puts ∙ sym new ∙ comes-in (table_of last entries) (acquired p view k (table_of last entries)) (omega (arith, sizes, size, joined-new p x.value e, few))
 
 -- one may not wait, since the state would be too long
-pub joins-not : (p : Address) (view : ViewId) (k : List ℕ) (last : Token) (entries : List (Entry Lock)) (i : ℕ) (x : Entry Lock) → IsHeldAt k entries i → slice_get entries i ≡ Some x → stands_in p (queue x.value) ≡ false → STATE < table_size entries + 6
+pub joins-not : (p : Address) (view : ViewId) (k : List ℕ) (last : Token) (entries : List (KeyedEntry Lock)) (i : ℕ) (x : KeyedEntry Lock) → IsHeldAt k entries i → slice_get entries i ≡ Some x → stands_in p (queue x.value) ≡ false → STATE < table_size entries + 6
     → table_of last entries ≡ within (table_of last entries) (acquired p view k (table_of last entries))
 joins-not p view k last entries i x held stands e more =
     let at = held.value x stands in
@@ -100,21 +100,21 @@ joins-not p view k last entries i x held stands e more =
     stays-away (table_of last entries) (acquired p view k (table_of last entries)) (omega (arith, sizes, size, joined-new p x.value e, more))
 
 -- a lock that is free
-asked-free : (p : Address) (view : ViewId) (k : List ℕ) (last : Token) (entries : List (Entry Lock)) (i : ℕ) → IsFreeAt k entries i
+asked-free : (p : Address) (view : ViewId) (k : List ℕ) (last : Token) (entries : List (KeyedEntry Lock)) (i : ℕ) → IsFreeAt k entries i
     → acquired p view k (table_of last entries) ≡ table_of (next_token view last) (insert entries i (entry_of k (granted p (next_token view last))))
 asked-free p view k last entries i free = ap (asked p view k (table_of last entries)) free.value ∙ ap (table_of (next_token view last)) (free.puts (granted p (next_token view last)))
 
-size-free : (p : Address) (view : ViewId) (k : List ℕ) (last : Token) (entries : List (Entry Lock)) (i : ℕ) → IsFreeAt k entries i → table_size (acquired p view k (table_of last entries)).entries ≡ table_size entries + 33 + length k
+size-free : (p : Address) (view : ViewId) (k : List ℕ) (last : Token) (entries : List (KeyedEntry Lock)) (i : ℕ) → IsFreeAt k entries i → table_size (acquired p view k (table_of last entries)).entries ≡ table_size entries + 33 + length k
 size-free p view k last entries i free =
     let sums = sum_by-insert lock_size entries i (entry_of k (granted p (next_token view last))) in
     let sizes : table_size (acquired p view k (table_of last entries)).entries ≡ table_size (insert entries i (entry_of k (granted p (next_token view last)))) = ap (λ (t : Table). table_size t.entries) (asked-free p view k last entries i free) in
     omega (arith, sums, sizes)
 
-pub grants : (p : Address) (view : ViewId) (k : List ℕ) (last : Token) (entries : List (Entry Lock)) (i : ℕ) → IsFreeAt k entries i → table_size entries + 33 + length k ≤ STATE
+pub grants : (p : Address) (view : ViewId) (k : List ℕ) (last : Token) (entries : List (KeyedEntry Lock)) (i : ℕ) → IsFreeAt k entries i → table_size entries + 33 + length k ≤ STATE
     → table_of (next_token view last) (insert entries i (entry_of k (granted p (next_token view last)))) ≡ within (table_of last entries) (acquired p view k (table_of last entries))
 grants p view k last entries i free few =
     sym (asked-free p view k last entries i free) ∙ comes-in (table_of last entries) (acquired p view k (table_of last entries)) (omega (arith, size-free p view k last entries i free, few))
 
-pub grants-not : (p : Address) (view : ViewId) (k : List ℕ) (last : Token) (entries : List (Entry Lock)) (i : ℕ) → IsFreeAt k entries i → STATE < table_size entries + 33 + length k
+pub grants-not : (p : Address) (view : ViewId) (k : List ℕ) (last : Token) (entries : List (KeyedEntry Lock)) (i : ℕ) → IsFreeAt k entries i → STATE < table_size entries + 33 + length k
     → table_of last entries ≡ within (table_of last entries) (acquired p view k (table_of last entries))
 grants-not p view k last entries i free more = stays-away (table_of last entries) (acquired p view k (table_of last entries)) (omega (arith, size-free p view k last entries i free, more))

@@ -12,7 +12,7 @@ use Rattle.std.proofs.lemmas.Slice.Eq.{bytes_eq-Decides}
 use Rattle.limits.specs.declared.TheConstants.{STATE}
 use Rattle.address.specs.Ids.{Address, ViewId, same_address}
 use Rattle.view.specs.Members.{View, stands_in}
-use Rattle.keyed_entries.specs.declared.Entry.{Entry}
+use Rattle.keyed_entries.specs.declared.KeyedEntry.{KeyedEntry}
 use Rattle.keyed_entries.specs.Entries.{key_cmp, value_of, put, Rises}
 use Rattle.keyed_entries.specs.EntryLaws.{IsBelowAll, below-all, equal-all}
 use Rattle.keyed_entries.proofs.LookUpsFind.{found-put, found-without}
@@ -40,14 +40,14 @@ left-agree f g same view last l =
 pub same-name : (k l : List ℕ) → is_eq (key_cmp k l) ≡ true → k ≡ l
 same-name k l e = (bytes_eq-Decides k l).0 (sym (is_eq-slice_cmp k l) ∙ e)
 
-none-below : (q : List ℕ) (xs : List (Entry Lock)) → IsBelowAll q xs → value_of q xs ≡ None
+none-below : (q : List ℕ) (xs : List (KeyedEntry Lock)) → IsBelowAll q xs → value_of q xs ≡ None
 none-below q [] all = refl
 none-below q (x ∷ xs) all = ap (λ (o : Ordering). match_ordering o None (Some x.value) (value_of q xs)) all.0
 
 -- ---- a roll, at a name
 
 -- the last token when a roll comes to a name
-abbrev pub came : (Address → Bool) → ViewId → Token → List ℕ → List (Entry Lock) → Token
+abbrev pub came : (Address → Bool) → ViewId → Token → List ℕ → List (KeyedEntry Lock) → Token
 came stays view last name [] = last
 came stays view last name (e ∷ es) = cond (is_eq (key_cmp name e.key)) last (came stays view (left_to stays view last e.value).last name es)
 
@@ -56,7 +56,7 @@ left_at stays view last None = None
 left_at stays view last (Some l) = (left_to stays view last l).lock
 
 -- what a name's lock is after a roll
-pub found-rolled : (stays : Address → Bool) (view : ViewId) (last : Token) (name : List ℕ) (es : List (Entry Lock)) → Rises es
+pub found-rolled : (stays : Address → Bool) (view : ViewId) (last : Token) (name : List ℕ) (es : List (KeyedEntry Lock)) → Rises es
     → value_of name (rolled stays view last es).entries ≡ left_at stays view (came stays view last name es) (value_of name es)
 found-rolled stays view last name [] up = refl
 found-rolled stays view last name (e ∷ es) up = by (key_cmp name e.key) refl o.lock refl (found-rolled stays view o.last name es up.1) where
@@ -94,7 +94,7 @@ left-up stays view last l = by (stays l.holder) where
   by true = up-refl last
   by false = by-first (filter stays l.waiters)
 
-pub came-up : (stays : Address → Bool) (view : ViewId) (last : Token) (name : List ℕ) (es : List (Entry Lock)) → is_up_to last (came stays view last name es) ≡ true
+pub came-up : (stays : Address → Bool) (view : ViewId) (last : Token) (name : List ℕ) (es : List (KeyedEntry Lock)) → is_up_to last (came stays view last name es) ≡ true
 came-up stays view last name [] = up-refl last
 came-up stays view last name (e ∷ es) = by (is_eq (key_cmp name e.key)) (came-up stays view (left_to stays view last e.value).last name es) where
   by : (b : Bool) → is_up_to (left_to stays view last e.value).last (came stays view (left_to stays view last e.value).last name es) ≡ true → is_up_to last (cond b last (came stays view (left_to stays view last e.value).last name es)) ≡ true
@@ -102,7 +102,7 @@ came-up stays view last name (e ∷ es) = by (is_eq (key_cmp name e.key)) (came-
   by false rest = up-trans last _ _ (left-up stays view last e.value) rest
 
 -- the last token only rises
-pub rolled-up : (stays : Address → Bool) (view : ViewId) (last : Token) (es : List (Entry Lock)) → is_up_to last (rolled stays view last es).last ≡ true
+pub rolled-up : (stays : Address → Bool) (view : ViewId) (last : Token) (es : List (KeyedEntry Lock)) → is_up_to last (rolled stays view last es).last ≡ true
 rolled-up stays view last [] = up-refl last
 rolled-up stays view last (e ∷ es) = by (left_to stays view last e.value).lock (rolled-up stays view (left_to stays view last e.value).last es) where
   by : (k : Option Lock) → is_up_to (left_to stays view last e.value).last (rolled stays view (left_to stays view last e.value).last es).last ≡ true

@@ -13,7 +13,7 @@ use Rattle.std.proofs.lemmas.Slice.Eq.{bytes_eq-Decides}
 use Rattle.limits.specs.declared.TheConstants.{STATE}
 use Rattle.address.specs.Ids.{Address, ViewId}
 use Rattle.view.specs.Members.{stands_in}
-use Rattle.keyed_entries.specs.declared.Entry.{Entry}
+use Rattle.keyed_entries.specs.declared.KeyedEntry.{KeyedEntry}
 use Rattle.keyed_entries.specs.Entries.{key_cmp, entry_of, value_of, put, Rises}
 use Rattle.keyed_entries.proofs.LookUpsFind.{found-put, found-without}
 use Rattle.lock_table.specs.declared.command.Command.TheVariants.{Acquire, Roll}
@@ -31,11 +31,11 @@ use Rattle.lock_table.proofs.QueuesKeepOrder.{queue-left}
 same-key : (k : List ℕ) → is_eq (key_cmp k k) ≡ true
 same-key k = is_eq-slice_cmp k k ∙ (bytes_eq-Decides k k).1 refl
 
-found-there : (name : List ℕ) (v : Lock) (es : List (Entry Lock)) → value_of name (put name v es) ≡ Some v
+found-there : (name : List ℕ) (v : Lock) (es : List (KeyedEntry Lock)) → value_of name (put name v es) ≡ Some v
 found-there name v es = found-put name v es name ∙ ap (λ (b : Bool). cond b (Some v) (value_of name es)) (same-key name)
 
 -- one lock more
-size-new : (name : List ℕ) (es : List (Entry Lock)) (v : Lock) → value_of name es ≡ None → sum_by lock_size (put name v es) ≡ sum_by lock_size es + lock_size (entry_of name v)
+size-new : (name : List ℕ) (es : List (KeyedEntry Lock)) (v : Lock) → value_of name es ≡ None → sum_by lock_size (put name v es) ≡ sum_by lock_size es + lock_size (entry_of name v)
 size-new name [] v at = omega (arith, sum_by-cons lock_size (entry_of name v) [])
 size-new name (e ∷ es) v at = by (key_cmp name e.key) (size-new name es v) at where
   by : (o : Ordering) → (value_of name es ≡ None → sum_by lock_size (put name v es) ≡ sum_by lock_size es + lock_size (entry_of name v)) → match_ordering o None (Some e.value) (value_of name es) ≡ None

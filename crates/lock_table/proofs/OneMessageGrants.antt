@@ -6,7 +6,7 @@ use Rattle.std.specs.declared.cmp.Ordering.{Ordering}
 use Rattle.std.specs.declared.cmp.Ordering.TheVariants.{Less, Equal, Greater}
 use Rattle.limits.specs.declared.TheConstants.{STATE}
 use Rattle.address.specs.Ids.{Address, ViewId, same_address}
-use Rattle.keyed_entries.specs.declared.Entry.{Entry}
+use Rattle.keyed_entries.specs.declared.KeyedEntry.{KeyedEntry}
 use Rattle.keyed_entries.specs.Entries.{key_cmp, value_of, Rises}
 use Rattle.tokens.specs.declared.token.Token.{Token}
 use Rattle.lock_table.specs.declared.command.Command.{Command}
@@ -51,7 +51,7 @@ not-equal a b q less o at other = by (is_eq (key_cmp b q)) refl where
   by false e = refl
   by true e = absurd (other (sym at ∙ ap (key_cmp a) (sym (same-name b q e)) ∙ less))
 
-came-later : (stays : Address → Bool) (view : ViewId) (last : Token) (a b : List ℕ) (es : List (Entry Lock)) (x : Lock) → key_cmp a b ≡ Less → value_of a es ≡ Some x
+came-later : (stays : Address → Bool) (view : ViewId) (last : Token) (a b : List ℕ) (es : List (KeyedEntry Lock)) (x : Lock) → key_cmp a b ≡ Less → value_of a es ≡ Some x
     → is_up_to (left_to stays view (came stays view last a es) x).last (came stays view last b es) ≡ true
 came-later stays view last a b [] x less at = absurd cc
 came-later stays view last a b (e ∷ es) x less at = by (key_cmp a e.key) refl (came-later stays view (left_to stays view last e.value).last a b es x less) at where

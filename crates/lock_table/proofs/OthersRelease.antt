@@ -8,7 +8,7 @@ use Rattle.std.specs.declared.cmp.Ordering.TheVariants.{Less, Equal, Greater}
 use Rattle.std.proofs.lemmas.Bool.{or_parts}
 use Rattle.address.specs.Ids.{Address, ViewId, same_address}
 use Rattle.view.specs.Members.{View, stands_in}
-use Rattle.keyed_entries.specs.declared.Entry.{Entry}
+use Rattle.keyed_entries.specs.declared.KeyedEntry.{KeyedEntry}
 use Rattle.keyed_entries.specs.Entries.{key_cmp, entry_of, value_of, put}
 use Rattle.tokens.specs.declared.token.Token.{Token}
 use Rattle.lock_table.specs.declared.command.Command.TheVariants.{Release, Roll}
@@ -23,13 +23,13 @@ all-others : (p : Address) (ps : List Address) → stands_in p ps ≡ false → 
 all-others p [] st = refl
 all-others p (q ∷ ps) st = let parts = or_parts (same_address p q) (stands_in p ps) st in rw parts.0 (ap (λ (l : List Address). q ∷ l) (all-others p ps parts.1))
 
-put-same : (k : List ℕ) (l : Lock) (es : List (Entry Lock)) → value_of k es ≡ Some l → put k l es ≡ es
+put-same : (k : List ℕ) (l : Lock) (es : List (KeyedEntry Lock)) → value_of k es ≡ Some l → put k l es ≡ es
 put-same k l [] at = absurd cc
 put-same k l (e ∷ es) at = by (key_cmp k e.key) (put-same k l es) at where
   by : (o : Ordering) → (value_of k es ≡ Some l → put k l es ≡ es) → match_ordering o None (Some e.value) (value_of k es) ≡ Some l → match_ordering o (entry_of k l ∷ e ∷ es) (entry_of e.key l ∷ es) (e ∷ put k l es) ≡ e ∷ es
   by Less rest at = absurd cc
   by Equal rest at = let same : e.value ≡ l = cc in ap (λ (x : Lock). entry_of e.key x ∷ es) (sym same)
-  by Greater rest at = ap (λ (xs : List (Entry Lock)). e ∷ xs) (rest at)
+  by Greater rest at = ap (λ (xs : List (KeyedEntry Lock)). e ∷ xs) (rest at)
 
 nobody-leaves : (p : Address) (view : ViewId) (last : Token) (l : Lock) → stands_in p (queue l) ≡ false → left_to (others p) view last l ≡ record { lock = Some l; last = last }
 nobody-leaves p view last l st =
@@ -82,7 +82,7 @@ left-stays stays view last l k = by (stays l.holder) refl where
   by true is e = subst (Stays stays) (some-lock (record { holder = l.holder; token = l.token; waiters = filter stays l.waiters }) k e) (record { holder = is; waiters = passes-filter stays l.waiters })
   by false is e = by-first (filter stays l.waiters) (passes-filter stays l.waiters) e
 
-rolled-stay : (stays : Address → Bool) (view : ViewId) (last : Token) (es : List (Entry Lock)) → AllByRecursion (λ e. Stays stays e.value) (rolled stays view last es).entries
+rolled-stay : (stays : Address → Bool) (view : ViewId) (last : Token) (es : List (KeyedEntry Lock)) → AllByRecursion (λ e. Stays stays e.value) (rolled stays view last es).entries
 rolled-stay stays view last [] = tt
 rolled-stay stays view last (e ∷ es) = by (left_to stays view last e.value).lock (left-stays stays view last e.value) (rolled-stay stays view (left_to stays view last e.value).last es) where
   rest : Table
@@ -93,7 +93,7 @@ rolled-stay stays view last (e ∷ es) = by (left_to stays view last e.value).lo
   by (Some l) one all = (one l refl, all)
 
 -- a roll without which nobody is left changes nothing
-rolled-same : (stays : Address → Bool) (view : ViewId) (last : Token) (es : List (Entry Lock)) → AllByRecursion (λ e. Stays stays e.value) es → rolled stays view last es ≡ table_of last es
+rolled-same : (stays : Address → Bool) (view : ViewId) (last : Token) (es : List (KeyedEntry Lock)) → AllByRecursion (λ e. Stays stays e.value) es → rolled stays view last es ≡ table_of last es
 rolled-same stays view last [] all = refl
 rolled-same stays view last (e ∷ es) all =
     rw (all.0.holder, filter-passed stays e.value.waiters all.0.waiters) (ap (λ (t : Table). table_of t.last (e ∷ t.entries)) (rolled-same stays view last es all.1))

@@ -1,9 +1,8 @@
 -- The commands of the table leave it a table, and each is read from its spelling and from no other bytes.
-use Rattle.std.proofs.Common.{◌≡◌, ℕ, ◌+◌, ◌≤◌, Bool, true, false, cond, eqb, ltb, List, [], ◌++◌, length, Option, Some, None, refl, sym, ap, subst, ◌∙◌, append_assoc, arith}
+use Rattle.std.proofs.Common.{◌≡◌, ℕ, ◌+◌, ◌≤◌, Bool, true, false, cond, eqb, ltb, List, ◌++◌, length, Option, Some, None, refl, sym, ap, subst, ◌∙◌, append_assoc, arith}
 use Rattle.std.specs.Option.{is_none}
 use Rattle.std.specs.List.{flat_map}
 use Rattle.std.proofs.lemmas.Bool.{eqb-true, eqb-false, ltb-false}
-use Rattle.std.proofs.lemmas.List.{append-nil, nil_from_length}
 use Rattle.std.proofs.lemmas.Option.{cond_some}
 use Rattle.byteorder.specs.Endian.{big_bytes}
 use Rattle.big_endian.proofs.Bytes.{wide1}
@@ -13,7 +12,7 @@ use Rattle.view.specs.Members.{View}
 use Rattle.view.specs.View.{view_refusal}
 use Rattle.limits.specs.declared.TheConstants.{PAYLOAD, MEMBERS, GREATEST_NUMBER}
 use Rattle.reading.specs.Reading.{number_at, address_at, list_at, ◌>>=◌}
-use Rattle.reading.specs.PartLaws.{bind_some, some_is, joined, IsPart, IsWithin, number_part, address_part, list_takes, list_again}
+use Rattle.reading.specs.PartLaws.{bind_some, some_is, joined, IsPart, IsWithin, number_part, address_part, list_takes, list_again, to_end_takes, to_end_again}
 use Rattle.keyed_entries.specs.Keys.{key_bytes, key_at}
 use Rattle.keyed_entries.specs.KeyLaws.{key_takes, key_again}
 use Rattle.lock_table.specs.declared.command.Command.{Command}
@@ -23,7 +22,7 @@ use Rattle.lock_table.specs.Locks.{Table, IsTable, members, rolled, view_of, is_
 use Rattle.tokens.specs.Spelling.{view_id_bytes, view_id_at}
 use Rattle.tokens.specs.SpellingLaws.{view_id_part}
 use Rattle.lock_table.specs.StepLaws.{acquired-is-table, released-is-table, rolled-is-table}
-use Rattle.lock_table.specs.Commands.{IsView, view_bytes, view_at, command_bytes, acquire_at, release_at, roll_at, command_at, command_of, IsCommand, after_command, table_apply}
+use Rattle.lock_table.specs.Commands.{IsView, view_bytes, view_at, IsRequest, request_bytes, request_at, requested, command_bytes, roll_at, command_at, command_of, IsCommand, after_command, table_apply}
 
 -- ---- views
 
@@ -64,33 +63,46 @@ view_again v rest is =
     ap view_at (append_assoc (view_id_bytes v.id) (big_bytes 1 (length v.members) ++ flat_map address_bytes v.members) rest ∙ ap (λ (t : List ℕ). view_id_bytes v.id ++ t) (append_assoc (big_bytes 1 (length v.members)) (flat_map address_bytes v.members) rest))
     ∙ rw (view_id_part.again v.id (big_bytes 1 (length v.members) ++ (flat_map address_bytes v.members ++ rest)) is.id, members_part.again (length v.members) (flat_map address_bytes v.members ++ rest) (count-of v is.sound), list_again address_at address_bytes IsAddress address_part v.members rest is.members, is.sound) refl
 
+-- ---- requests
+
+request_takes : (bytes : List ℕ) (r : ViewId × List ℕ) (rest : List ℕ) → request_at bytes ≡ Some (r, rest) → (bytes ≡ request_bytes r ++ rest) × IsRequest r
+unfolding request_at
+request_takes bytes r rest e =
+    let a = bind_some (view_id_at bytes) (λ view. key_at view.1 >>= λ name. Some ((view.0, name.0), name.1)) (r, rest) e in
+    let b = bind_some (key_at a.0.1) (λ name. Some ((a.0.0, name.0), name.1)) (r, rest) a.2 in
+    let t = view_id_part.takes bytes a.0.0 a.0.1 a.1 in
+    let u = key_takes a.0.1 b.0.0 b.0.1 b.1 in
+    subst (λ (p : (ViewId × List ℕ) × List ℕ). (bytes ≡ request_bytes p.0 ++ p.1) × IsRequest p.0) (some_is ((a.0.0, b.0.0), b.0.1) (r, rest) b.2)
+    (joined bytes (view_id_bytes a.0.0) a.0.1 (key_bytes b.0.0) b.0.1 t.0 u.0, (t.1, u.1))
+
+request_again : (r : ViewId × List ℕ) (rest : List ℕ) → IsRequest r → request_at (request_bytes r ++ rest) ≡ Some (r, rest)
+unfolding request_at
+request_again r rest fits =
+    ap request_at (append_assoc (view_id_bytes r.0) (key_bytes r.1) rest)
+    ∙ rw (view_id_part.again r.0 (key_bytes r.1 ++ rest) fits.0, key_again r.1 rest fits.1) refl
+
 -- ---- the commands, behind their kind
 
 -- what bytes behind a number of one byte are read as
 abbrev Follows : ℕ → List ℕ → Command × List ℕ → Type 0
 Follows n bytes p = (big_bytes 1 n ++ bytes ≡ command_bytes p.0 ++ p.1) × IsCommand p.0
 
-acquire_takes : (bytes : List ℕ) (c : Command) (rest : List ℕ) → acquire_at bytes ≡ Some (c, rest) → Follows 1 bytes (c, rest)
-unfolding acquire_at
-acquire_takes bytes c rest e =
-    let a = bind_some (view_id_at bytes) (λ view. key_at view.1 >>= λ name. Some (Acquire view.0 name.0, name.1)) (c, rest) e in
-    let b = bind_some (key_at a.0.1) (λ name. Some (Acquire a.0.0 name.0, name.1)) (c, rest) a.2 in
-    let t = view_id_part.takes bytes a.0.0 a.0.1 a.1 in
-    let u = key_takes a.0.1 b.0.0 b.0.1 b.1 in
-    let parts = joined bytes (view_id_bytes a.0.0) a.0.1 (key_bytes b.0.0) b.0.1 t.0 u.0 in
-    let whole = joined (big_bytes 1 1 ++ bytes) (big_bytes 1 1) bytes (view_id_bytes a.0.0 ++ key_bytes b.0.0) b.0.1 refl parts in
-    subst (λ (p : Command × List ℕ). Follows 1 bytes p) (some_is (Acquire a.0.0 b.0.0, b.0.1) (c, rest) b.2) (whole, (t.1, u.1))
+-- a request behind its kind
+abbrev asked_at : ℕ → List ℕ → Option (Command × List ℕ)
+asked_at n bytes = request_at bytes >>= λ r. Some (requested n r.0, r.1)
 
-release_takes : (bytes : List ℕ) (c : Command) (rest : List ℕ) → release_at bytes ≡ Some (c, rest) → Follows 2 bytes (c, rest)
-unfolding release_at
-release_takes bytes c rest e =
-    let a = bind_some (view_id_at bytes) (λ view. key_at view.1 >>= λ name. Some (Release view.0 name.0, name.1)) (c, rest) e in
-    let b = bind_some (key_at a.0.1) (λ name. Some (Release a.0.0 name.0, name.1)) (c, rest) a.2 in
-    let t = view_id_part.takes bytes a.0.0 a.0.1 a.1 in
-    let u = key_takes a.0.1 b.0.0 b.0.1 b.1 in
-    let parts = joined bytes (view_id_bytes a.0.0) a.0.1 (key_bytes b.0.0) b.0.1 t.0 u.0 in
-    let whole = joined (big_bytes 1 2 ++ bytes) (big_bytes 1 2) bytes (view_id_bytes a.0.0 ++ key_bytes b.0.0) b.0.1 refl parts in
-    subst (λ (p : Command × List ℕ). Follows 2 bytes p) (some_is (Release a.0.0 b.0.0, b.0.1) (c, rest) b.2) (whole, (t.1, u.1))
+asked_takes : (n : ℕ) (bytes : List ℕ) (c : Command) (rest : List ℕ) → IsWithin 1 2 n → asked_at n bytes ≡ Some (c, rest) → Follows n bytes (c, rest)
+asked_takes n bytes c rest within e =
+    let a = bind_some (request_at bytes) (λ r. Some (requested n r.0, r.1)) (c, rest) e in
+    let t = request_takes bytes a.0.0 a.0.1 a.1 in
+    subst (λ (p : Command × List ℕ). Follows n bytes p) (some_is (requested n a.0.0, a.0.1) (c, rest) a.2) (by a.0.0 a.0.1 (eqb n 1) refl t)
+  where
+    behind : (m : ℕ) (r : ViewId × List ℕ) (left : List ℕ) → n ≡ m → bytes ≡ request_bytes r ++ left → big_bytes 1 n ++ bytes ≡ (big_bytes 1 m ++ request_bytes r) ++ left
+    behind m r left same spelled = ap (λ (i : ℕ). big_bytes 1 i ++ bytes) same ∙ joined (big_bytes 1 m ++ bytes) (big_bytes 1 m) bytes (request_bytes r) left refl spelled
+
+    by : (r : ViewId × List ℕ) (left : List ℕ) (b : Bool) → eqb n 1 ≡ b → (bytes ≡ request_bytes r ++ left) × IsRequest r → Follows n bytes (cond b (Acquire r.0 r.1) (Release r.0 r.1), left)
+    by r left true test t = (behind 1 r left (eqb-true n 1 test) t.0, t.1)
+    by r left false test t = let two : n ≡ 2 = let other = eqb-false n 1 test in omega (arith, other, within.0, within.1) in (behind 2 r left two t.0, t.1)
 
 roll_takes : (bytes : List ℕ) (c : Command) (rest : List ℕ) → roll_at bytes ≡ Some (c, rest) → Follows 3 bytes (c, rest)
 unfolding roll_at
@@ -99,18 +111,6 @@ roll_takes bytes c rest e =
     let t = view_takes bytes a.0.0 a.0.1 a.1 in
     let whole = joined (big_bytes 1 3 ++ bytes) (big_bytes 1 3) bytes (view_bytes a.0.0) a.0.1 refl t.0 in
     subst (λ (p : Command × List ℕ). Follows 3 bytes p) (some_is (Roll a.0.0, a.0.1) (c, rest) a.2) (whole, t.1)
-
-acquire_again : (view : ViewId) (name rest : List ℕ) → IsCommand (Acquire view name) → acquire_at ((view_id_bytes view ++ key_bytes name) ++ rest) ≡ Some (Acquire view name, rest)
-unfolding acquire_at
-acquire_again view name rest fits =
-    ap acquire_at (append_assoc (view_id_bytes view) (key_bytes name) rest)
-    ∙ rw (view_id_part.again view (key_bytes name ++ rest) fits.0, key_again name rest fits.1) refl
-
-release_again : (view : ViewId) (name rest : List ℕ) → IsCommand (Release view name) → release_at ((view_id_bytes view ++ key_bytes name) ++ rest) ≡ Some (Release view name, rest)
-unfolding release_at
-release_again view name rest fits =
-    ap release_at (append_assoc (view_id_bytes view) (key_bytes name) rest)
-    ∙ rw (view_id_part.again view (key_bytes name ++ rest) fits.0, key_again name rest fits.1) refl
 
 roll_again : (view : View) (rest : List ℕ) → IsCommand (Roll view) → roll_at (view_bytes view ++ rest) ≡ Some (Roll view, rest)
 unfolding roll_at
@@ -122,54 +122,43 @@ abbrev kind_part : IsPart (number_at 1 1 3) (big_bytes 1) (IsWithin 1 3)
 kind_part = number_part 1 1 3 wide1 (omega arith)
 
 abbrev by_kind : ℕ → List ℕ → Option (Command × List ℕ)
-by_kind n at = cond (eqb n 1) (acquire_at at) (cond (eqb n 2) (release_at at) (roll_at at))
+by_kind n at = cond (eqb n 3) (roll_at at) (asked_at n at)
 
 command_takes : (bytes : List ℕ) (c : Command) (rest : List ℕ) → command_at bytes ≡ Some (c, rest) → (bytes ≡ command_bytes c ++ rest) × IsCommand c
 unfolding command_at
 command_takes bytes c rest e =
     let a = bind_some (number_at 1 1 3 bytes) (λ kind. by_kind kind.0 kind.1) (c, rest) e in
     let t = kind_part.takes bytes a.0.0 a.0.1 a.1 in
-    let f = by a.0.0 a.0.1 (eqb a.0.0 1) (eqb a.0.0 2) refl refl t.1 a.2 in
+    let f = by a.0.0 a.0.1 (eqb a.0.0 3) refl t.1 a.2 in
     (t.0 ∙ f.0, f.1)
   where
-    as_kind : (n m : ℕ) (at : List ℕ) → n ≡ m → Follows m at (c, rest) → Follows n at (c, rest)
-    as_kind n m at same f = subst (λ (i : ℕ). Follows i at (c, rest)) (sym same) f
-
-    by : (n : ℕ) (at : List ℕ) (x y : Bool) → eqb n 1 ≡ x → eqb n 2 ≡ y → IsWithin 1 3 n → cond x (acquire_at at) (cond y (release_at at) (roll_at at)) ≡ Some (c, rest) → Follows n at (c, rest)
-    by n at true y p q within f = as_kind n 1 at (eqb-true n 1 p) (acquire_takes at c rest f)
-    by n at false true p q within f = as_kind n 2 at (eqb-true n 2 q) (release_takes at c rest f)
-    by n at false false p q within f =
-        let three : n ≡ 3 = let one = eqb-false n 1 p in let two = eqb-false n 2 q in omega (arith, one, two, within.0, within.1) in
-        as_kind n 3 at three (roll_takes at c rest f)
+    by : (n : ℕ) (at : List ℕ) (x : Bool) → eqb n 3 ≡ x → IsWithin 1 3 n → cond x (roll_at at) (asked_at n at) ≡ Some (c, rest) → Follows n at (c, rest)
+    by n at true p within f = subst (λ (i : ℕ). Follows i at (c, rest)) (sym (eqb-true n 3 p)) (roll_takes at c rest f)
+    by n at false p within f = asked_takes n at c rest (within.0, let other = eqb-false n 3 p in omega (arith, other, within.1)) f
 
 command_again : (c : Command) (rest : List ℕ) → IsCommand c → command_at (command_bytes c ++ rest) ≡ Some (c, rest)
 unfolding command_at
 command_again (Acquire view name) rest fits =
-    ap command_at (append_assoc (big_bytes 1 1) (view_id_bytes view ++ key_bytes name) rest)
-    ∙ rw (kind_part.again 1 ((view_id_bytes view ++ key_bytes name) ++ rest) (omega arith, omega arith)) (acquire_again view name rest fits)
+    ap command_at (append_assoc (big_bytes 1 1) (request_bytes (view, name)) rest)
+    ∙ rw (kind_part.again 1 (request_bytes (view, name) ++ rest) (omega arith, omega arith), request_again (view, name) rest fits) refl
 command_again (Release view name) rest fits =
-    ap command_at (append_assoc (big_bytes 1 2) (view_id_bytes view ++ key_bytes name) rest)
-    ∙ rw (kind_part.again 2 ((view_id_bytes view ++ key_bytes name) ++ rest) (omega arith, omega arith)) (release_again view name rest fits)
+    ap command_at (append_assoc (big_bytes 1 2) (request_bytes (view, name)) rest)
+    ∙ rw (kind_part.again 2 (request_bytes (view, name) ++ rest) (omega arith, omega arith), request_again (view, name) rest fits) refl
 command_again (Roll view) rest fits =
     ap command_at (append_assoc (big_bytes 1 3) (view_bytes view) rest)
     ∙ rw (kind_part.again 3 (view_bytes view ++ rest) (omega arith, omega arith)) (roll_again view rest fits)
 
+command_part : IsPart command_at command_bytes IsCommand
+command_part = record { takes = command_takes; again = command_again }
+
 -- what a payload says is spelled by it
 pub command_is_spelled : (payload : List ℕ) (c : Command) → command_of payload ≡ Some c → IsCommand c × (command_bytes c ≡ payload)
 unfolding command_of
-command_is_spelled payload c e =
-    let a = bind_some (command_at payload) (λ p. cond (eqb (length p.1) 0) (Some p.0) None) c e in
-    let t = cond_some (eqb (length a.0.1) 0) a.0.0 c a.2 in
-    let nothing : a.0.1 ≡ [] = nil_from_length a.0.1 (eqb-true _ _ t.0) in
-    let u = command_takes payload a.0.0 a.0.1 a.1 in
-    let whole : payload ≡ command_bytes a.0.0 = u.0 ∙ ap (λ (r : List ℕ). command_bytes a.0.0 ++ r) nothing ∙ append-nil (command_bytes a.0.0) in
-    subst (λ (x : Command). IsCommand x × (command_bytes x ≡ payload)) t.1 (u.1, sym whole)
+command_is_spelled payload c e = to_end_takes command_at command_bytes IsCommand command_part payload c e
 
 pub spelled_is_read : (c : Command) → IsCommand c → command_of (command_bytes c) ≡ Some c
 unfolding command_of
-spelled_is_read c fits =
-    let again : command_at (command_bytes c) ≡ Some (c, []) = ap command_at (sym (append-nil (command_bytes c))) ∙ command_again c [] fits in
-    rw again refl
+spelled_is_read c fits = to_end_again command_at command_bytes IsCommand command_part c fits
 
 -- ---- a message leaves a table a table
 

@@ -8,7 +8,7 @@ use Rattle.view.specs.Members.{View}
 use Rattle.view.specs.View.{view_refusal}
 use Rattle.limits.specs.declared.TheConstants.{MEMBERS}
 use Rattle.big_endian.specs.Spelled.{address_bytes}
-use Rattle.reading.specs.Reading.{Read, ◌>>=◌, number_at, address_at, list_at}
+use Rattle.reading.specs.Reading.{Read, ◌>>=◌, number_at, address_at, list_at, read_to_end}
 use Rattle.keyed_entries.specs.Keys.{IsKey, key_bytes, key_at}
 use Rattle.lock_table.specs.declared.command.Command.{Command}
 use Rattle.lock_table.specs.declared.command.Command.TheVariants.{Acquire, Release, Roll}
@@ -33,45 +33,49 @@ view_at bytes = do
   members ← list_at address_at count.0 count.1
   if is_none (view_refusal id.0 members.0) then Some (record { id = id.0; members = members.0 }, members.1) else None
 
+-- ---- a request for a lock or of its release: the id of the view in which it is sent, and the lock's name
+
+abbrev pub IsRequest : ViewId × List ℕ → Type 0
+IsRequest r = IsViewId r.0 × IsKey r.1
+
+abbrev pub request_bytes : ViewId × List ℕ → List ℕ
+request_bytes r = view_id_bytes r.0 ++ key_bytes r.1
+
+unfoldable pub request_at : List ℕ → Read (ViewId × List ℕ)
+request_at bytes = do
+  view ← view_id_at bytes
+  name ← key_at view.1
+  Some ((view.0, name.0), name.1)
+
 -- ---- a command: its kind in a byte, and its parts
 
 abbrev pub command_bytes : Command → List ℕ
-command_bytes (Acquire view name) = big_bytes 1 1 ++ (view_id_bytes view ++ key_bytes name)
-command_bytes (Release view name) = big_bytes 1 2 ++ (view_id_bytes view ++ key_bytes name)
+command_bytes (Acquire view name) = big_bytes 1 1 ++ request_bytes (view, name)
+command_bytes (Release view name) = big_bytes 1 2 ++ request_bytes (view, name)
 command_bytes (Roll view) = big_bytes 1 3 ++ view_bytes view
-
-unfoldable pub acquire_at : List ℕ → Read Command
-acquire_at bytes = do
-  view ← view_id_at bytes
-  name ← key_at view.1
-  Some (Acquire view.0 name.0, name.1)
-
-unfoldable pub release_at : List ℕ → Read Command
-release_at bytes = do
-  view ← view_id_at bytes
-  name ← key_at view.1
-  Some (Release view.0 name.0, name.1)
 
 unfoldable pub roll_at : List ℕ → Read Command
 roll_at bytes = do
   view ← view_at bytes
   Some (Roll view.0, view.1)
 
+-- the command of a kind that is a request
+abbrev pub requested : ℕ → ViewId × List ℕ → Command
+requested kind r = if kind == 1 then Acquire r.0 r.1 else Release r.0 r.1
+
 unfoldable pub command_at : List ℕ → Read Command
 command_at bytes = do
   kind ← number_at 1 1 3 bytes
-  if kind.0 == 1 then acquire_at kind.1 else if kind.0 == 2 then release_at kind.1 else roll_at kind.1
+  if kind.0 == 3 then roll_at kind.1 else (request_at kind.1 >>= λ r. Some (requested kind.0 r.0, r.1))
 
 -- the command that a payload is: nothing follows it
 unfoldable pub command_of : List ℕ → Option Command
-command_of payload = do
-  command ← command_at payload
-  if length command.1 == 0 then Some command.0 else None
+command_of payload = read_to_end command_at payload
 
 -- the commands that can be spelled
 abbrev pub IsCommand : Command → Type 0
-IsCommand (Acquire view name) = IsViewId view × IsKey name
-IsCommand (Release view name) = IsViewId view × IsKey name
+IsCommand (Acquire view name) = IsRequest (view, name)
+IsCommand (Release view name) = IsRequest (view, name)
 IsCommand (Roll view) = IsView view
 
 -- a command as it is sent in the view of an id: a roll is sent in the view that it names alone

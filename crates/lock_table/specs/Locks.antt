@@ -1,12 +1,12 @@
 -- The table of locks, and what each command makes of it.
-use Rattle.std.specs.Prelude.{◌≡◌, ℕ, ◌+◌, Bool, true, false, List, [], ◌∷◌, ◌++◌, length, Option, Some, None, not, nat_le, nat_lt, if◌then◌else◌}
+use Rattle.std.specs.Prelude.{◌≡◌, ℕ, ◌+◌, Bool, List, [], ◌∷◌, ◌++◌, length, Option, Some, None, unwrap_or, not, nat_le, nat_lt, if◌then◌else◌}
 use Rattle.std.specs.List.{filter}
 use Rattle.std.specs.Option.{option_map}
 use Rattle.std.specs.Borrow.{Bor}
 use Rattle.address.specs.Ids.{Address, ViewId, same_address}
 use Rattle.view.specs.Members.{View, stands_in}
 use Rattle.limits.specs.declared.TheConstants.{STATE, GREATEST_NUMBER}
-use Rattle.keyed_entries.specs.declared.Entry.{Entry}
+use Rattle.keyed_entries.specs.declared.KeyedEntry.{KeyedEntry}
 use Rattle.keyed_entries.specs.Entries.{entry_of, value_of, put, without}
 use Rattle.keyed_state.specs.States.{KeyedState, state_of, entry_size, state_size, IsState, IsEntry as IsEntryOf, AreUpTo as AreAllUpTo}
 use Rattle.tokens.specs.declared.token.Token.{Token}
@@ -32,21 +32,17 @@ abbrev pub passed_on : Token → Token → List Address → Outcome
 passed_on last next [] = record { lock = None; last = last }
 passed_on last next (p ∷ ps) = record { lock = Some (record { holder = p; token = next; waiters = ps }); last = next }
 
--- only some stay at a lock: its holder, if it stays, holds on, with its token; else the lock is passed on
+-- the holder of a lock holds on, with its token, if it stays; else the lock is passed on
+abbrev pub passed : Bool → ViewId → Token → Lock → Outcome
+passed stays view last l = if stays then record { lock = Some l; last = last } else passed_on last (next_token view last) l.waiters
+
+-- only some stay at a lock
 abbrev pub left_to : (Address → Bool) → ViewId → Token → Lock → Outcome
-left_to stays view last l =
-    if stays l.holder
-    then record { lock = Some (record { holder = l.holder; token = l.token; waiters = filter stays l.waiters }); last = last }
-    else passed_on last (next_token view last) (filter stays l.waiters)
+left_to stays view last l = passed (stays l.holder) view last (record { holder = l.holder; token = l.token; waiters = filter stays l.waiters })
 
-abbrev pub passed_to : Token → Token → Lock → List Address → Lock × Token
-passed_to last next l [] = (l, last)
-passed_to last next l (p ∷ ps) = (record { holder = p; token = next; waiters = ps }, next)
-
--- a lock that is passed on in its place if its holder does not stay, and the last token; where none waits it stays as it was
-abbrev pub passed : Bool → ViewId → Token → Lock → Lock × Token
-passed true view last l = (l, last)
-passed false view last l = passed_to last (next_token view last) l l.waiters
+-- what a lock becomes in its place, and the last token: a lock that is free then stays as it was
+abbrev pub in_place : Lock → Outcome → Lock × Token
+in_place l o = (unwrap_or o.lock l, o.last)
 
 -- a lock as it was left in its place: it is held where its holder stays, and otherwise free
 pub record IsLeft (stays : Address → Bool) (o : Outcome) (left : Lock) (token : Token) : Type 0 where
@@ -56,22 +52,22 @@ pub record IsLeft (stays : Address → Bool) (o : Outcome) (left : Lock) (token 
 -- ---- the table
 
 -- whether a lock's holder stays
-abbrev pub holder_in : (Address → Bool) → Entry Lock → Bool
+abbrev pub holder_in : (Address → Bool) → KeyedEntry Lock → Bool
 holder_in stays e = stays e.value.holder
 
 -- the last token that was granted, and the locks that are held, by their names
 abbrev pub Table : Type 0
 Table = KeyedState Lock
 
-abbrev pub table_of : Token → List (Entry Lock) → Table
+abbrev pub table_of : Token → List (KeyedEntry Lock) → Table
 table_of last entries = state_of last entries
 
 -- how many bytes a lock is encoded in, with its name
-abbrev pub lock_size : Entry Lock → ℕ
+abbrev pub lock_size : KeyedEntry Lock → ℕ
 lock_size e = entry_size lock_form e
 
 -- how many bytes a table with these locks is encoded in: the last token in 22, the number of locks in 4, and each lock with its name
-abbrev pub table_size : List (Entry Lock) → ℕ
+abbrev pub table_size : List (KeyedEntry Lock) → ℕ
 table_size entries = state_size lock_form entries
 
 -- one asks for a lock
@@ -83,7 +79,7 @@ abbrev pub acquired : Address → ViewId → List ℕ → Table → Table
 acquired p view name s = asked p view name s (value_of name s.entries)
 
 -- the locks with what became of a name's
-abbrev pub with_lock : List ℕ → Option Lock → List (Entry Lock) → List (Entry Lock)
+abbrev pub with_lock : List ℕ → Option Lock → List (KeyedEntry Lock) → List (KeyedEntry Lock)
 with_lock name None entries = without name entries
 with_lock name (Some l) entries = put name l entries
 
@@ -105,7 +101,7 @@ before name None rest = rest
 before name (Some l) rest = record { last = rest.last; entries = entry_of name l ∷ rest.entries }
 
 -- only some stay, at each lock, in the order of the names
-abbrev pub rolled : (Address → Bool) → ViewId → Token → List (Entry Lock) → Table
+abbrev pub rolled : (Address → Bool) → ViewId → Token → List (KeyedEntry Lock) → Table
 rolled stays view last [] = record { last = last; entries = [] }
 rolled stays view last (e ∷ es) = before e.key (left_to stays view last e.value).lock (rolled stays view (left_to stays view last e.value).last es)
 
@@ -122,7 +118,7 @@ lock_of name s = value_of name s.entries
 abbrev pub lock_lent : Option (Bor Lock) → Option Lock
 lock_lent found = option_map (λ l. l.now) found
 
-abbrev pub entry_lent : Option (Bor (List ℕ) × Bor Lock) → Option (Entry Lock)
+abbrev pub entry_lent : Option (Bor (List ℕ) × Bor Lock) → Option (KeyedEntry Lock)
 entry_lent found = option_map (λ e. entry_of e.0.now e.1.now) found
 
 -- ---- the commands
@@ -153,9 +149,9 @@ carried_out from c s = if is_used_up (view_of c) s then s else obeyed from c s
 abbrev pub IsTable : Table → Type 0
 IsTable s = IsState lock_form s
 
-abbrev pub IsEntry : Entry Lock → Type 0
+abbrev pub IsEntry : KeyedEntry Lock → Type 0
 IsEntry e = IsEntryOf lock_form e
 
 -- no lock has a token above the last
-abbrev pub AreUpTo : Token → List (Entry Lock) → Type 0
+abbrev pub AreUpTo : Token → List (KeyedEntry Lock) → Type 0
 AreUpTo last entries = AreAllUpTo lock_form last entries

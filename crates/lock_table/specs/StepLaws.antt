@@ -9,7 +9,7 @@ use Rattle.std.proofs.lemmas.List.Sums.{sum_by-cons}
 use Rattle.address.specs.Ids.{Address, ViewId, IsAddress}
 use Rattle.view.specs.Members.{stands_in}
 use Rattle.limits.specs.declared.TheConstants.{STATE, GREATEST_NUMBER}
-use Rattle.keyed_entries.specs.declared.Entry.{Entry}
+use Rattle.keyed_entries.specs.declared.KeyedEntry.{KeyedEntry}
 use Rattle.keyed_entries.specs.Entries.{key_cmp, entry_of, value_of, put, Rises}
 use Rattle.keyed_entries.specs.EntryLaws.{IsBelowAll}
 use Rattle.keyed_entries.specs.Keys.{IsKey}
@@ -45,7 +45,7 @@ few-filter test (x ∷ xs) = by (test x) (few-filter test xs) where
   by false rest = omega (arith, rest)
 
 -- what holds of each entry's lock holds of a name's
-pub holds-of : (Q : Lock → Type 0) (name : List ℕ) (es : List (Entry Lock)) (l : Lock) → AllByRecursion (λ e. Q e.value) es → value_of name es ≡ Some l → Q l
+pub holds-of : (Q : Lock → Type 0) (name : List ℕ) (es : List (KeyedEntry Lock)) (l : Lock) → AllByRecursion (λ e. Q e.value) es → value_of name es ≡ Some l → Q l
 holds-of Q name [] l all at = absurd cc
 holds-of Q name (e ∷ es) l all at = by (key_cmp name e.key) (holds-of Q name es l all.1) at where
   by : (o : Ordering) → (value_of name es ≡ Some l → Q l) → match_ordering o None (Some e.value) (value_of name es) ≡ Some l → Q l
@@ -60,7 +60,7 @@ next-up view last = below-is-up last (next_token view last) (next-above view las
 
 -- ---- sizes
 
-pub size-put : (name : List ℕ) (es : List (Entry Lock)) (l k : Lock) → value_of name es ≡ Some l → sum_by lock_size (put name k es) + 6 * length l.waiters ≡ sum_by lock_size es + 6 * length k.waiters
+pub size-put : (name : List ℕ) (es : List (KeyedEntry Lock)) (l k : Lock) → value_of name es ≡ Some l → sum_by lock_size (put name k es) + 6 * length l.waiters ≡ sum_by lock_size es + 6 * length k.waiters
 size-put name [] l k at = absurd cc
 size-put name (e ∷ es) l k at = by (key_cmp name e.key) (size-put name es l k) at where
   by : (o : Ordering) → (value_of name es ≡ Some l → sum_by lock_size (put name k es) + 6 * length l.waiters ≡ sum_by lock_size es + 6 * length k.waiters) → match_ordering o None (Some e.value) (value_of name es) ≡ Some l
@@ -123,7 +123,7 @@ left-sound stays view last l is up token id few = by (stays l.holder) where
 -- ---- a roll
 
 -- what holds of the locks, and of the last token, after a roll
-pub record IsRolled (last : Token) (es : List (Entry Lock)) (s : Table) : Type 0 where
+pub record IsRolled (last : Token) (es : List (KeyedEntry Lock)) (s : Table) : Type 0 where
   pub token : IsToken s.last
   pub up : is_up_to last s.last ≡ true
   pub entries : AllByRecursion IsEntry s.entries
@@ -133,7 +133,7 @@ pub record IsRolled (last : Token) (es : List (Entry Lock)) (s : Table) : Type 0
   pub size : sum_by lock_size s.entries ≤ sum_by lock_size es
 
 -- what is needed of them before it
-pub record MayRoll (view : ViewId) (last : Token) (es : List (Entry Lock)) : Type 0 where
+pub record MayRoll (view : ViewId) (last : Token) (es : List (KeyedEntry Lock)) : Type 0 where
   pub id : IsViewId view
   pub token : IsToken last
   pub entries : AllByRecursion IsEntry es
@@ -141,7 +141,7 @@ pub record MayRoll (view : ViewId) (last : Token) (es : List (Entry Lock)) : Typ
   pub rises : Rises es
   pub few : (next_token view last).count + length es ≤ GREATEST_NUMBER
 
-pub roll-goes-on : (view : ViewId) (last : Token) (e : Entry Lock) (es : List (Entry Lock)) (o : Outcome) → MayRoll view last (e ∷ es) → IsSound view e.value last o → MayRoll view o.last es
+pub roll-goes-on : (view : ViewId) (last : Token) (e : KeyedEntry Lock) (es : List (KeyedEntry Lock)) (o : Outcome) → MayRoll view last (e ∷ es) → IsSound view e.value last o → MayRoll view o.last es
 roll-goes-on view last e es o may sound = record {
   id = may.id;
   token = sound.token;
@@ -151,12 +151,12 @@ roll-goes-on view last e es o may sound = record {
   few = let few : (next_token view last).count + suc (length es) ≤ GREATEST_NUMBER = may.few in omega (arith, few, sound.next);
 }
 
-pub first-sound : (stays : Address → Bool) (view : ViewId) (last : Token) (e : Entry Lock) (es : List (Entry Lock)) → MayRoll view last (e ∷ es) → IsSound view e.value last (left_to stays view last e.value)
+pub first-sound : (stays : Address → Bool) (view : ViewId) (last : Token) (e : KeyedEntry Lock) (es : List (KeyedEntry Lock)) → MayRoll view last (e ∷ es) → IsSound view e.value last (left_to stays view last e.value)
 first-sound stays view last e es may =
     let few : (next_token view last).count + suc (length es) ≤ GREATEST_NUMBER = may.few in
     left-sound stays view last e.value may.entries.0.value may.tokens.0 may.token may.id (omega (arith, few))
 
-pub rolled-is : (stays : Address → Bool) (view : ViewId) (last : Token) (es : List (Entry Lock)) → MayRoll view last es → IsRolled last es (rolled stays view last es)
+pub rolled-is : (stays : Address → Bool) (view : ViewId) (last : Token) (es : List (KeyedEntry Lock)) → MayRoll view last es → IsRolled last es (rolled stays view last es)
 rolled-is stays view last [] may = record { token = may.token; up = up-refl last; entries = tt; tokens = tt; below = λ k all. tt; rises = tt; size = omega arith }
 rolled-is stays view last (e ∷ es) may =
     let o = left_to stays view last e.value in

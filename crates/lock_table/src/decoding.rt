@@ -3,11 +3,11 @@
 ghost use Rattle.std.specs.Prelude.{◌≡◌, IfOk};
 ghost use Rattle.reading.specs.Reading.{IsReadOrNone, list_at, address_at};
 ghost use Rattle.lock_table.specs.Forms.{waiters_at, lock_at};
-ghost use Rattle.lock_table.specs.Commands.{view_at, acquire_at, release_at, roll_at, command_at};
+ghost use Rattle.lock_table.specs.Commands.{view_at, request_at, roll_at, command_at};
 
 use crate::{Command, Lock};
-use address::Address;
-use keyed_entries::key_from;
+use address::{Address, ViewId};
+use keyed_entries::{KeyBytes, key_from};
 use limits::MEMBERS;
 use reading::Reader;
 use std::alloc::{AllocError, Global};
@@ -74,22 +74,14 @@ fn view_from(alloc: Global, from: &mut Reader<'_>) -> Result<Option<View>, Alloc
     Ok(View::new(id, Addresses::from_vec(members)).ok())
 }
 
-#[tactic(auto, unfolding(crate::specs::Commands::acquire_at))]
-fn acquire_from<'a>(from: &mut Reader<'a>) -> Option<Command<'a>>
-    ensures { IsReadOrNone (λ x. (x, from.new)) result (acquire_at from.old) }
+// Of what a request is made: the view in which it is sent, and the lock's name.
+#[tactic(auto, unfolding(crate::specs::Commands::request_at))]
+fn request_from<'a>(from: &mut Reader<'a>) -> Option<(ViewId, KeyBytes<'a>)>
+    ensures { IsReadOrNone (λ x. (x, from.new)) result (request_at from.old) }
 {
     let view = view_id_from(from)?;
     let name = key_from(from)?;
-    Some(Command::Acquire { view, name })
-}
-
-#[tactic(auto, unfolding(crate::specs::Commands::release_at))]
-fn release_from<'a>(from: &mut Reader<'a>) -> Option<Command<'a>>
-    ensures { IsReadOrNone (λ x. (x, from.new)) result (release_at from.old) }
-{
-    let view = view_id_from(from)?;
-    let name = key_from(from)?;
-    Some(Command::Release { view, name })
+    Some((view, name))
 }
 
 #[tactic(auto, unfolding(crate::specs::Commands::roll_at))]
@@ -113,11 +105,14 @@ pub(crate) fn command_from<'a>(
     let Some(kind) = from.u8(1, 3) else {
         return Ok(None);
     };
+    if kind == 3 {
+        return roll_from(alloc, from);
+    }
+    let Some((view, name)) = request_from(from) else {
+        return Ok(None);
+    };
     if kind == 1 {
-        return Ok(acquire_from(from));
+        return Ok(Some(Command::Acquire { view, name }));
     }
-    if kind == 2 {
-        return Ok(release_from(from));
-    }
-    roll_from(alloc, from)
+    Ok(Some(Command::Release { view, name }))
 }

@@ -9,7 +9,7 @@ ghost use Rattle.std.specs.List.{filter};
 
 use crate::{Lock, Token};
 use address::{Address, ViewId};
-use keyed_entries::{Entry, KeyBytes, Place, find};
+use keyed_entries::{KeyBytes, KeyedEntry, Place, find};
 use keyed_state::size_of_all;
 use limits::STATE;
 use owned_bytes::Bytes;
@@ -21,7 +21,7 @@ use view::View;
 #[derive(Debug, Drop)]
 pub(crate) struct Held {
     pub(crate) last: Token,
-    pub(crate) entries: Vec<Entry<Lock>>,
+    pub(crate) entries: Vec<KeyedEntry<Lock>>,
 }
 
 // What a program holds as an address is one. It does nothing; its clause is a fact for proofs.
@@ -38,18 +38,18 @@ fn granted(
     name: &KeyBytes<'_>,
     holder: Address,
     token: &Token,
-) -> Result<Entry<Lock>, AllocError>
+) -> Result<KeyedEntry<Lock>, AllocError>
     ensures { IfOk result (λ e. e ≡ entry_of name.now (granted holder token.now)) }
 {
     let key = Bytes::from_slice(alloc, name.as_slice())?;
-    Ok(Entry {
+    Ok(KeyedEntry {
         key,
         value: Lock::new(holder, *token, Vec::new(alloc)),
     })
 }
 
 // Lets all go, at each lock, who are no members of a view. A lock that became free names its former holder still. Gives the last token.
-fn roll_each(entries: &mut [Entry<Lock>], view: &View, last: Token) -> Token
+fn roll_each(entries: &mut [KeyedEntry<Lock>], view: &View, last: Token) -> Token
     requires { MayRoll view.now.id last entries.old }
     ensures len { length entries.new ≡ length entries.old }
     ensures rolls { table_of result (filter (holder_in (members view.now)) entries.new) ≡ rolled (members view.now) view.now.id last entries.old }

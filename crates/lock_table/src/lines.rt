@@ -8,7 +8,7 @@ ghost use Rattle.lock_table.specs.TableText.{text_of_queue, text_of_lock, text_o
 
 use crate::{Lock, Token};
 use address::Address;
-use keyed_entries::Entry;
+use keyed_entries::KeyedEntry;
 use std::alloc::AllocError;
 use tokens::put_token_text;
 use vsync_text::{put, put_address, put_addresses, put_hex};
@@ -26,7 +26,7 @@ fn put_queue(out: &mut Vec<u8>, lock: &Lock) -> Result<(), AllocError>
 
 // Appends a lock behind a space.
 #[tactic(auto, using(vsync_text::proofs::KeepFront::goes_on))]
-fn put_lock(out: &mut Vec<u8>, entry: &Entry<Lock>) -> Result<(), AllocError>
+fn put_lock(out: &mut Vec<u8>, entry: &KeyedEntry<Lock>) -> Result<(), AllocError>
     ensures text { OnOk result (out.new.items ≡ out.old.items ++ field (text_of_lock entry.now)) }
     ensures kept { GoesOnFrom out.old.items out.new.items }
 {
@@ -37,7 +37,7 @@ fn put_lock(out: &mut Vec<u8>, entry: &Entry<Lock>) -> Result<(), AllocError>
 
 // Appends locks, each behind a space.
 #[tactic(auto, using(vsync_text::proofs::KeepFront::goes_on, vsync_text::proofs::KeepFront::stays))]
-fn put_more(out: &mut Vec<u8>, entries: &[Entry<Lock>]) -> Result<(), AllocError>
+fn put_more(out: &mut Vec<u8>, entries: &[KeyedEntry<Lock>]) -> Result<(), AllocError>
     ensures text { OnOk result (out.new.items ≡ out.old.items ++ text_of_more entries.now) }
     ensures kept { GoesOnFrom out.old.items out.new.items }
 {
@@ -48,7 +48,7 @@ fn put_more(out: &mut Vec<u8>, entries: &[Entry<Lock>]) -> Result<(), AllocError
 }
 
 // Appends locks, each behind a space, ` -` for none.
-fn put_locks(out: &mut Vec<u8>, entries: &[Entry<Lock>]) -> Result<(), AllocError>
+fn put_locks(out: &mut Vec<u8>, entries: &[KeyedEntry<Lock>]) -> Result<(), AllocError>
     ensures text { OnOk result (out.new.items ≡ out.old.items ++ text_of_locks entries.now) }
     ensures kept { GoesOnFrom out.old.items out.new.items }
 {
@@ -64,7 +64,7 @@ pub(crate) fn put_table_line(
     out: &mut Vec<u8>,
     member: &Address,
     last: &Token,
-    entries: &[Entry<Lock>],
+    entries: &[KeyedEntry<Lock>],
 ) -> Result<(), AllocError>
     ensures text { OnOk result (out.new.items ≡ out.old.items ++ table_line member.now (table_of last.now entries.now)) }
     ensures kept { GoesOnFrom out.old.items out.new.items }

@@ -2,7 +2,7 @@
 
 ghost use Rattle.std.specs.Prelude.{◌≡◌, ◌<◌, ◌^◌, false, OnOk, OnErr};
 ghost use Rattle.view.specs.Members.{stands_in};
-ghost use Rattle.lock_table.specs.Locks.{IsLeft, queue, granted, joined_by, passed, left_to, others, members};
+ghost use Rattle.lock_table.specs.Locks.{IsLeft, queue, granted, joined_by, passed, left_to, in_place, others, members};
 
 use crate::Token;
 use crate::decoding::lock_from;
@@ -114,7 +114,7 @@ impl Lock {
     // Passes it on to the first who waits, with the next token after the last one, if its holder does not stay. Gives the last token.
     fn pass_on(&mut self, stays: bool, view: ViewId, last: Token) -> Token
         requires { last.count < 2 ^ 63 }
-        ensures { (self.new, result) ≡ passed stays view last self.old }
+        ensures { (self.new, result) ≡ in_place self.old (passed stays view last self.old) }
     {
         if stays || self.waiters.is_empty() {
             return last;

@@ -7,7 +7,8 @@ ghost use Rattle.limits.specs.declared.TheConstants.{STATE};
 use crate::held::Held;
 use crate::{Command, Lock, Token};
 use address::{Address, ViewId};
-use keyed_entries::{Entry, Place, find};
+use followed_events::Replica;
+use keyed_entries::{KeyedEntry, Place, find};
 use keyed_state::{contents_of, put_state, size_of_all};
 use limits::GREATEST_NUMBER;
 use state_transfer::Receiver;
@@ -73,7 +74,7 @@ impl LockTable {
     }
 
     // The locks that are held, their names rising.
-    pub(crate) fn entries(&self) -> &[Entry<Lock>]
+    pub(crate) fn entries(&self) -> &[KeyedEntry<Lock>]
         ensures { result.now ≡ self.now.entries }
     {
         self.held.entries.as_slice()
@@ -182,5 +183,16 @@ impl Receiver for LockTable {
                 Ok(true)
             }
         }
+    }
+}
+
+impl Replica for LockTable {
+    fn apply(&mut self, from: Address, payload: &[u8]) -> Result<(), AllocError> {
+        self.receive(from, payload)
+    }
+
+    fn restore(&mut self, state: &[u8]) -> Result<(), AllocError> {
+        self.set_state(state)?;
+        Ok(())
     }
 }

@@ -1,3 +1,2 @@
-pub mod EventsKnown
 pub mod AnswersSayWhat
 pub mod TicketsAreKept

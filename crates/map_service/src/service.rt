@@ -1,27 +1,21 @@
 ghost use Rattle.std.specs.Prelude.{◌≡◌, ◌==◌, ◌++◌, ◌∷◌, [], not, length, IfOk, OnOk, OnErr};
 ghost use Rattle.map_service.specs.Serving.{delivered, heard, installed, noted, nothing_heard};
 
-use crate::waiting::{hand_back, settle};
+use crate::waiting::hand_back;
 use crate::{Answer, Fate};
 use address::{Address, ViewId};
+use followed_events::FollowedMember;
 use replicated_map::ReplicatedMap;
-use state_transfer::Receiver;
 use std::alloc::{AllocError, Global};
 use std::marker::Model;
 use std::mem::replace;
-use tickets::Waiting;
 use trace_props::{Delivery, Event, Install};
 
-/// What a node knows by the events of its member: the member's view, how many messages it delivered there, the map at that place, who waits
-/// for which of its own messages, and the answers that nobody has taken.
+/// What a node knows by the events of its member, with a copy of the map, and the answers that nobody has taken.
 #[derive(Debug, Drop)]
 pub struct MapService {
     alloc: Global,
-    own: Address,
-    view: Option<ViewId>,
-    place: u64,
-    copy: ReplicatedMap,
-    waiting: Vec<Waiting>,
+    followed: FollowedMember<ReplicatedMap>,
     answers: Vec<Answer>,
 }
 
@@ -30,7 +24,7 @@ impl Model for MapService {
 
     ghost Value = { Serving };
 
-    ghost view = { λ m. record { own = m.own; view = m.view; place = m.place; copy = m.copy; waiting = m.waiting.items; answers = m.answers.items } };
+    ghost view = { λ m. record { followed = m.followed; answers = m.answers.items } };
 }
 
 impl MapService {
@@ -40,41 +34,37 @@ impl MapService {
     {
         Ok(MapService {
             alloc,
-            own,
-            view: None,
-            place: 0,
-            copy: ReplicatedMap::opening(alloc)?,
-            waiting: Vec::new(alloc),
+            followed: FollowedMember::new(alloc, own)?,
             answers: Vec::new(alloc),
         })
     }
 
     /// The map after all that was heard. Other members may have delivered more, or less.
     pub fn copy(&self) -> &ReplicatedMap
-        ensures { result.now ≡ self.now.copy }
+        ensures { result.now ≡ self.now.followed.copy }
     {
-        &self.copy
+        self.followed.copy()
     }
 
     /// The view that its member installed last; `None` before the first.
     pub fn view(&self) -> Option<ViewId>
-        ensures { result ≡ self.now.view }
+        ensures { result ≡ self.now.followed.view }
     {
-        self.view
+        self.followed.view()
     }
 
     /// How many messages its member delivered in this view.
     pub fn place(&self) -> u64
-        ensures { result ≡ self.now.place }
+        ensures { result ≡ self.now.followed.place }
     {
-        self.place
+        self.followed.place()
     }
 
-    /// How many wait for a message of its member.
+    /// How many tickets wait for a message of its member.
     pub fn waits(&self) -> usize
-        ensures { result ≡ length self.now.waiting }
+        ensures { result ≡ length self.now.followed.waiting }
     {
-        self.waiting.len()
+        self.followed.waits()
     }
 
     /// A message of this number was sent in the view for this ticket: its fate will be the ticket's answer.
@@ -84,8 +74,7 @@ impl MapService {
         ensures ok { OnOk result (self.new ≡ noted number ticket self.old) }
         ensures err { OnErr result (self.new ≡ self.old) }
     {
-        self.waiting.push(Waiting { number, ticket })?;
-        Ok(())
+        self.followed.note(number, ticket)
     }
 
     /// Whether there are answers to take.
@@ -109,20 +98,10 @@ impl MapService {
         ensures ok { OnOk result (self.new ≡ heard self.old event.now) }
         ensures err { OnErr result (self.new ≡ self.old) }
     {
+        let own = self.followed.own();
         match event {
-            Event::Delivered(delivery) => {
-                if delivery.member == self.own {
-                    return self.deliver(delivery);
-                }
-                Ok(())
-            }
-            Event::Installed(install) => {
-                let install = install.get();
-                if install.member == self.own {
-                    return self.install(install);
-                }
-                Ok(())
-            }
+            Event::Delivered(delivery) if delivery.member == own => self.deliver(delivery),
+            Event::Installed(install) if install.get().member == own => self.install(install.get()),
             _ => Ok(()),
         }
     }
@@ -132,15 +111,12 @@ impl MapService {
         ensures ok { OnOk result (self.new ≡ delivered delivery.now self.old) }
         ensures err { OnErr result (self.new ≡ self.old) }
     {
-        let message = &delivery.message;
-        let payload = message.payload.as_slice();
-        let outcome = self.copy.outcome(self.alloc, payload)?;
+        let payload = delivery.message.payload.as_slice();
+        let outcome = self.followed.copy().outcome(self.alloc, payload)?;
         self.answers.reserve(1)?;
-        self.copy.receive(message.sender, payload)?;
-        self.place = self.place.saturating_add(1);
-        if message.sender == self.own {
-            let fate = Fate::Delivered(delivery.view, self.place, outcome);
-            settle(&mut self.waiting, &mut self.answers, message.number, fate);
+        if let Some(ticket) = self.followed.deliver(delivery)? {
+            let fate = Fate::Delivered(delivery.view, self.followed.place(), outcome);
+            self.answers.push_reserved(Answer { ticket, fate });
         }
         Ok(())
     }
@@ -150,13 +126,9 @@ impl MapService {
         ensures ok { OnOk result (self.new ≡ installed install.now self.old) }
         ensures err { OnErr result (self.new ≡ self.old) }
     {
-        self.answers.reserve(self.waiting.len())?;
-        if let Some(state) = &install.given {
-            let _taken = self.copy.set_state(state.as_slice())?;
-        }
-        self.view = Some(install.view.id());
-        self.place = 0;
-        hand_back(&mut self.waiting, &mut self.answers);
+        self.answers.reserve(self.followed.waits())?;
+        let waiting = self.followed.install(install)?;
+        hand_back(waiting.as_slice(), &mut self.answers);
         Ok(())
     }
 }

@@ -1,12 +1,11 @@
-//! Who waits for a message, and what each is answered.
+//! What each ticket is answered.
 
-ghost use Rattle.std.specs.Prelude.{◌≡◌, ◌+◌, ◌<◌, ◌≤◌, ◌++◌, [], vec_len, vec_capacity, map};
-ghost use Rattle.tickets.specs.Waits.{ticket_of, others_of};
-ghost use Rattle.map_service.specs.Serving.{answered, back};
+ghost use Rattle.std.specs.Prelude.{◌≡◌, ◌+◌, ◌≤◌, ◌++◌, length, vec_len, vec_capacity, map};
+ghost use Rattle.map_service.specs.Serving.{back};
 
 use address::ViewId;
+use followed_events::Waiting;
 use replicated_map::Outcome;
-use tickets::{Waiting, take_ticket};
 
 /// What became of a message of one's own.
 #[derive(Debug, Drop)]
@@ -24,28 +23,15 @@ pub struct Answer {
     pub fate: Fate,
 }
 
-// Answers who waits for a message of this number, if anybody does.
-pub(crate) fn settle(waiting: &mut Vec<Waiting>, answers: &mut Vec<Answer>, number: u64, fate: Fate)
-    requires { vec_len answers.old < vec_capacity answers.old }
-    ensures waiting { waiting.new.items ≡ others_of number waiting.old.items }
-    ensures answers { answers.new.items ≡ answers.old.items ++ answered (ticket_of number waiting.old.items) fate }
+// Answers all that wait that their messages are handed back.
+pub(crate) fn hand_back(waiting: &[Waiting], answers: &mut Vec<Answer>)
+    requires { vec_len answers.old + length waiting.now ≤ vec_capacity answers.old }
+    ensures { answers.new.items ≡ answers.old.items ++ map back waiting.now }
 {
-    if let Some(ticket) = take_ticket(waiting, number) {
-        answers.push_reserved(Answer { ticket, fate });
-    }
-}
-
-// Answers all who wait that their messages are handed back.
-pub(crate) fn hand_back(waiting: &mut Vec<Waiting>, answers: &mut Vec<Answer>)
-    requires { vec_len answers.old + vec_len waiting.old ≤ vec_capacity answers.old }
-    ensures waiting { waiting.new.items ≡ [] }
-    ensures answers { answers.new.items ≡ answers.old.items ++ map back waiting.old.items }
-{
-    for waits in waiting.iter() {
+    for waits in waiting {
         answers.push_reserved(Answer {
             ticket: waits.ticket,
             fate: Fate::HandedBack,
         });
     }
-    waiting.clear();
 }

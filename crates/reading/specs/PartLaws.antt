@@ -1,13 +1,13 @@
 -- What a part of the format is read from is its spelling, and its spelling is read as it, whatever follows.
-use Rattle.std.proofs.Common.{◌≡◌, ℕ, zero, suc, ◌^◌, ◌<◌, ◌≤◌, Bool, true, cond, leb, ◌&&◌, List, [], ◌∷◌, ◌++◌, length, take, drop, Option, Some, None, refl, sym, ap, subst, ◌∙◌, append_assoc, arith}
+use Rattle.std.proofs.Common.{◌≡◌, ℕ, zero, suc, ◌^◌, ◌<◌, ◌≤◌, Bool, true, cond, eqb, leb, ◌&&◌, List, [], ◌∷◌, ◌++◌, length, take, drop, Option, Some, None, refl, sym, ap, subst, ◌∙◌, append_assoc, arith}
 use Rattle.std.specs.List.{flat_map, AllByRecursion}
-use Rattle.std.proofs.lemmas.Bool.{leb-true, le-leb, and_parts}
-use Rattle.std.proofs.lemmas.List.{take_at, drop_at, take-append-drop, length-append, length-take}
+use Rattle.std.proofs.lemmas.Bool.{eqb-true, leb-true, le-leb, and_parts}
+use Rattle.std.proofs.lemmas.List.{append-nil, nil_from_length, take_at, drop_at, take-append-drop, length-append, length-take}
 use Rattle.byteorder.specs.Endian.{big_bytes, big_number}
 use Rattle.address.specs.Ids.{Address, IsAddress}
 use Rattle.limits.specs.declared.TheConstants.{GREATEST_INCARNATION, GREATEST_NODE}
 use Rattle.big_endian.specs.Spelled.{address_bytes}
-use Rattle.reading.specs.Reading.{Read, ◌>>=◌, are_bytes, bytes_at, number_at, address_at, list_at}
+use Rattle.reading.specs.Reading.{Read, ◌>>=◌, are_bytes, bytes_at, number_at, sized_bytes, sized_at, address_at, list_at, read_to_end}
 use Rattle.big_endian.proofs.Bytes.{IsWide, wide2, wide4, number_back, length-big_bytes}
 use Rattle.reading.specs.NumberLaws.{tested_bytes, big_bytes-are_bytes}
 use Rattle.std.proofs.lemmas.Option.{cond_some}
@@ -82,6 +82,26 @@ number_part n low high wide small = record {
   again = λ x rest in_range. number_again n low high x rest (omega (arith, in_range.1)) in_range;
 }
 
+-- ---- bytes behind their length
+
+sized_takes : (most : ℕ) → most < 65536 → (bytes x rest : List ℕ) → sized_at most bytes ≡ Some (x, rest) → (bytes ≡ sized_bytes x ++ rest) × (length x ≤ most)
+unfolding sized_at
+sized_takes most few bytes x rest e =
+    let a = bind_some (number_at 2 0 most bytes) (λ len. bytes_at len.0 len.1) (x, rest) e in
+    let t = number_takes 2 wide2 0 most bytes a.0.0 a.0.1 a.1 in
+    let u = bytes_takes a.0.0 a.0.1 x rest a.2 in
+    let both : bytes ≡ (big_bytes 2 a.0.0 ++ x) ++ rest = joined bytes (big_bytes 2 a.0.0) a.0.1 x rest t.0 u.0 in
+    (subst (λ (n : ℕ). bytes ≡ (big_bytes 2 n ++ x) ++ rest) (sym u.1) both, omega (arith, u.1, t.1.1))
+
+sized_again : (most : ℕ) → most < 65536 → (x rest : List ℕ) → length x ≤ most → sized_at most (sized_bytes x ++ rest) ≡ Some (x, rest)
+unfolding sized_at
+sized_again most few x rest short =
+    ap (sized_at most) (append_assoc (big_bytes 2 (length x)) x rest)
+    ∙ rw (number_again 2 0 most (length x) (x ++ rest) (omega (arith, few, short)) (omega arith, short), bytes_again (length x) x rest refl) refl
+
+pub sized_part : (most : ℕ) → most < 65536 → IsPart (sized_at most) sized_bytes (λ x. length x ≤ most)
+sized_part most few = record { takes = sized_takes most few; again = sized_again most few }
+
 -- ---- addresses
 
 pub address_takes : (bytes : List ℕ) (a : Address) (rest : List ℕ) → address_at bytes ≡ Some (a, rest) → (bytes ≡ address_bytes a ++ rest) × IsAddress a
@@ -126,3 +146,21 @@ list_again read spell Fits part [] rest fits = refl
 list_again read spell Fits part (x ∷ xs) rest fits =
     ap (list_at read (suc (length xs))) (append_assoc (spell x) (flat_map spell xs) rest)
     ∙ rw (part.again x (flat_map spell xs ++ rest) fits.0, list_again read spell Fits part xs rest fits.1) refl
+
+-- ---- what is read to its end
+
+module _ {A : Type 0} (read : List ℕ → Read A) (spell : A → List ℕ) (Fits : A → Type 0) (part : IsPart read spell Fits) where
+  -- what bytes are read as is spelled by them
+  pub to_end_takes : (bytes : List ℕ) (x : A) → read_to_end read bytes ≡ Some x → Fits x × (spell x ≡ bytes)
+  to_end_takes bytes x e =
+      let a = bind_some (read bytes) (λ p. cond (eqb (length p.1) 0) (Some p.0) None) x e in
+      let t = cond_some (eqb (length a.0.1) 0) a.0.0 x a.2 in
+      let nothing : a.0.1 ≡ [] = nil_from_length a.0.1 (eqb-true _ _ t.0) in
+      let u = part.takes bytes a.0.0 a.0.1 a.1 in
+      let whole : bytes ≡ spell a.0.0 = u.0 ∙ ap (λ (r : List ℕ). spell a.0.0 ++ r) nothing ∙ append-nil (spell a.0.0) in
+      subst (λ (y : A). Fits y × (spell y ≡ bytes)) t.1 (u.1, sym whole)
+
+  pub to_end_again : (x : A) → Fits x → read_to_end read (spell x) ≡ Some x
+  to_end_again x fits =
+      let again : read (spell x) ≡ Some (x, []) = ap read (sym (append-nil (spell x))) ∙ part.again x [] fits in
+      rw again refl

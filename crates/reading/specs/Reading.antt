@@ -1,7 +1,7 @@
 -- How a value is read from the front of some bytes: the value and what follows it, if the bytes begin with one.
-use Rattle.std.specs.Prelude.{◌≡◌, ℕ, zero, suc, List, [], ◌∷◌, length, take, drop, Option, Some, None, nat_lt, nat_le, Bool, ◌&&◌, if◌then◌else◌}
+use Rattle.std.specs.Prelude.{◌≡◌, ℕ, zero, suc, List, [], ◌∷◌, ◌++◌, length, take, drop, Option, Some, None, nat_eq, nat_lt, nat_le, Bool, ◌&&◌, if◌then◌else◌}
 use Rattle.std.specs.List.{list_all}
-use Rattle.byteorder.specs.Endian.{big_number}
+use Rattle.byteorder.specs.Endian.{big_bytes, big_number}
 use Rattle.address.specs.Ids.{Address}
 use Rattle.limits.specs.declared.TheConstants.{GREATEST_INCARNATION, GREATEST_NODE}
 
@@ -34,6 +34,15 @@ number_at n low high bytes = do
       then Some (big_number n front.0, front.1)
       else None
 
+-- bytes behind their length, which takes two bytes: at most so many
+abbrev pub sized_bytes : List ℕ → List ℕ
+sized_bytes bytes = big_bytes 2 (length bytes) ++ bytes
+
+unfoldable pub sized_at : ℕ → List ℕ → Read (List ℕ)
+sized_at most bytes = do
+  len ← number_at 2 0 most bytes
+  bytes_at len.0 len.1
+
 -- an address: the node in two bytes, the incarnation in four; neither is 0
 unfoldable pub address_at : List ℕ → Read Address
 address_at bytes = do
@@ -48,3 +57,7 @@ list_at read (suc n) bytes = do
   first ← read bytes
   others ← list_at read n first.1
   Some (first.0 ∷ others.0, others.1)
+
+-- what is read of bytes behind which nothing follows
+abbrev pub read_to_end : {A : Type 0} → (List ℕ → Read A) → List ℕ → Option A
+read_to_end read bytes = read bytes >>= λ x. if nat_eq (length x.1) 0 then Some x.0 else None

@@ -1,14 +1,16 @@
-use keyed_entries::{Entry, KeyBytes, is_rising, key_field, key_from, last_key, look_ups, put_key};
+use keyed_entries::{
+    KeyBytes, KeyedEntry, is_rising, key_field, key_from, last_key, look_ups, put_key,
+};
 use owned_bytes::Bytes;
 use reading::Reader;
 use std::alloc::{AllocError, Global};
 
 // Entries of these keys, each with the number of its place.
-fn entries_of(alloc: Global, keys: &[&[u8]]) -> Result<Vec<Entry<u64>>, AllocError> {
+fn entries_of(alloc: Global, keys: &[&[u8]]) -> Result<Vec<KeyedEntry<u64>>, AllocError> {
     let mut entries = Vec::new(alloc);
     for (place, key) in keys.iter().enumerate() {
         let key = Bytes::from_slice(alloc, key)?;
-        entries.push(Entry {
+        entries.push(KeyedEntry {
             key,
             value: place as u64,
         })?;

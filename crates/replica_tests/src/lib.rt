@@ -20,6 +20,8 @@ mod reading_tests;
 #[cfg(test)]
 mod service_tests;
 #[cfg(test)]
+mod state_tests;
+#[cfg(test)]
 mod token_tests;
 #[cfg(test)]
 mod words_tests;

@@ -1,10 +1,10 @@
 use crate::events::{delivery, first, install, second, view};
+use followed_events::{Waiting, take_ticket};
 use lock_service::{
     Answer, Fate, LockService, Standing, follows, forgets_nobody, grants, misses_no_grant,
     standing_of,
 };
 use std::alloc::{AllocError, Global};
-use tickets::{Waiting, take_ticket};
 
 // By hand from the tables of docs/RECEIVERS.md, in the view 1@1.1: acquire `a`, release `a`.
 const ACQUIRE_A: &[u8] = b"\x01\0\0\0\0\0\0\0\x01\0\x01\0\0\0\x01\x01a";

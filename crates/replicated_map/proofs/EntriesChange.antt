@@ -11,7 +11,7 @@ use Rattle.std.proofs.lemmas.Map.Text.{is_eq-slice_cmp}
 use Rattle.std.proofs.lemmas.Slice.Eq.{bytes_eq-Decides}
 use Rattle.address.specs.Ids.{ViewId}
 use Rattle.limits.specs.declared.TheConstants.{STATE, GREATEST_NUMBER}
-use Rattle.keyed_entries.specs.declared.Entry.{Entry}
+use Rattle.keyed_entries.specs.declared.KeyedEntry.{KeyedEntry}
 use Rattle.keyed_entries.specs.Keys.{IsKey}
 use Rattle.keyed_entries.specs.Entries.{key_cmp, entry_of, value_of, put, without, IsHeldAt}
 use Rattle.tokens.specs.declared.token.Token.{Token}
@@ -22,11 +22,11 @@ use Rattle.replicated_map.specs.Values.{held_form}
 use Rattle.replicated_map.specs.Entries.{MapState, state_of, held, map_size, IsValue, IsMap, given, is_within, put_within}
 use Rattle.replicated_map.specs.MapLaws.{given_is_map, removed_is_map}
 
-abbrev entry_size : Entry Held → ℕ
+abbrev entry_size : KeyedEntry Held → ℕ
 entry_size e = size_in held_form e
 
 abbrev pub Entries : Type 0
-Entries = List (Entry Held)
+Entries = List (KeyedEntry Held)
 
 -- a map, and in how many bytes it is encoded
 abbrev pub IsCountedMap : MapState → ℕ → Type 0
@@ -103,7 +103,7 @@ pub removal-size : (s : Entries) (k : List ℕ) (old : Held) → value_of k s �
 removal-size s k old at = let size = size-without k old s at in omega (arith, size)
 
 -- without what a key has, at the place where its entry stands
-pub removes-held : (last : Token) (s u : Entries) (k : List ℕ) (i : ℕ) (x : Entry Held) (n : ℕ) → IsHeldAt k s i → slice_get s i ≡ Some x → u ≡ remove s i → IsCountedMap (state_of last s) n
+pub removes-held : (last : Token) (s u : Entries) (k : List ℕ) (i : ℕ) (x : KeyedEntry Held) (n : ℕ) → IsHeldAt k s i → slice_get s i ≡ Some x → u ≡ remove s i → IsCountedMap (state_of last s) n
     → IsCountedMap (state_of last u) (n - (25 + length x.key + length x.value.value))
 removes-held last s u k i x n held stands same kept =
     let without_it : u ≡ without k s = same ∙ sym held.takes in

@@ -7,7 +7,7 @@ use Rattle.std.specs.declared.cmp.Ordering.TheVariants.{Less, Equal, Greater}
 use Rattle.std.proofs.lemmas.Option.{none-some, same_Some}
 use Rattle.address.specs.Ids.{ViewId}
 use Rattle.trace_props.specs.declared.event.Message.{Message}
-use Rattle.keyed_entries.specs.declared.Entry.{Entry}
+use Rattle.keyed_entries.specs.declared.KeyedEntry.{KeyedEntry}
 use Rattle.keyed_entries.specs.Entries.{key_cmp, value_of}
 use Rattle.keyed_entries.proofs.LookUpsFind.{found-put, found-without}
 use Rattle.tokens.specs.declared.token.Token.{Token}
@@ -24,7 +24,7 @@ use Rattle.replicated_map.specs.Versions.{after, after_all, Gives, AboveAllBefor
 
 -- ---- what holds of each value that a key has
 
-holds-of : (Q : Held → Type 0) (k : List ℕ) (es : List (Entry Held)) (h : Held) → AllByRecursion (λ e. Q e.value) es → value_of k es ≡ Some h → Q h
+holds-of : (Q : Held → Type 0) (k : List ℕ) (es : List (KeyedEntry Held)) (h : Held) → AllByRecursion (λ e. Q e.value) es → value_of k es ≡ Some h → Q h
 holds-of Q k [] h all at = absurd cc
 holds-of Q k (e ∷ es) h all at = by (key_cmp k e.key) (holds-of Q k es h all.1) at where
   by : (o : Ordering) → (value_of k es ≡ Some h → Q h) → match_ordering o None (Some e.value) (value_of k es) ≡ Some h → Q h

@@ -1,14 +1,12 @@
 -- The commands of the map leave it a map, and each is read from its spelling and from no other bytes.
-use Rattle.std.proofs.Common.{◌≡◌, ℕ, ◌≤◌, Bool, true, false, cond, eqb, List, [], ◌++◌, length, Option, Some, None, refl, sym, ap, subst, ◌∙◌, append_assoc, arith}
+use Rattle.std.proofs.Common.{◌≡◌, ℕ, ◌≤◌, Bool, true, false, cond, eqb, List, ◌++◌, length, Option, Some, None, refl, sym, ap, subst, ◌∙◌, append_assoc, arith}
 use Rattle.std.proofs.lemmas.Bool.{eqb-true, eqb-false}
-use Rattle.std.proofs.lemmas.List.{append-nil, nil_from_length}
-use Rattle.std.proofs.lemmas.Option.{cond_some}
 use Rattle.byteorder.specs.Endian.{big_bytes}
 use Rattle.big_endian.proofs.Bytes.{wide1}
 use Rattle.address.specs.Ids.{Address, ViewId, IsAddress}
 use Rattle.limits.specs.declared.TheConstants.{PAYLOAD}
 use Rattle.reading.specs.Reading.{number_at, ◌>>=◌}
-use Rattle.reading.specs.PartLaws.{bind_some, some_is, joined, IsPart, IsWithin, number_part}
+use Rattle.reading.specs.PartLaws.{bind_some, some_is, joined, IsPart, IsWithin, number_part, to_end_takes, to_end_again}
 use Rattle.keyed_entries.specs.Keys.{key_bytes, key_at}
 use Rattle.keyed_entries.specs.KeyLaws.{key_takes, key_again}
 use Rattle.tokens.specs.declared.token.Token.{Token}
@@ -19,7 +17,7 @@ use Rattle.replicated_map.specs.declared.command.Command.TheVariants.{Put, Remov
 use Rattle.replicated_map.specs.Entries.{MapState, IsMap, held_of, value_in, put_within, removed}
 use Rattle.replicated_map.specs.Values.{value_bytes, value_at}
 use Rattle.replicated_map.specs.Commands.{is_expected, has_version, carried_out, expected_bytes, pair_bytes, command_bytes, expected_at, pair_at, put_at, remove_at, replace_at, replace_version_at, remove_version_at, command_at, command_of, IsExpected, IsPair, IsCommand, after_command, map_apply}
-use Rattle.replicated_map.specs.EncodingLaws.{value_takes, value_again}
+use Rattle.replicated_map.specs.EncodingLaws.{value_part}
 use Rattle.replicated_map.specs.MapLaws.{cleared_is_map, put_is_map, removed_is_map}
 
 -- ---- an expected value
@@ -49,7 +47,7 @@ expected_takes bytes w rest e =
     some_value : (at : List ℕ) → some_at at ≡ Some (w, rest) → Follows expected_bytes IsExpected 1 at (w, rest)
     some_value at f =
         let b = bind_some {B = Option (List ℕ) × List ℕ} (value_at at) (λ v. Some (Some v.0, v.1)) (w, rest) f in
-        let u = value_takes at b.0.0 b.0.1 b.1 in
+        let u = value_part.takes at b.0.0 b.0.1 b.1 in
         let whole : big_bytes 1 1 ++ at ≡ (big_bytes 1 1 ++ value_bytes b.0.0) ++ b.0.1 = joined (big_bytes 1 1 ++ at) (big_bytes 1 1) at (value_bytes b.0.0) b.0.1 refl u.0 in
         subst (λ (p : Option (List ℕ) × List ℕ). Follows expected_bytes IsExpected 1 at p) (some_is (Some b.0.0, b.0.1) (w, rest) b.2) (whole, u.1)
 
@@ -66,7 +64,7 @@ unfolding expected_at
 expected_again None rest fits = rw (flag_part.again 0 rest (omega arith, omega arith)) refl
 expected_again (Some w) rest fits =
     ap expected_at (append_assoc (big_bytes 1 1) (value_bytes w) rest)
-    ∙ rw (flag_part.again 1 (value_bytes w ++ rest) (omega arith, omega arith), value_again w rest fits) refl
+    ∙ rw (flag_part.again 1 (value_bytes w ++ rest) (omega arith, omega arith), value_part.again w rest fits) refl
 
 -- ---- a key and its value
 
@@ -76,7 +74,7 @@ pair_takes bytes p rest e =
     let a = bind_some (key_at bytes) (λ key. value_at key.1 >>= λ value. Some ((key.0, value.0), value.1)) (p, rest) e in
     let b = bind_some (value_at a.0.1) (λ value. Some ((a.0.0, value.0), value.1)) (p, rest) a.2 in
     let t = key_takes bytes a.0.0 a.0.1 a.1 in
-    let u = value_takes a.0.1 b.0.0 b.0.1 b.1 in
+    let u = value_part.takes a.0.1 b.0.0 b.0.1 b.1 in
     subst (λ (q : (List ℕ × List ℕ) × List ℕ). (bytes ≡ pair_bytes q.0.0 q.0.1 ++ q.1) × IsPair q.0) (some_is ((a.0.0, b.0.0), b.0.1) (p, rest) b.2)
     (joined bytes (key_bytes a.0.0) a.0.1 (value_bytes b.0.0) b.0.1 t.0 u.0, (t.1, u.1))
 
@@ -84,7 +82,7 @@ pair_again : (k v rest : List ℕ) → IsPair (k, v) → pair_at (pair_bytes k v
 unfolding pair_at
 pair_again k v rest fits =
     ap pair_at (append_assoc (key_bytes k) (value_bytes v) rest)
-    ∙ rw (key_again k (value_bytes v ++ rest) fits.0, value_again v rest fits.1) refl
+    ∙ rw (key_again k (value_bytes v ++ rest) fits.0, value_part.again v rest fits.1) refl
 
 -- ---- the commands, behind their kind
 
@@ -236,22 +234,17 @@ command_again (RemoveAt t k) rest fits =
     ap command_at (append_assoc (big_bytes 1 6) (token_bytes t ++ key_bytes k) rest)
     ∙ rw (kind_part.again 6 ((token_bytes t ++ key_bytes k) ++ rest) (omega arith, omega arith)) (remove_version_again t k rest fits)
 
+command_part : IsPart command_at command_bytes IsCommand
+command_part = record { takes = command_takes; again = command_again }
+
 -- what a payload says is spelled by it
 pub command_is_spelled : (payload : List ℕ) (c : Command) → command_of payload ≡ Some c → IsCommand c × (command_bytes c ≡ payload)
 unfolding command_of
-command_is_spelled payload c e =
-    let a = bind_some (command_at payload) (λ p. cond (eqb (length p.1) 0) (Some p.0) None) c e in
-    let t = cond_some (eqb (length a.0.1) 0) a.0.0 c a.2 in
-    let nothing : a.0.1 ≡ [] = nil_from_length a.0.1 (eqb-true _ _ t.0) in
-    let u = command_takes payload a.0.0 a.0.1 a.1 in
-    let whole : payload ≡ command_bytes a.0.0 = u.0 ∙ ap (λ (r : List ℕ). command_bytes a.0.0 ++ r) nothing ∙ append-nil (command_bytes a.0.0) in
-    subst (λ (x : Command). IsCommand x × (command_bytes x ≡ payload)) t.1 (u.1, sym whole)
+command_is_spelled payload c e = to_end_takes command_at command_bytes IsCommand command_part payload c e
 
 pub spelled_is_read : (c : Command) → IsCommand c → command_of (command_bytes c) ≡ Some c
 unfolding command_of
-spelled_is_read c fits =
-    let again : command_at (command_bytes c) ≡ Some (c, []) = ap command_at (sym (append-nil (command_bytes c))) ∙ command_again c [] fits in
-    rw again refl
+spelled_is_read c fits = to_end_again command_at command_bytes IsCommand command_part c fits
 
 -- ---- a message leaves a map a map
 

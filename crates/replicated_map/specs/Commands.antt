@@ -1,9 +1,9 @@
 -- The commands of the map: what each does, and how payloads spell them.
-use Rattle.std.specs.Prelude.{ℕ, List, ◌++◌, length, Option, Some, None, Bool, true, false, ◌==◌, nat_eq, if◌then◌else◌}
+use Rattle.std.specs.Prelude.{ℕ, List, ◌++◌, Option, Some, None, Bool, true, false, ◌==◌, nat_eq, if◌then◌else◌}
 use Rattle.std.specs.Cmp.Lexicographic.{pointwise}
 use Rattle.byteorder.specs.Endian.{big_bytes}
 use Rattle.address.specs.Ids.{Address, ViewId}
-use Rattle.reading.specs.Reading.{Read, ◌>>=◌, number_at}
+use Rattle.reading.specs.Reading.{Read, ◌>>=◌, number_at, read_to_end}
 use Rattle.keyed_entries.specs.Keys.{IsKey, key_bytes, key_at}
 use Rattle.tokens.specs.declared.token.Token.{Token}
 use Rattle.tokens.specs.Tokens.{is_token, IsViewId, IsToken}
@@ -125,9 +125,7 @@ command_at bytes = do
 
 -- the command that a payload is: nothing follows it
 unfoldable pub command_of : List ℕ → Option Command
-command_of payload = do
-  command ← command_at payload
-  if length command.1 == 0 then Some command.0 else None
+command_of payload = read_to_end command_at payload
 
 -- the commands that can be spelled
 abbrev pub IsExpected : Option (List ℕ) → Type 0

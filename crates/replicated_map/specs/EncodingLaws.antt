@@ -1,10 +1,9 @@
 -- What a value, and what a key has, are read from is their spelling, and their spelling is read as them, whatever follows.
-use Rattle.std.proofs.Common.{◌≡◌, ℕ, List, ◌++◌, length, Some, refl, sym, ap, subst, ◌∙◌, append_assoc, arith}
+use Rattle.std.proofs.Common.{◌≡◌, ℕ, List, ◌++◌, length, Some, refl, ap, subst, ◌∙◌, append_assoc, arith}
 use Rattle.std.proofs.lemmas.List.{length-append}
 use Rattle.byteorder.specs.Endian.{big_bytes}
-use Rattle.big_endian.proofs.Bytes.{wide2}
-use Rattle.reading.specs.Reading.{number_at, bytes_at, ◌>>=◌}
-use Rattle.reading.specs.PartLaws.{bind_some, some_is, joined, bytes_takes, bytes_again, number_part}
+use Rattle.reading.specs.Reading.{◌>>=◌}
+use Rattle.reading.specs.PartLaws.{bind_some, some_is, joined, IsPart, sized_part}
 use Rattle.tokens.specs.Spelling.{token_bytes, token_at}
 use Rattle.tokens.specs.SpellingLaws.{token_part, length-token}
 use Rattle.keyed_state.specs.StateLaws.{FormLaws}
@@ -12,20 +11,8 @@ use Rattle.replicated_map.specs.declared.TheConstants.{VALUE}
 use Rattle.replicated_map.specs.declared.entries.Held.{Held}
 use Rattle.replicated_map.specs.Values.{IsValue, IsHeld, held, value_bytes, value_at, held_bytes, held_at, held_form}
 
-pub value_takes : (bytes x rest : List ℕ) → value_at bytes ≡ Some (x, rest) → (bytes ≡ value_bytes x ++ rest) × IsValue x
-unfolding value_at
-value_takes bytes x rest e =
-    let a = bind_some (number_at 2 0 VALUE bytes) (λ len. bytes_at len.0 len.1) (x, rest) e in
-    let t = (number_part 2 0 VALUE wide2 (omega arith)).takes bytes a.0.0 a.0.1 a.1 in
-    let u = bytes_takes a.0.0 a.0.1 x rest a.2 in
-    let both : bytes ≡ (big_bytes 2 a.0.0 ++ x) ++ rest = joined bytes (big_bytes 2 a.0.0) a.0.1 x rest t.0 u.0 in
-    (subst (λ (n : ℕ). bytes ≡ (big_bytes 2 n ++ x) ++ rest) (sym u.1) both, omega (arith, u.1, t.1.1))
-
-pub value_again : (x rest : List ℕ) → IsValue x → value_at (value_bytes x ++ rest) ≡ Some (x, rest)
-unfolding value_at
-value_again x rest few =
-    ap value_at (append_assoc (big_bytes 2 (length x)) x rest)
-    ∙ rw ((number_part 2 0 VALUE wide2 (omega arith)).again (length x) (x ++ rest) (omega arith, few), bytes_again (length x) x rest refl) refl
+pub value_part : IsPart value_at value_bytes IsValue
+value_part = sized_part VALUE (omega arith)
 
 held_takes : (bytes : List ℕ) (h : Held) (rest : List ℕ) → held_at bytes ≡ Some (h, rest) → (bytes ≡ held_bytes h ++ rest) × IsHeld h
 unfolding held_at
@@ -33,7 +20,7 @@ held_takes bytes h rest e =
     let a = bind_some (token_at bytes) (λ version. value_at version.1 >>= λ value. Some (held version.0 value.0, value.1)) (h, rest) e in
     let b = bind_some (value_at a.0.1) (λ value. Some (held a.0.0 value.0, value.1)) (h, rest) a.2 in
     let t = token_part.takes bytes a.0.0 a.0.1 a.1 in
-    let u = value_takes a.0.1 b.0.0 b.0.1 b.1 in
+    let u = value_part.takes a.0.1 b.0.0 b.0.1 b.1 in
     subst (λ (p : Held × List ℕ). (bytes ≡ held_bytes p.0 ++ p.1) × IsHeld p.0) (some_is (held a.0.0 b.0.0, b.0.1) (h, rest) b.2)
     (joined bytes (token_bytes a.0.0) a.0.1 (value_bytes b.0.0) b.0.1 t.0 u.0, record { version = t.1; value = u.1 })
 
@@ -41,7 +28,7 @@ held_again : (h : Held) (rest : List ℕ) → IsHeld h → held_at (held_bytes h
 unfolding held_at
 held_again h rest is =
     ap held_at (append_assoc (token_bytes h.version) (value_bytes h.value) rest)
-    ∙ rw (token_part.again h.version (value_bytes h.value ++ rest) is.version, value_again h.value rest is.value) refl
+    ∙ rw (token_part.again h.version (value_bytes h.value ++ rest) is.version, value_part.again h.value rest is.value) refl
 
 held_sized : (h : Held) → length (held_bytes h) ≡ held_form.size_of h
 held_sized h = omega (arith, length-append (token_bytes h.version) (value_bytes h.value), length-token h.version, length-append (big_bytes 2 (length h.value)) h.value)

@@ -3,7 +3,7 @@ use Rattle.std.specs.Prelude.{ℕ, Bool, ◌&&◌, List, [], Option, if◌then�
 use Rattle.std.specs.Option.{option_map}
 use Rattle.std.specs.Borrow.{Bor}
 use Rattle.address.specs.Ids.{ViewId}
-use Rattle.keyed_entries.specs.declared.Entry.{Entry}
+use Rattle.keyed_entries.specs.declared.KeyedEntry.{KeyedEntry}
 use Rattle.keyed_entries.specs.Entries.{entry_of, value_of, put, without}
 use Rattle.tokens.specs.declared.token.Token.{Token}
 use Rattle.tokens.specs.Tokens.{next_token}
@@ -29,7 +29,7 @@ abbrev pub version_in : Option Held → Option Token
 version_in found = option_map (λ h. h.version) found
 
 -- how many bytes a state is encoded in: the last version in 22, the number of its entries in four; of an entry the lengths of its key and value in three, its version in 22
-abbrev pub map_size : List (Entry Held) → ℕ
+abbrev pub map_size : List (KeyedEntry Held) → ℕ
 map_size entries = state_size held_form entries
 
 -- the states of a map: the keys rise, no version is above the last, and the encoding fits into a state
@@ -64,5 +64,5 @@ abbrev pub held_lent : Option (Bor Held) → Option Held
 held_lent found = option_map (λ h. h.now) found
 
 -- an entry that is lent as its key and what it has
-abbrev pub entry_lent : Option (Bor (List ℕ) × Bor Held) → Option (Entry Held)
+abbrev pub entry_lent : Option (Bor (List ℕ) × Bor Held) → Option (KeyedEntry Held)
 entry_lent found = option_map (λ e. entry_of e.0.now e.1.now) found

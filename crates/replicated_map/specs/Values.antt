@@ -1,7 +1,6 @@
 -- What a key has: a value, and the version that it was given with; as bytes, and from bytes.
 use Rattle.std.specs.Prelude.{ℕ, ◌+◌, ◌≤◌, List, ◌++◌, length, Some}
-use Rattle.byteorder.specs.Endian.{big_bytes}
-use Rattle.reading.specs.Reading.{Read, ◌>>=◌, bytes_at, number_at}
+use Rattle.reading.specs.Reading.{Read, ◌>>=◌, sized_bytes, sized_at}
 use Rattle.tokens.specs.declared.token.Token.{Token}
 use Rattle.tokens.specs.Tokens.{IsToken}
 use Rattle.tokens.specs.Spelling.{token_bytes, token_at}
@@ -24,12 +23,10 @@ pub record IsHeld (h : Held) : Type 0 where
 -- ---- a value: its length in two bytes, and its bytes
 
 abbrev pub value_bytes : List ℕ → List ℕ
-value_bytes v = big_bytes 2 (length v) ++ v
+value_bytes v = sized_bytes v
 
-unfoldable pub value_at : List ℕ → Read (List ℕ)
-value_at bytes = do
-  len ← number_at 2 0 VALUE bytes
-  bytes_at len.0 len.1
+abbrev pub value_at : List ℕ → Read (List ℕ)
+value_at bytes = sized_at VALUE bytes
 
 -- ---- what a key has: its version, and its value
 

@@ -7,7 +7,7 @@ ghost use Rattle.replicated_map.specs.Entries.{IsValue, held, map_size};
 
 use crate::entries::copied;
 use crate::{Held, ValueBytes};
-use keyed_entries::{Entry, KeyBytes, Place};
+use keyed_entries::{KeyBytes, KeyedEntry, Place};
 use limits::{GREATEST_NUMBER, STATE};
 use owned_bytes::Bytes;
 use std::alloc::AllocError;
@@ -15,7 +15,7 @@ use tokens::Token;
 
 // In how many bytes a state is encoded once a key, whose place is this, has a value. It has so many without.
 pub(crate) fn size_with(
-    entries: &[Entry<Held>],
+    entries: &[KeyedEntry<Held>],
     size: usize,
     place: Place,
     key: &KeyBytes<'_>,
@@ -44,7 +44,7 @@ pub(crate) fn has_room(size: usize, last: &Token) -> bool
 
 // Gives a key a value, at its place. Where memory is refused, the entries are as before.
 pub(crate) fn put_at(
-    entries: &mut Vec<Entry<Held>>,
+    entries: &mut Vec<KeyedEntry<Held>>,
     place: Place,
     key: &KeyBytes<'_>,
     version: &Token,

@@ -10,7 +10,7 @@ use keyed_entries::{KeyBytes, key_from};
 use reading::Reader;
 use tokens::{token_from, view_id_from};
 
-#[tactic(auto, unfolding(crate::specs::Values::value_at))]
+#[tactic(auto, unfolding(reading::specs::Reading::sized_at))]
 pub(crate) fn value_from<'a>(from: &mut Reader<'a>) -> Option<ValueBytes<'a>>
     ensures { IsReadOrNone (λ x. (x, from.new)) result (value_at from.old) }
 {

@@ -7,7 +7,7 @@ ghost use Rattle.replicated_map.specs.Entries.{held, held_lent};
 use crate::ValueBytes;
 use crate::decoding::value_from;
 use crate::encoding::put_value;
-use keyed_entries::{Entry, KeyBytes, Place, find};
+use keyed_entries::{KeyBytes, KeyedEntry, Place, find};
 use keyed_state::Kept;
 use owned_bytes::Bytes;
 use reading::Reader;
@@ -63,7 +63,7 @@ pub(crate) fn copied(
     key: &KeyBytes<'_>,
     version: &Token,
     value: &ValueBytes<'_>,
-) -> Result<Entry<Held>, AllocError>
+) -> Result<KeyedEntry<Held>, AllocError>
     ensures { IfOk result (λ e. e ≡ entry_of key.now (held version.now value.now)) }
 {
     let key = Bytes::from_slice(alloc, key.as_slice())?;
@@ -72,11 +72,11 @@ pub(crate) fn copied(
         version: *version,
         value,
     };
-    Ok(Entry { key, value })
+    Ok(KeyedEntry { key, value })
 }
 
 // What a key has.
-pub(crate) fn found_at<'a>(entries: &'a [Entry<Held>], key: &[u8]) -> Option<&'a Held>
+pub(crate) fn found_at<'a>(entries: &'a [KeyedEntry<Held>], key: &[u8]) -> Option<&'a Held>
     requires { Rises entries.now }
     ensures { held_lent result ≡ value_of key.now entries.now }
 {

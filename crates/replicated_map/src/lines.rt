@@ -7,13 +7,13 @@ ghost use Rattle.replicated_map.specs.MapText.{text_of_entry, text_of_more, text
 
 use crate::Held;
 use address::Address;
-use keyed_entries::Entry;
+use keyed_entries::KeyedEntry;
 use std::alloc::AllocError;
 use vsync_text::{put, put_address, put_hex};
 
 // Appends an entry behind one byte.
 #[tactic(auto, using(vsync_text::proofs::KeepFront::goes_on))]
-fn put_entry(out: &mut Vec<u8>, before: u8, entry: &Entry<Held>) -> Result<(), AllocError>
+fn put_entry(out: &mut Vec<u8>, before: u8, entry: &KeyedEntry<Held>) -> Result<(), AllocError>
     ensures text { OnOk result (out.new.items ≡ out.old.items ++ before ∷ text_of_entry entry.now) }
     ensures kept { GoesOnFrom out.old.items out.new.items }
 {
@@ -25,7 +25,7 @@ fn put_entry(out: &mut Vec<u8>, before: u8, entry: &Entry<Held>) -> Result<(), A
 
 // Appends entries, each behind a comma.
 #[tactic(auto, using(vsync_text::proofs::KeepFront::goes_on, vsync_text::proofs::KeepFront::stays))]
-fn put_more(out: &mut Vec<u8>, entries: &[Entry<Held>]) -> Result<(), AllocError>
+fn put_more(out: &mut Vec<u8>, entries: &[KeyedEntry<Held>]) -> Result<(), AllocError>
     ensures text { OnOk result (out.new.items ≡ out.old.items ++ text_of_more entries.now) }
     ensures kept { GoesOnFrom out.old.items out.new.items }
 {
@@ -37,7 +37,7 @@ fn put_more(out: &mut Vec<u8>, entries: &[Entry<Held>]) -> Result<(), AllocError
 
 // Appends entries behind a space, joined by commas, `-` for none.
 #[tactic(auto, using(vsync_text::proofs::KeepFront::goes_on))]
-fn put_entries(out: &mut Vec<u8>, entries: &[Entry<Held>]) -> Result<(), AllocError>
+fn put_entries(out: &mut Vec<u8>, entries: &[KeyedEntry<Held>]) -> Result<(), AllocError>
     ensures text { OnOk result (out.new.items ≡ out.old.items ++ 32 ∷ text_of_entries entries.now) }
     ensures kept { GoesOnFrom out.old.items out.new.items }
 {
@@ -55,7 +55,7 @@ fn put_entries(out: &mut Vec<u8>, entries: &[Entry<Held>]) -> Result<(), AllocEr
 pub(crate) fn put_map_line(
     out: &mut Vec<u8>,
     member: &Address,
-    entries: &[Entry<Held>],
+    entries: &[KeyedEntry<Held>],
 ) -> Result<(), AllocError>
     ensures text { OnOk result (out.new.items ≡ out.old.items ++ line_with (codes "map") (field (text_of_address member.now) ++ field (text_of_entries entries.now))) }
     ensures kept { GoesOnFrom out.old.items out.new.items }

@@ -10,7 +10,8 @@ use crate::changing::{has_room, put_at, size_with};
 use crate::entries::found_at;
 use crate::{Command, Held, ValueBytes, Version};
 use address::{Address, ViewId};
-use keyed_entries::{Entry, KeyBytes, Place, find};
+use followed_events::Replica;
+use keyed_entries::{KeyBytes, KeyedEntry, Place, find};
 use keyed_state::{contents_of, put_state, size_of_all};
 use state_transfer::Receiver;
 use std::alloc::{AllocError, Global};
@@ -23,7 +24,7 @@ use view::View;
 #[derive(Debug, Drop)]
 pub struct ReplicatedMap {
     last: Token,
-    entries: Vec<Entry<Held>>,
+    entries: Vec<KeyedEntry<Held>>,
     // In how many bytes the state is encoded.
     size: usize,
 }
@@ -106,7 +107,7 @@ impl ReplicatedMap {
     }
 
     // Its entries, their keys rising.
-    pub(crate) fn entries(&self) -> &[Entry<Held>]
+    pub(crate) fn entries(&self) -> &[KeyedEntry<Held>]
         ensures entries { result.now ≡ self.now.entries }
         ensures rise { Rises result.now }
     {
@@ -278,5 +279,16 @@ impl Receiver for ReplicatedMap {
                 Ok(true)
             }
         }
+    }
+}
+
+impl Replica for ReplicatedMap {
+    fn apply(&mut self, from: Address, payload: &[u8]) -> Result<(), AllocError> {
+        self.receive(from, payload)
+    }
+
+    fn restore(&mut self, state: &[u8]) -> Result<(), AllocError> {
+        self.set_state(state)?;
+        Ok(())
     }
 }

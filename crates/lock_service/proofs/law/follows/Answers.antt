@@ -1,4 +1,4 @@
-use Rattle.lock_service.proofs.EventsServed.{follows}
+use Rattle.lock_service.proofs.GrantsWereAsked.{follows}
 use Rattle.lock_service.proofs.law.follows.Goals as goal
 
 pub returns : goal.returns

@@ -1,5 +1,4 @@
-use Rattle.lock_service.proofs.EventsServed.{answers-stay}
-use Rattle.lock_service.proofs.GrantsWereAsked.{true-grants}
+use Rattle.lock_service.proofs.GrantsWereAsked.{answers-stay, true-grants}
 use Rattle.lock_service.proofs.law.grants.Goals as goal
 
 pub returns-clause-stay : goal.returns-clause-stay

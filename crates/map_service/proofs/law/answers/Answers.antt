@@ -1,5 +1,4 @@
-use Rattle.map_service.proofs.EventsKnown.{answers-stay}
-use Rattle.map_service.proofs.AnswersSayWhat.{true-answers, each-delivery}
+use Rattle.map_service.proofs.AnswersSayWhat.{answers-stay, true-answers, each-delivery}
 use Rattle.map_service.proofs.law.answers.Goals as goal
 
 pub returns-clause-stay : goal.returns-clause-stay

@@ -1,4 +1,4 @@
-use Rattle.map_service.proofs.EventsKnown.{follows}
+use Rattle.map_service.proofs.AnswersSayWhat.{follows}
 use Rattle.map_service.proofs.law.follows.Goals as goal
 
 pub returns : goal.returns

@@ -1,7 +1,7 @@
 use Rattle.std.proofs.Common.{◌≡◌, [], length, Some, refl, sym, ap, ◌∙◌, arith}
 use Rattle.std.specs.List.{slice_get}
 use Rattle.std.proofs.lemmas.Option.{slice_get_read}
-use Rattle.keyed_entries.specs.declared.Entry.{Entry}
+use Rattle.keyed_entries.specs.declared.KeyedEntry.{KeyedEntry}
 use Rattle.keyed_entries.specs.Entries.{IsHeldAt, value_of}
 use Rattle.replicated_map.specs.declared.entries.Held.{Held}
 use Rattle.replicated_map.specs.Entries.{held}
@@ -19,6 +19,6 @@ returns-in-Held-clause-size c =
     let at : value_of k s ≡ Some x.value = place.value x stands in
     let size = new-value s k (held c.args.version.now c.args.value.now) x.value at in
     let small = new-value s k (held c.args.version.now []) x.value at in
-    let old : length c.as_slice.result.now ≡ length x.value.value = ap length c.as_slice.ensures ∙ ap (λ (e : Entry Held). length e.value.value) (sym c.index-entries-i.is) in
+    let old : length c.as_slice.result.now ≡ length x.value.value = ap length c.as_slice.ensures ∙ ap (λ (e : KeyedEntry Held). length e.value.value) (sym c.index-entries-i.is) in
     let new : length c.as_slice-len.result.now ≡ length c.args.value.now = ap length c.as_slice-len.ensures.bytes in
     omega (arith, size, small, old, new, c.requires.size)

@@ -8,5 +8,5 @@ use Rattle.lock_service.proofs.service.LockService.keep.Goals as goal
 pub returns : goal.returns
 returns c =
     let s = c.self.inside in
-    let with : List Queued → Keeping = λ l. record { own = s.own; view = s.view; place = s.place; copy = s.copy; waiting = s.waiting.items; queued = l; answers = s.answers.items } in
+    let with : List Queued → Keeping = λ l. record { followed = s.followed; queued = l; answers = s.answers.items } in
     rw (← c.self.view_is) (ap with (filter_same _ (λ q. list_any (λ t. t == q.ticket) c.args.tickets.now) _ (λ x b f' t. search rules) _ _ c.retain.ensures.filtered))

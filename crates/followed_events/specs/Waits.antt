@@ -2,7 +2,7 @@
 use Rattle.std.specs.Prelude.{ℕ, ◌==◌, Bool, List, Option, count_by}
 use Rattle.std.specs.List.{find, remove, position_or_len}
 use Rattle.std.specs.Option.{option_map}
-use Rattle.tickets.specs.declared.Waiting.{Waiting}
+use Rattle.followed_events.specs.declared.waiting.Waiting.{Waiting}
 
 abbrev pub waits_for : ℕ → Waiting → Bool
 waits_for number w = w.number == number

@@ -1,24 +1,23 @@
-//! Who waits for a message of one's own: what a service that answers at the message's own place keeps of those who ask (docs/EMBEDDING.md, "What became of a write").
-#![tactic(auto)]
+//! Which ticket waits for which message.
 
 ghost use Rattle.std.specs.Prelude.{◌≡◌, position};
-ghost use Rattle.tickets.specs.Waits.{waits_for, ticket_of, others_of};
+ghost use Rattle.followed_events.specs.Waits.{waits_for, ticket_of, others_of};
 
-/// Who waits for a message of one's own: the message's number in the view, and the ticket for which it was sent.
+/// A ticket that waits for a message of its member: the message's number in the view, and the ticket for which it was sent.
 #[derive(Clone, Copy, Debug, Drop)]
 pub struct Waiting {
     pub number: u64,
     pub ticket: u64,
 }
 
-// Where the first stands who waits for a message of this number.
+// Where the first stands that waits for a message of this number.
 fn index_of(waiting: &[Waiting], number: u64) -> Option<usize>
     ensures { result ≡ position (waits_for number) waiting.now }
 {
     waiting.iter().position(|waits| waits.number == number)
 }
 
-/// The ticket of the first who waits for a message of this number, and no longer waits then; `None` where nobody does.
+/// Takes the first ticket that waits for a message of this number; `None` if none does.
 pub fn take_ticket(waiting: &mut Vec<Waiting>, number: u64) -> Option<u64>
     ensures ticket { result ≡ ticket_of number waiting.old.items }
     ensures others { waiting.new.items ≡ others_of number waiting.old.items }

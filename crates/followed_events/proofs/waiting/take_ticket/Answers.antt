@@ -1,8 +1,8 @@
 use Rattle.std.proofs.Common.{◌≡◌, None, Some, sym, ◌∙◌, arith}
 use Rattle.std.specs.List.{position}
-use Rattle.tickets.specs.Waits.{waits_for}
-use Rattle.tickets.proofs.FirstWaits.{first-is, nobody-is}
-use Rattle.tickets.proofs.take_ticket.Goals as goal
+use Rattle.followed_events.specs.Waits.{waits_for}
+use Rattle.followed_events.proofs.FirstWaits.{first-is, nobody-is}
+use Rattle.followed_events.proofs.waiting.take_ticket.Goals as goal
 
 pub remove-requires : goal.remove-requires
 remove-requires c =

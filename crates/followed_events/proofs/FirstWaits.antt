@@ -1,15 +1,15 @@
--- The first who waits for a message is found at its index, and the others are what is left there.
-use Rattle.std.proofs.Common.{◌≡◌, ℕ, ◌+◌, ◌<◌, ◌≤◌, ◌==◌, Bool, true, false, List, ◌++◌, suc, length, take, get_or, cond, ltb, Option, None, Some, refl, sym, ap, ◌∙◌, arith}
+-- The first ticket that waits for a message is found at its index, and the others are what is left there.
+use Rattle.std.proofs.Common.{◌≡◌, ℕ, ◌+◌, ◌<◌, ◌≤◌, ◌==◌, Bool, true, false, List, [], ◌∷◌, ◌++◌, suc, length, take, get_or, cond, ltb, map, count_by, Option, None, Some, refl, sym, ap, ◌∙◌, arith}
 use Rattle.std.specs.List.{remove, position, position_or_len, slice_get}
 use Rattle.std.specs.Option.{option_map}
 use Rattle.std.proofs.Math.ListN.{drop_of_length-le}
 use Rattle.std.proofs.lemmas.Bool.{ltb-true, ltb-false}
 use Rattle.std.proofs.lemmas.List.{append-nil, take_all, get_or_default}
 use Rattle.std.proofs.lemmas.List.Folds.{find_at}
-use Rattle.std.proofs.lemmas.List.Sums.{sum_by-remove}
+use Rattle.std.proofs.lemmas.List.Sums.{sum_by-cons, sum_by-remove}
 use Rattle.std.proofs.lemmas.Option.{slice_get_read, slice_get_past, same_Some}
-use Rattle.tickets.specs.declared.Waiting.{Waiting}
-use Rattle.tickets.specs.Waits.{waits_for, ticket_of, others_of, waits_with}
+use Rattle.followed_events.specs.declared.waiting.Waiting.{Waiting}
+use Rattle.followed_events.specs.Waits.{waits_for, ticket_of, others_of, waits_with}
 
 pub record IsFirst (number : ℕ) (ws : List Waiting) (i : ℕ) : Type 0 where
   pub within : i < length ws
@@ -71,3 +71,13 @@ taken-once number ws ticket = by (ltb (position_or_len (waits_for number) ws) (l
       let nobody : Waiting = record { number = 0; ticket = 0 } in
       some i (ltb-true _ _ test) (first-at number ws i refl (ltb-true _ _ test)) (get_or ws i nobody) (get_or_default ws i nobody (get_or ws i nobody) (ltb-true _ _ test))
   by false test = let nobody = nobody-at number ws (ltb-false _ _ test) in rw (nobody.others, nobody.found) (omega arith)
+
+-- each that waits is answered once, as the view ends
+pub backs : {A : Type 0} (ticket_in : A → ℕ) (back : Waiting → A) → ((w : Waiting) → ticket_in (back w) ≡ w.ticket) → (ws : List Waiting) (ticket : ℕ)
+    → count_by (λ a. ticket_in a == ticket) (map back ws) ≡ waits_with ticket ws
+backs ticket_in back same [] ticket = refl
+backs ticket_in back same (w ∷ ws) ticket =
+    sum_by-cons (λ a. cond (ticket_in a == ticket) 1 0) (back w) (map back ws)
+    ∙ ap (λ (n : ℕ). cond (n == ticket) 1 0 + count_by (λ a. ticket_in a == ticket) (map back ws)) (same w)
+    ∙ ap (λ (n : ℕ). cond (w.ticket == ticket) 1 0 + n) (backs ticket_in back same ws ticket)
+    ∙ sym (sum_by-cons (λ v. cond (v.ticket == ticket) 1 0) w ws)
