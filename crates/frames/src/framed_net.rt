@@ -25,8 +25,9 @@ use std::time::Duration;
 use udp_net::{Fault, Net, NodePort};
 
 /// A net over another one, whose datagrams are frames (docs/WIRE.md, "Frames"). Each is sealed with the group's key, so that what somebody sends who has not the key is not given. Small
-/// packets for a node wait and go together: with a flush, before a wait, and when no more of them have a place in the frame. A packet that has no place in one frame goes in pieces,
-/// and is given when all of them came; one that was lost may come when the packet is sent again.
+/// packets for a node wait and go together: with a flush, before a wait, and when no more of them have a place in the frame. What waits for several nodes at a flush, and is the same but
+/// for six bytes, goes in one frame that is sealed once. A packet that has no place in one frame goes in pieces, and is given when all of them came; one that was lost may come when the
+/// packet is sent again.
 #[derive(Drop)]
 pub struct FramedNet<N: Net> {
     alloc: Global,
