@@ -7,7 +7,6 @@ const STATE_OF_A: &[u8] =
     b"\x00\x00\x00\x00\x00\x00\x00\x01\x00\x01\x00\x00\x00\x01\x00\x00\x00\x00\x00\x00\x00\x02\x00\x00\x00\x01\x01a\x00\x00\x00\x00\x00\x00\x00\x01\x00\x01\x00\x00\x00\x01\x00\x00\x00\x00\x00\x00\x00\x02\x00\x01z";
 
 // Whether a state is read, and what is read is of the state's size and is written as the state was.
-#[tactic(auto, using(replicated_map::specs::MapLaws::decoded_is_map))]
 fn is_written_again(alloc: Global, state: &[u8]) -> bool {
     let Ok(Some(contents)) = contents_of::<Held>(alloc, state) else {
         return false;
