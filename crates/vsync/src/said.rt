@@ -12,8 +12,8 @@ use udp_runs::{Lines, LinesError};
 /// How much is read at a time, in bytes.
 const PIECE: usize = 65_536;
 
-/// How often it is looked whether the file has grown, in milliseconds.
-const LOOKS: u64 = 2;
+/// How often it is looked whether the file has grown, in milliseconds. A look takes some 20 microseconds of a processor, most of them to sleep and to wake.
+const LOOKS: u64 = 10;
 
 /// The lines that are appended to a file. It is looked for by its path each time, so that it is known when it is there no longer; where it has become shorter, it is read from its
 /// beginning.
