@@ -304,7 +304,7 @@ impl<'a, N: Net, C: Application> LoneNode<'a, N, C> {
         }
     }
 
-    // Waits, unless there is more to do at once.
+    // Waits, unless there is more to do at once, or no more lines come.
     fn wait_unless(&mut self, rest: Duration, went: Result<bool, Cut>) -> Result<(), Cut>
         ensures waits { Waits N.log self.old.member self.new.member }
         ensures voice { self.new.teller.voice ≡ self.old.teller.voice }
@@ -314,7 +314,9 @@ impl<'a, N: Net, C: Application> LoneNode<'a, N, C> {
         match went {
             Ok(true) => Ok(()),
             Ok(false) => {
-                self.member.wait(rest);
+                if !self.outbox.is_over() {
+                    self.member.wait(rest);
+                }
                 Ok(())
             }
             Err(why) => Err(why),
