@@ -17,11 +17,11 @@ import random
 import re
 import sys
 
-LIMITS = (pathlib.Path(__file__).resolve().parent.parent / "crates/limits/src/lib.rt").read_text()
+LIMITS = (pathlib.Path(__file__).resolve().parent.parent / "crates/address/src/limits.rt").read_text()
 
 
 def limit(name):
-    """A limit of the channel, by its name in the crate `limits`."""
+    """A limit of the channel, by its name in `address::limits`."""
     return int(re.search(rf"^pub const {name}: \w+ = ([\d_]+);", LIMITS, re.MULTILINE)[1])
 
 

@@ -36,16 +36,19 @@ def once(words, output):
 
 
 class Least:
-    """The least seconds and kilobytes of five calls of each program, in turn; what the first of them printed stands in `output`."""
+    """The least seconds and kilobytes of five calls of each program, in turn; what the first of them printed stands in `output`. Behind the programs the words of other calls may
+    be given, that are made in the same turns; their figures are the last."""
 
-    def __init__(self, words, output):
-        called = [[once([program, *words], output if this == 0 else os.devnull) for this, program in enumerate(programs())] for _ in range(RUNS)]
+    def __init__(self, words, output, *others):
+        calls = [[program, *words] for program in programs()]
+        self.programs = len(calls)
+        called = [[once(call, output if this == 0 else os.devnull) for this, call in enumerate([*calls, *others])] for _ in range(RUNS)]
         self.seconds = [min(call[0] for call in calls) for calls in zip(*called)]
         self.kilobytes = [min(call[1] for call in calls) for calls in zip(*called)]
 
     def beside(self):
         """The ratios to the other program, where there is one."""
-        if len(self.seconds) == 1:
+        if self.programs == 1:
             return ""
-        (time_here, time_there), (here, there) = self.seconds, self.kilobytes
+        (time_here, time_there), (here, there) = self.seconds[:2], self.kilobytes[:2]
         return f"; {time_here / time_there:.2f} of the other's time, {here / there:.2f} of its memory"

@@ -1,11 +1,16 @@
-//! The ids of the channel: nodes, addresses and view ids, and their order.
+//! The ids of the channel: nodes, addresses and view ids, and their order; its limits and refusals, each once; and bytes that are owned.
 #![tactic(auto)]
 
 ghost use Rattle.std.specs.Prelude.{◌≡◌, ℕ, ◌+◌, ◌<◌, ◌≤◌, ◌^◌};
 ghost use Rattle.std.specs.Option.{SomeIff};
 ghost use Rattle.std.specs.Result.{OkIff};
 
-use limits::{GREATEST_NUMBER, Refusal};
+mod bytes;
+pub mod limits;
+mod refusal;
+
+use crate::limits::{GREATEST_NUMBER, Refusal};
+pub use bytes::Bytes;
 use std::fmt;
 use std::marker::Model;
 
@@ -153,7 +158,7 @@ pub struct ViewId {
 
 impl Model for ViewId {
     ghost use Rattle.std.specs.Prelude.{◌≤◌, ◌^◌};
-    ghost use Rattle.limits.specs.declared.TheConstants.{GREATEST_NUMBER};
+    ghost use Rattle.address.specs.declared.limits.TheConstants.{GREATEST_NUMBER};
     ghost use Rattle.address.specs.Ids.{ViewId};
 
     ghost Value = { ViewId };

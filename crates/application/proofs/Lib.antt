@@ -1,0 +1,3 @@
+pub mod FirstWaits
+pub mod OwnEvents
+pub mod EventsFollowed

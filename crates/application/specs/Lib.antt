@@ -1,0 +1,4 @@
+pub mod Places
+pub mod Waits
+pub mod Services
+pub mod Followed

@@ -1,4 +1,5 @@
-//! What the program runs: receivers whose messages have words, and whose state has a line of text.
+//! What the program runs: receivers whose messages have words, and whose state has a line of text. And what a node knows by the events of its member, and which ticket waits
+//! for which of its own messages: a service stands on it that answers each message at the message's own place (docs/EMBEDDING.md, "What became of a write").
 #![tactic(auto)]
 
 ghost use Rattle.std.specs.Prelude.{◌≡◌, ◌++◌, ℕ, Bool, List, Option, Result, IfOk, OnOk, OnErr};
@@ -8,12 +9,18 @@ ghost use Rattle.script_reader.specs.declared.fault.Fault.{Fault as FaultValue};
 ghost use Rattle.script_reader.specs.Texts.{IsReadUnlessRefused};
 ghost use Rattle.vsync_text.specs.TraceText.{GoesOnFrom};
 
-use address::{Address, ViewId};
-use owned_bytes::Bytes;
+mod followed;
+mod replica;
+mod waiting;
+
+use address::{Address, Bytes, ViewId};
+pub use followed::FollowedMember;
+pub use replica::Replica;
 use script_reader::{Payloads, Unheard};
 use state_transfer::Receiver;
 use std::alloc::{AllocError, Global};
 use view::View;
+pub use waiting::{Waiting, take_ticket};
 
 /// A receiver that the commands of `vsync` can run (docs/EMBEDDING.md, "A command of its own"): a `send` of a script says in words what its payload
 /// asks, and the state of a copy is printed as a line.

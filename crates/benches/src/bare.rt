@@ -3,7 +3,7 @@
 use crate::carrier::Carrier;
 use crate::party::Party;
 use address::Node;
-use limits::{OUTSTANDING, WINDOW};
+use address::limits::{OUTSTANDING, WINDOW};
 use std::alloc::Global;
 use std::io;
 use std::io::ErrorKind;

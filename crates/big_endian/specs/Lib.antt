@@ -1,1 +1,3 @@
 pub mod Spelled
+pub mod Reading
+pub mod NumberLaws

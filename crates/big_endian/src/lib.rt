@@ -6,8 +6,11 @@ ghost use Rattle.byteorder.specs.Endian.{big_bytes};
 ghost use Rattle.address.specs.Ids.{IsAddress};
 ghost use Rattle.big_endian.specs.Spelled.{address_bytes};
 
+mod reading;
+
 use address::Address;
 use byteorder::{BigEndian, ByteOrder};
+pub use reading::{Reader, known_bytes};
 
 /// Appends bytes.
 pub fn put(text: &[u8], out: &mut Vec<u8>)

@@ -3,8 +3,8 @@ use Rattle.std.proofs.Common.{◌≡◌, ◌++◌, Bool, true, false, cond, Opti
 use Rattle.std.specs.Prelude.{MatchBool}
 use Rattle.std.specs.Option.{IsSomeAnd, option_map, option_map_or}
 use Rattle.std.proofs.lemmas.Option.{same_Some}
-use Rattle.limits.specs.declared.refusal.Refusal.{Refusal}
-use Rattle.limits.specs.declared.refusal.Refusal.TheVariants.{NotConnected, Closed, Memory}
+use Rattle.address.specs.declared.refusal.Refusal.{Refusal}
+use Rattle.address.specs.declared.refusal.Refusal.TheVariants.{NotConnected, Closed, Memory}
 use Rattle.state_transfer.specs.Meanings.{Meaning}
 use Rattle.law_acts.specs.Cores.{Core}
 use Rattle.step_output.specs.declared.output.Output.{Output}

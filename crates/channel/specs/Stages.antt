@@ -1,6 +1,6 @@
 -- What a connect and a step do to the stage alone: of these the contracts of the calls are made.
 use Rattle.std.specs.Prelude.{◌≡◌, ℕ, true, false, List, [], ◌++◌, Option, None, Some, Result, Ok, Err}
-use Rattle.limits.specs.declared.refusal.Refusal.TheVariants.{NotConnected, AlreadyConnected, Closed, Memory, BadName}
+use Rattle.address.specs.declared.refusal.Refusal.TheVariants.{NotConnected, AlreadyConnected, Closed, Memory, BadName}
 use Rattle.state_transfer.specs.Meanings.{Meaning}
 use Rattle.address.specs.Ids.{Address}
 use Rattle.wire_values.specs.Names.{is_group_name}

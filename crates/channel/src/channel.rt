@@ -10,8 +10,8 @@ ghost use Rattle.channel.specs.Stages.{Keeps};
 
 use crate::queues::{number_sent, put_all};
 use crate::stage::Stage;
+use address::limits::Refusal;
 use address::{Address, ViewId};
-use limits::Refusal;
 use member::{Error, Heard, Input};
 use state_transfer::Receiver;
 use std::alloc::Global;

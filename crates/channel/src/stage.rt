@@ -9,8 +9,8 @@ ghost use Rattle.member.specs.Sources.{heard_of, output_of};
 ghost use Rattle.channel.specs.Calls.{Watches};
 ghost use Rattle.channel.specs.Stages.{Begins, Hands};
 
+use address::limits::Refusal;
 use address::{Address, ViewId};
-use limits::Refusal;
 use member::{Error, Input, Member, Taken};
 use state_transfer::Receiver;
 use std::alloc::Global;

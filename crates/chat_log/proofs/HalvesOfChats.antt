@@ -2,7 +2,7 @@
 use Rattle.std.proofs.Common.{◌≡◌, ℕ, ◌+◌, ◌≤◌, List, [], ◌∷◌, ◌++◌, length, sym, subst, ap, arith}
 use Rattle.std.specs.List.{flat_map, AllByRecursion}
 use Rattle.std.proofs.lemmas.List.{length-append}
-use Rattle.limits.specs.declared.TheConstants.{STATE}
+use Rattle.address.specs.declared.limits.TheConstants.{STATE}
 use Rattle.chat_log.specs.declared.lines.Line.{Line}
 use Rattle.chat_log.specs.Sizes.{IsSize}
 use Rattle.chat_log.specs.Chat.{IsLine, IsChat}

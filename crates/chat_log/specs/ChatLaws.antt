@@ -5,14 +5,14 @@ use Rattle.std.proofs.lemmas.List.{length-append, length-drop}
 use Rattle.byteorder.specs.Endian.{big_bytes}
 use Rattle.byteorder.specs.Numbers.{length-bytes_high_first}
 use Rattle.address.specs.Ids.{Address, IsAddress}
-use Rattle.limits.specs.declared.TheConstants.{PAYLOAD, STATE}
+use Rattle.address.specs.declared.limits.TheConstants.{PAYLOAD, STATE}
 use Rattle.chat_log.specs.declared.lines.Line.{Line}
 use Rattle.chat_log.specs.Sizes.{longest, IsSize}
 use Rattle.chat_log.specs.Chat.{IsLine, IsChat, chat_apply}
-use Rattle.reading.specs.Reading.{number_at, list_at}
+use Rattle.big_endian.specs.Reading.{number_at, list_at}
 use Rattle.chat_log.specs.Encoding.{payload_bytes, address_bytes, line_bytes, line_at, chat_encode, lines_at, chat_decode}
 use Rattle.big_endian.proofs.Bytes.{IsWide, wide1, wide2}
-use Rattle.reading.specs.PartLaws.{bind_some, joined, IsPart, IsWithin, number_part, list_takes, list_again, to_end_takes, to_end_again}
+use Rattle.big_endian.proofs.PartLaws.{bind_some, joined, IsPart, IsWithin, number_part, list_takes, list_again, to_end_takes, to_end_again}
 use Rattle.chat_log.specs.LineLaws.{line_part}
 
 -- ---- a message leaves a chat a chat

@@ -3,9 +3,9 @@ use Rattle.std.specs.Prelude.{ℕ, List, ◌++◌, length, Option, Some}
 use Rattle.std.specs.List.{flat_map}
 use Rattle.byteorder.specs.Endian.{big_bytes}
 pub use Rattle.big_endian.specs.Spelled.{address_bytes}
-use Rattle.limits.specs.declared.TheConstants.{PAYLOAD}
+use Rattle.address.specs.declared.limits.TheConstants.{PAYLOAD}
 use Rattle.chat_log.specs.declared.lines.Line.{Line}
-use Rattle.reading.specs.Reading.{Read, ◌>>=◌, number_at, sized_bytes, sized_at, address_at, list_at, read_to_end}
+use Rattle.big_endian.specs.Reading.{Read, ◌>>=◌, number_at, sized_bytes, sized_at, address_at, list_at, read_to_end}
 
 -- ---- a payload: its length in two bytes, and the bytes
 

@@ -1,8 +1,8 @@
 -- What a line of the chat is read from is its spelling, and its spelling is read as it, whatever follows.
 use Rattle.std.proofs.Common.{◌≡◌, ℕ, ◌≤◌, List, ◌++◌, length, Some, refl, ap, subst, ◌∙◌, append_assoc, arith}
-use Rattle.limits.specs.declared.TheConstants.{PAYLOAD}
-use Rattle.reading.specs.Reading.{◌>>=◌, address_at}
-use Rattle.reading.specs.PartLaws.{bind_some, some_is, joined, IsPart, sized_part, address_takes, address_again}
+use Rattle.address.specs.declared.limits.TheConstants.{PAYLOAD}
+use Rattle.big_endian.specs.Reading.{◌>>=◌, address_at}
+use Rattle.big_endian.proofs.PartLaws.{bind_some, some_is, joined, IsPart, sized_part, address_takes, address_again}
 use Rattle.chat_log.specs.declared.lines.Line.{Line}
 use Rattle.chat_log.specs.Chat.{IsLine}
 use Rattle.chat_log.specs.Encoding.{address_bytes, payload_bytes, line_bytes, payload_at, line_at}

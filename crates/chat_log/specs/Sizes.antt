@@ -1,6 +1,6 @@
 -- The sizes of chats: the most lines that are kept, and in how many bytes their number is written.
 use Rattle.std.specs.Prelude.{◌≡◌, ◌⊎◌, ℕ, ◌+◌, ◌*◌, ◌^◌, ◌<◌, ◌≤◌}
-use Rattle.limits.specs.declared.TheConstants.{PAYLOAD, STATE}
+use Rattle.address.specs.declared.limits.TheConstants.{PAYLOAD, STATE}
 
 -- the most bytes of a state: the number of lines, and of each line the sender in six, the length of the payload in two, and the payload
 abbrev pub longest : ℕ → ℕ → ℕ

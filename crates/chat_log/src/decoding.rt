@@ -2,14 +2,14 @@
 
 ghost use Rattle.std.specs.Prelude.{◌≡◌, IfOk};
 ghost use Rattle.chat_log.specs.Chat.{said};
-ghost use Rattle.reading.specs.Reading.{IsReadOrNone, number_at, list_at};
+ghost use Rattle.big_endian.specs.Reading.{IsReadOrNone, number_at, list_at};
 ghost use Rattle.chat_log.specs.Encoding.{payload_at, line_at, chat_decode};
 
 use crate::lines::push_line;
 use crate::{ChatSize, Line};
 use address::Address;
-use limits::PAYLOAD;
-use reading::Reader;
+use address::limits::PAYLOAD;
+use big_endian::Reader;
 use std::alloc::{AllocError, Global};
 use std::collections::VecDeque;
 
@@ -20,7 +20,7 @@ struct LentLine<'a> {
     payload: &'a [u8],
 }
 
-#[tactic(auto, unfolding(reading::specs::Reading::sized_at))]
+#[tactic(auto, unfolding(big_endian::specs::Reading::sized_at))]
 fn payload_at<'a>(from: &mut Reader<'a>) -> Option<&'a [u8]>
     ensures { IsReadOrNone (λ x. (x.now, from.new)) result (payload_at from.old) }
 {

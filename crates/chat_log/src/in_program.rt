@@ -2,9 +2,8 @@
 
 use crate::chat_lines::put_chat;
 use crate::{ChatSize, LastLines};
-use address::{Address, ViewId};
+use address::{Address, Bytes, ViewId};
 use application::Application;
-use owned_bytes::Bytes;
 use script_reader::{AsWritten, Payloads, Unheard};
 use std::alloc::{AllocError, Global};
 use view::View;

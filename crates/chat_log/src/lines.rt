@@ -1,8 +1,7 @@
 ghost use Rattle.std.specs.Prelude.{◌≡◌, ◌++◌, ◌∷◌, [], OnOk, OnErr};
 ghost use Rattle.chat_log.specs.Chat.{said};
 
-use address::Address;
-use owned_bytes::Bytes;
+use address::{Address, Bytes};
 use std::alloc::AllocError;
 use std::collections::VecDeque;
 

@@ -1,14 +1,14 @@
 ghost use Rattle.std.specs.Prelude.{◌≡◌, ◌≤◌, ◌<◌, ◌++◌, true, false, length, IsOk, IfOk, OnOk, OnErr, MatchOption};
 ghost use Rattle.chat_log.specs.Chat.{IsChat, chat_apply};
 ghost use Rattle.chat_log.specs.Encoding.{chat_encode, chat_decode};
-ghost use Rattle.limits.specs.declared.TheConstants.{STATE};
+ghost use Rattle.address.specs.declared.limits.TheConstants.{STATE};
 
 use crate::decoding::chat_of;
 use crate::lines::push_line;
 use crate::writing::put_chat;
 use crate::{Chat, ChatSize, Line, Long, Short};
 use address::Address;
-use limits::PAYLOAD;
+use address::limits::PAYLOAD;
 use state_transfer::Receiver;
 use std::alloc::{AllocError, Global};
 use std::collections::VecDeque;

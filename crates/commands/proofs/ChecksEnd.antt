@@ -1,12 +1,12 @@
 -- How the check of a trace ends.
-use Rattle.std.proofs.Common.{◌≡◌, ℕ, List, [], Option, Ok, Err, IfSome, unwrap_or}
+use Rattle.std.proofs.Common.{ℕ, List, [], Option, Ok, Err, unwrap_or}
 use Rattle.state_transfer.specs.Meanings.{Meaning}
 use Rattle.trace_props.specs.declared.event.Event.{Event}
 use Rattle.trace_props.specs.declared.verdict.Verdict.{Verdict}
 use Rattle.trace_props.specs.Verdicts.{IsVerdict}
 use Rattle.script_reader.specs.declared.fault.Fault.{Fault}
 use Rattle.script_reader.specs.Script.{fault_number}
-use Rattle.trace_reader.specs.Traces.{trace_of}
+use Rattle.trace_reader.specs.Pieces.{Told}
 use Rattle.endings.specs.declared.status.Status.{Status}
 use Rattle.endings.specs.declared.status.Status.TheVariants.{Memory}
 use Rattle.endings.specs.Outcomes.{Ends, Written, IsFaultText, memory_line}
@@ -27,16 +27,17 @@ pub unjudged-text : {S : Type 0} (meaning : Meaning S) (t : List Event) (a b : O
 unjudged-text meaning t a b status e = record { meant = Memory; text = memory_line; says = Unjudged; ends = e }
 
 -- the trace was read and judged
-pub checked-text : {S : Type 0} (meaning : Meaning S) (left a b : Option (List ℕ)) (bytes : List ℕ) (t : List Event) (status : Status)
-    → IfSome left (λ all. bytes ≡ all) → trace_of bytes ≡ Ok t → Written (IsJudgedText meaning t) a b status → ChecksTrace meaning left a b status
-checked-text meaning left a b bytes t status is read w =
-    Answers bytes status is (written-as (IsJudgedText meaning t) (IsCheckText meaning bytes) a b status (λ s x says. Checks t s x read says) w)
+pub checked-text : {S : Type 0} (meaning : Meaning S) (left a b : Option (List ℕ)) (t : List Event) (status : Status)
+    → Told left (Ok t) → Written (IsJudgedText meaning t) a b status → ChecksTrace meaning left a b status
+checked-text meaning left a b t status told w =
+    Answers told.bytes status told.whole (written-as (IsJudgedText meaning t) (IsCheckText meaning told.bytes) a b status (λ s x says. Checks t s x told.says says) w)
 
 -- it was read and has a fault
-pub faulty-text : {S : Type 0} (meaning : Meaning S) (left a b : Option (List ℕ)) (bytes : List ℕ) (line : ℕ) (fault : Fault) (status : Status)
-    → IfSome left (λ all. bytes ≡ all) → trace_of bytes ≡ Err (record { line = line; fault = fault }) → Written (IsFaultText line (fault_number fault)) a b status → ChecksTrace meaning left a b status
-faulty-text meaning left a b bytes line fault status is read w =
-    Answers bytes status is (written-as (IsFaultText line (fault_number fault)) (IsCheckText meaning bytes) a b status (λ s x says. Faulty line fault s x read says) w)
+pub faulty-text : {S : Type 0} (meaning : Meaning S) (left a b : Option (List ℕ)) (line : ℕ) (fault : Fault) (status : Status)
+    → Told left (Err (record { line = line; fault = fault })) → Written (IsFaultText line (fault_number fault)) a b status → ChecksTrace meaning left a b status
+faulty-text meaning left a b line fault status told w =
+    Answers told.bytes status told.whole
+    (written-as (IsFaultText line (fault_number fault)) (IsCheckText meaning told.bytes) a b status (λ s x says. Faulty line fault s x told.says says) w)
 
 -- memory was refused before it was read
 pub unread-trace : {S : Type 0} (meaning : Meaning S) (left a b : Option (List ℕ)) (status : Status)

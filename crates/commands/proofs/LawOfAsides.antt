@@ -4,9 +4,9 @@ use Rattle.std.proofs.Math.Seq.{drop-append_seam}
 use Rattle.std.proofs.lemmas.Option.{none-some, same_Some}
 use Rattle.std.proofs.lemmas.List.Elements.{filter_map-append}
 use Rattle.std.specs.List.{cons_option, range_with_len}
-use Rattle.limits.specs.declared.refusal.Refusal.{Refusal}
-use Rattle.limits.specs.declared.refusal.Refusal.TheVariants.{Memory}
-use Rattle.limits.specs.Refusals.{number_of}
+use Rattle.address.specs.declared.refusal.Refusal.{Refusal}
+use Rattle.address.specs.declared.refusal.Refusal.TheVariants.{Memory}
+use Rattle.address.specs.Refusals.{number_of}
 use Rattle.state_transfer.specs.Meanings.{Meaning}
 use Rattle.address.specs.Ids.{Address}
 use Rattle.trace_props.specs.declared.event.Event.{Event}

@@ -8,7 +8,7 @@ use Rattle.trace_props.specs.declared.event.Event.{Event}
 use Rattle.address.specs.Ids.{Address}
 use Rattle.commands.specs.States.{state_line_at, state_lines_to, state_lines_of}
 use Rattle.vsync_text.proofs.LinesWritten.{concat_append}
-use Rattle.limits.specs.declared.TheConstants.{GREATEST_NODE}
+use Rattle.address.specs.declared.limits.TheConstants.{GREATEST_NODE}
 
 range-next : (a n : ℕ) → range_with_len a (suc n) ≡ range_with_len a n ++ (a + n) ∷ []
 range-next a zero = let e : a ≡ a + 0 = omega arith in ap (λ x. x ∷ []) e

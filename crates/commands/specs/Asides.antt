@@ -2,9 +2,9 @@
 use Rattle.std.specs.Prelude.{ℕ, ◌+◌, Bool, true, false, cond, nat_eq, Option, None, Some, List, [], ◌∷◌, ◌++◌, length, drop, slice_get, unwrap_or, option_map, option_and_then}
 use Rattle.std.specs.Option.{option_map_or}
 use Rattle.std.specs.List.{cons_option}
-use Rattle.limits.specs.declared.refusal.Refusal.{Refusal}
-use Rattle.limits.specs.declared.refusal.Refusal.TheVariants.{Memory}
-use Rattle.limits.specs.Refusals.{number_of}
+use Rattle.address.specs.declared.refusal.Refusal.{Refusal}
+use Rattle.address.specs.declared.refusal.Refusal.TheVariants.{Memory}
+use Rattle.address.specs.Refusals.{number_of}
 use Rattle.state_transfer.specs.Meanings.{Meaning}
 use Rattle.world_model.specs.declared.WorldEvent.{WorldEvent}
 use Rattle.world_model.specs.declared.Target.{Target}

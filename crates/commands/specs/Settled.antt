@@ -12,7 +12,7 @@ use Rattle.world.specs.Settled.{SettlesAt}
 use Rattle.script_reader.specs.declared.script.Script.{Script}
 use Rattle.script_reader.specs.Script.{as_written}
 use Rattle.vsync_text.specs.Runs.{lines_of_run, text_of_run}
-use Rattle.limits.specs.declared.TheConstants.{GREATEST_NODE}
+use Rattle.address.specs.declared.limits.TheConstants.{GREATEST_NODE}
 use Rattle.endings.specs.declared.status.Status.{Status}
 use Rattle.endings.specs.declared.status.Status.TheVariants.{Done, Memory}
 use Rattle.endings.specs.Outcomes.{IsScriptText, IsAnswer, memory_line}

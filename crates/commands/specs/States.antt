@@ -12,7 +12,7 @@ use Rattle.script_reader.specs.declared.fault.Fault.{Fault}
 use Rattle.endings.specs.declared.status.Status.{Status}
 use Rattle.endings.specs.Outcomes.{IsScriptText, IsAnswer}
 use Rattle.commands.specs.Outcomes.{IsEndText}
-use Rattle.limits.specs.declared.TheConstants.{GREATEST_NODE}
+use Rattle.address.specs.declared.limits.TheConstants.{GREATEST_NODE}
 
 -- the line of the member that runs at a node, if one does: it shows the state that the trace says
 abbrev pub state_line_at : {S : Type 0} → Meaning S → (Address → S → List ℕ) → List Event → ℕ → Option (List ℕ)

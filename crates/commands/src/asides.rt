@@ -11,9 +11,8 @@ ghost use Rattle.world_model.specs.Packets.{destination_of};
 ghost use Rattle.world_step.specs.Worlds.{shown, no_world, WorldStep};
 ghost use Rattle.commands.specs.Asides.{aside_at, refused_by, refused_at, refused_of, destination_in, site_of, handed_over, put_out, put_out_behind, put_out_at, refused_between, put_out_between, asides_between, line_at, HasAsides};
 
-use address::{Address, Node};
-use limits::Refusal;
-use owned_bytes::Bytes;
+use address::limits::Refusal;
+use address::{Address, Bytes, Node};
 use state_transfer::Receiver;
 use std::alloc::{AllocError, Global};
 use std::slice;

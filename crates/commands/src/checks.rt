@@ -3,13 +3,12 @@ ghost use Rattle.endings.specs.Outcomes.{Written};
 ghost use Rattle.commands.specs.Checks.{rule_code, IsVerdictText, IsJudgedText, ChecksTrace};
 
 use endings::{Status, Unreadable, end_in_fault, end_in_memory, end_with, read_all};
-use script_reader::Unread;
 use state_transfer::Receiver;
 use std::alloc::Global;
 use std::io::{Read, Write};
 use trace_checker::check;
 use trace_props::{Rule, Trace, Verdict};
-use trace_reader::read_trace;
+use trace_reader::{Untold, read_trace_from};
 
 /// The code under which a broken rule is printed (docs/GUARANTEES.md, "What check prints").
 pub fn code_of(rule: Rule) -> &'static str
@@ -55,7 +54,7 @@ fn judge<R: Receiver, W: Write>(alloc: Global, trace: &Trace, writer: &mut W) ->
 
 /// Checks the text of a trace from a reader, for receivers that are `R`, and writes to a writer whether it is virtually
 /// synchronous: `holds`, or `broken RULE PLACE` with the rule that breaks first and the length of the shortest beginning that breaks
-/// one; or the text's first fault (docs/CLI.md, "Checking a trace"). Answers the exit status.
+/// one; or the text's first fault, once the reader has given all (docs/CLI.md, "Checking a trace"). Answers the exit status.
 pub fn run_check<R: Receiver, I: Read, W: Write>(
     alloc: Global,
     reader: &mut I,
@@ -63,14 +62,17 @@ pub fn run_check<R: Receiver, I: Read, W: Write>(
 ) -> Status
     ensures { ChecksTrace R.meaning (I.remaining reader.old) (W.contents writer.old) (W.contents writer.new) result }
 {
-    let bytes = match read_all(alloc, reader) {
-        Ok(bytes) => bytes,
-        Err(Unreadable::Memory) => return end_in_memory(writer),
-        Err(Unreadable::Failed) => return Status::Outside,
-    };
-    match read_trace(alloc, bytes.as_slice()) {
+    match read_trace_from(alloc, reader) {
         Ok(trace) => judge::<R, W>(alloc, &trace, writer),
-        Err(Unread::Fault { line, fault }) => end_in_fault(alloc, writer, line, fault),
-        Err(Unread::Memory) => end_in_memory(writer),
+        Err(Untold::Fault { line, fault }) => {
+            match read_all(alloc, reader) {
+                Ok(_) => {}
+                Err(Unreadable::Memory) => return end_in_memory(writer),
+                Err(Unreadable::Failed) => return Status::Outside,
+            }
+            end_in_fault(alloc, writer, line, fault)
+        }
+        Err(Untold::Memory) => end_in_memory(writer),
+        Err(Untold::Failed) => Status::Outside,
     }
 }

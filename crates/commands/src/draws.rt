@@ -6,8 +6,8 @@ ghost use Rattle.endings.specs.Outcomes.{Ends, Written};
 ghost use Rattle.commands.specs.Draws.{IsPictureText, IsRefusalText, IsDrawingText, TellsRun, IsJudgedAs, DrawsScript, DrawsTrace};
 
 use crate::asides::play_events;
+use address::Bytes;
 use endings::{Status, Unreadable, end_with, read_all};
-use owned_bytes::Bytes;
 use script_reader::{Fault, Script, Unread, read_script};
 use state_transfer::Receiver;
 use std::alloc::Global;

@@ -3,7 +3,7 @@ use Rattle.std.specs.Prelude.{◌≡◌, ℕ, ◌+◌, ◌≤◌, ◌<◌, ◌^�
 use Rattle.std.proofs.Common.{refl, arith, ap, subst, ◌∙◌}
 use Rattle.byteorder.specs.Endian.{big_bytes, big_number}
 use Rattle.big_endian.proofs.Bytes.{number_back, length-big_bytes}
-use Rattle.limits.specs.declared.TheConstants.{STATE}
+use Rattle.address.specs.declared.limits.TheConstants.{STATE}
 
 abbrev pub greatest : ℕ
 greatest = 18446744073709551615

@@ -4,6 +4,7 @@
 #![tactic(auto)]
 
 mod counter;
+mod incarnations;
 mod messages;
 mod node;
 mod story;

@@ -1,8 +1,8 @@
 use crate::Counter;
 use crate::messages::{Unsent, taken_back};
 use address::Address;
+use address::limits::Refusal;
 use channel::{Channel, Error};
-use limits::Refusal;
 use state_transfer::Receiver;
 use std::alloc::Global;
 use std::io;

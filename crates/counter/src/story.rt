@@ -2,10 +2,10 @@
 
 use crate::CountingNode;
 use address::{Address, Node};
-use memory_net::{FOUR, Wire, Wires, settings_of};
 use std::cell::RefCell;
 use std::io;
 use std::io::ErrorKind;
+use udp_net::{FOUR, Wire, Wires, settings_of};
 
 /// How many rounds each node has.
 const ROUNDS: u64 = 140;

@@ -1,6 +1,6 @@
 -- How many items a cut has.
 use Rattle.std.proofs.Common.{ℕ, zero, suc, ◌+◌, ◌≤◌, List, [], ◌∷◌, length, Option, Some, None, arith}
-use Rattle.limits.specs.declared.TheConstants.{WINDOW}
+use Rattle.address.specs.declared.limits.TheConstants.{WINDOW}
 use Rattle.std.specs.Option.{option_map_or}
 use Rattle.wire_values.specs.Values.{Entry, Report}
 use Rattle.flush.specs.Cuts.{cut_base, cut_items, entries_from, held_among}

@@ -1,7 +1,7 @@
 -- What a report holds: every number past its stable count up to its delivered one, and none past the window.
 use Rattle.std.proofs.Common.{◌≡◌, ℕ, ◌+◌, ◌<◌, ◌≤◌, Bool, true, false, cond, Option, Some, None, List, [], ◌∷◌, length, refl, sym, ap, ◌∙◌, arith, nat_eq}
 use Rattle.std.specs.Prelude.{IsSome, is_some, nat_le, ◌==◌, ◌&&◌, min}
-use Rattle.limits.specs.declared.TheConstants.{GREATEST_NUMBER, WINDOW}
+use Rattle.address.specs.declared.limits.TheConstants.{GREATEST_NUMBER, WINDOW}
 use Rattle.std.specs.Option.{option_map_or}
 use Rattle.std.proofs.lemmas.Bool.{and_parts, eqb-true}
 use Rattle.std.proofs.lemmas.Bool.Decides.{nat_tests}

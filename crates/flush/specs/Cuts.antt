@@ -2,7 +2,7 @@
 use Rattle.std.specs.Prelude.{◌≡◌, ℕ, zero, suc, ◌+◌, List, [], ◌∷◌, length, max, Option, None, Some, slice_get}
 use Rattle.std.specs.Option.{option_or, option_map_or}
 use Rattle.wire_values.specs.Values.{Entry, held_at, Report}
-use Rattle.limits.specs.declared.TheConstants.{WINDOW}
+use Rattle.address.specs.declared.limits.TheConstants.{WINDOW}
 
 -- the first that a function finds in a list
 abbrev pub first_of : {X Y : Type 0} → (X → Option Y) → List X → Option Y

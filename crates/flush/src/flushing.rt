@@ -1,6 +1,6 @@
 ghost use Rattle.std.specs.Prelude.{◌≡◌, ◌≤◌, ◌+◌, false, [], ◌∷◌, ◌++◌, filter, IfOk, OnOk, OnErr, IfSome, IsSome, IsTrue};
 ghost use Rattle.std.specs.List.{list_all};
-ghost use Rattle.limits.specs.declared.TheConstants.{WINDOW};
+ghost use Rattle.address.specs.declared.limits.TheConstants.{WINDOW};
 ghost use Rattle.flush.specs.Cuts.{greatest_stable, held_among, cut_base, cut_items};
 ghost use Rattle.flush.specs.Flushes.{IsFlush, has_reported, comes_from, group, is_awaited, reported, progress_of, has_come_from, together_of, all_come_from, previous_of};
 

@@ -1,5 +1,5 @@
 ghost use Rattle.std.specs.Prelude.{◌≡◌, ◌≤◌, ◌+◌, true, IfOk, OnOk, IfSome};
-ghost use Rattle.limits.specs.declared.TheConstants.{WINDOW};
+ghost use Rattle.address.specs.declared.limits.TheConstants.{WINDOW};
 ghost use Rattle.wire_values.specs.Values.{held_at};
 ghost use Rattle.wire_values.specs.Lists.{is_report};
 ghost use Rattle.flush.specs.Flushes.{comes_from};

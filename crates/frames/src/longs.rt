@@ -4,7 +4,7 @@ ghost use Rattle.std.specs.Prelude.{◌≡◌, ◌≤◌, ℕ, List, [], IfNone,
 ghost use Rattle.frames.specs.Longs.{AreKnown, HasNumber, IsNumbered, number_for, number_in};
 
 use crate::KEPT_LONGS;
-use owned_bytes::Bytes;
+use address::Bytes;
 use std::alloc::{AllocError, Global};
 
 /// A long packet that went to a node, and its number.

@@ -8,9 +8,9 @@ ghost use Rattle.frames.specs.Partials.{IsPieceIn, piece_bytes};
 ghost use Rattle.frames.specs.Openers.{AreParts, ComesIn, IsPartOf, IsPartialOf};
 
 use crate::{BOOT, MOST_PARTIALS, MOST_PIECES, PIECE_HEAD};
+use address::Bytes;
 use big_endian::{put, put_u16, put_u64};
 use byteorder::{BigEndian, ByteOrder};
-use owned_bytes::Bytes;
 use std::alloc::{AllocError, Global};
 use std::collections::VecDeque;
 use std::marker::Model;

@@ -2,8 +2,8 @@
 use Rattle.std.specs.Prelude.{◌≡◌, ◌⊎◌, ◌++◌, ◌∷◌, [], ℕ, List, Option, None, Some}
 use Rattle.std.specs.Option.{IsSomeAnd}
 use Rattle.address.specs.Ids.{ViewId}
-use Rattle.tokens.specs.declared.token.Token.{Token}
-use Rattle.tokens.specs.TokenText.{text_of_token}
+use Rattle.keyed_state.specs.declared.token.Token.{Token}
+use Rattle.keyed_state.specs.TokenText.{text_of_token}
 use Rattle.replicated_map.specs.declared.outcome.Outcome.{Outcome}
 use Rattle.replicated_map.specs.declared.outcome.Outcome.TheVariants.{Stored, Removed, Cleared, Full, Differs, Missing, NoCommand}
 use Rattle.replicated_map.specs.declared.entries.Held.{Held}

@@ -12,6 +12,7 @@ use crate::writes::{Write, Writes};
 use crate::{CLIENTS, PATIENCE};
 use address::{Address, ViewId};
 use http::StatusCode;
+use keyed_state::Token;
 use replicated_map::{Command, ReplicatedMap};
 use std::alloc::{AllocError, Global};
 use std::collections::VecDeque;
@@ -21,7 +22,6 @@ use std::net::{Net, SocketAddr};
 use std::os::fd::RawFd;
 use std::random::RandomSource;
 use std::time::Duration;
-use tokens::Token;
 use trace_props::{Delivery, Event};
 
 /// How many connections are accepted before others have their turn.

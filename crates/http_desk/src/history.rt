@@ -1,8 +1,7 @@
 //! What happened at the node last.
 
 use crate::EVENTS;
-use address::{Address, ViewId};
-use owned_bytes::Bytes;
+use address::{Address, Bytes, ViewId};
 use std::alloc::{AllocError, Global};
 use trace_props::{BoxedInstall, Delivery, Event, HandedBack, Install, Message, Numbered, Sending};
 use view::View;

@@ -4,10 +4,10 @@ ghost use Rattle.std.specs.Prelude.{◌≡◌, ◌++◌, OnOk};
 ghost use Rattle.http_desk.specs.Replies.{quoted_token};
 
 use address::{Address, ViewId};
+use keyed_state::{Token, put_token_text};
 use lock_table::{Lock, LockTable};
 use replicated_map::ReplicatedMap;
 use std::alloc::AllocError;
-use tokens::{Token, put_token_text};
 use vsync_text::{put, put_address, put_hex, put_number, put_view_id};
 
 /// Appends bytes as a string of JSON: a byte that is no printable ASCII is written by its number.

@@ -1,15 +1,15 @@
 //! What is known of those who asked for a change, and what each is answered.
 
 ghost use Rattle.std.specs.Prelude.{◌≡◌, ◌++◌, ◌∷◌, [], IfOk};
-ghost use Rattle.tokens.specs.TokenText.{text_of_token};
+ghost use Rattle.keyed_state.specs.TokenText.{text_of_token};
 ghost use Rattle.http_desk.specs.Replies.{Says, AnswersOutcome, AnswersLockFate, IsKnownOfMap, IsKnownOfLock, AreKnownOfMap, AreKnownOfLocks};
 
 use crate::reply::{Media, Reply};
 use address::ViewId;
 use http::StatusCode;
+use keyed_state::Token;
 use replicated_map::Outcome;
 use std::alloc::{AllocError, Global};
-use tokens::Token;
 
 /// What is known of a ticket.
 #[derive(Drop)]

@@ -7,7 +7,7 @@ use crate::refusal::Refusal;
 use crate::request::{Asked, Order, read_only};
 use bytes::Bytes;
 use http::Request;
-use keyed_entries::KeyBytes;
+use keyed_state::KeyBytes;
 use std::alloc::{AllocError, Global};
 
 // For how many seconds a request waits for a lock; `None` if it says no such number.

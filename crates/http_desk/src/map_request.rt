@@ -4,13 +4,12 @@ use crate::PATIENCE;
 use crate::query::{decoded, field_of};
 use crate::refusal::Refusal;
 use crate::request::{Asked, Order};
+use address::limits::PAYLOAD;
 use bytes::Bytes;
 use http::{HeaderName, Request, header};
-use keyed_entries::KeyBytes;
-use limits::PAYLOAD;
+use keyed_state::{KeyBytes, Token, put_token_text, token_in};
 use replicated_map::{Command, ValueBytes, Version};
 use std::alloc::{AllocError, Global};
-use tokens::{Token, put_token_text, token_in};
 
 // The value of a header; the first one if it is there more than once.
 fn header_of(request: &Request<Bytes>, name: HeaderName) -> Option<&[u8]> {

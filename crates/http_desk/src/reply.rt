@@ -7,9 +7,9 @@ use crate::history::{Tag, put_tag};
 use crate::json::put_token;
 use crate::refusal::Refusal;
 use http::StatusCode;
+use keyed_state::Token;
 use replicated_map::Held;
 use std::alloc::{AllocError, Global};
-use tokens::Token;
 
 /// What a body is.
 #[derive(Clone, Copy, Debug, PartialEq, Eq)]

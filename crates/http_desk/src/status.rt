@@ -3,7 +3,7 @@
 use crate::json::{put_all, put_field, put_quoted, put_view};
 use crate::kept::Keeps;
 use crate::standing::Standing;
-use limits::VERSION;
+use address::limits::VERSION;
 use std::alloc::{AllocError, Global};
 use std::time::Duration;
 use vsync_text::{put, put_number};

@@ -2,7 +2,7 @@
 use Rattle.std.proofs.Common.{◌≡◌, ℕ, zero, suc, ◌<◌, List, [], ◌∷◌, ◌++◌, length, take, get_or, sym, ap, ◌∙◌, arith}
 use Rattle.std.specs.List.{flat_map}
 use Rattle.std.proofs.lemmas.List.{flat_map_more}
-use Rattle.keyed_entries.specs.declared.KeyedEntry.{KeyedEntry}
+use Rattle.keyed_state.specs.declared.entries.KeyedEntry.{KeyedEntry}
 use Rattle.keyed_state.specs.States.{Form, entry_bytes}
 
 module _ {V : Type 0} (form : Form V) where

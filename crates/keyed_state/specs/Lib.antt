@@ -1,2 +1,12 @@
 pub mod States
 pub mod StateLaws
+pub mod Keys
+pub mod Entries
+pub mod KeyLaws
+pub mod EntryLaws
+pub mod Words
+pub mod Tokens
+pub mod Spelling
+pub mod TokenText
+pub mod TokenLaws
+pub mod SpellingLaws

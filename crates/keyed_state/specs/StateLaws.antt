@@ -10,19 +10,19 @@ use Rattle.std.proofs.lemmas.List.Sums.{sum_by-cons}
 use Rattle.std.proofs.lemmas.Option.{cond_some}
 use Rattle.byteorder.specs.Endian.{big_bytes}
 use Rattle.big_endian.proofs.Bytes.{wide4}
-use Rattle.limits.specs.declared.TheConstants.{STATE}
-use Rattle.reading.specs.Reading.{number_at, list_at, ◌>>=◌}
-use Rattle.reading.specs.PartLaws.{bind_some, some_is, joined, IsPart, IsWithin, number_part, list_takes, list_again}
-use Rattle.keyed_entries.specs.declared.KeyedEntry.{KeyedEntry}
-use Rattle.keyed_entries.specs.Entries.{key_cmp, entry_of, put, without, rises}
-use Rattle.keyed_entries.specs.EntryLaws.{rises-found, rises-tested, all-put, all-without, rises-put, rises-without}
-use Rattle.keyed_entries.specs.Keys.{IsKey, key_bytes, key_at}
-use Rattle.keyed_entries.specs.KeyLaws.{key_takes, key_again}
-use Rattle.tokens.specs.declared.token.Token.{Token}
-use Rattle.tokens.specs.Tokens.{IsToken, is_up_to, least_token}
-use Rattle.tokens.specs.Spelling.{token_bytes, token_at}
-use Rattle.tokens.specs.SpellingLaws.{token_part, length-token}
-use Rattle.tokens.specs.TokenLaws.{up-trans}
+use Rattle.address.specs.declared.limits.TheConstants.{STATE}
+use Rattle.big_endian.specs.Reading.{number_at, list_at, ◌>>=◌}
+use Rattle.big_endian.proofs.PartLaws.{bind_some, some_is, joined, IsPart, IsWithin, number_part, list_takes, list_again}
+use Rattle.keyed_state.specs.declared.entries.KeyedEntry.{KeyedEntry}
+use Rattle.keyed_state.specs.Entries.{key_cmp, entry_of, put, without, rises}
+use Rattle.keyed_state.specs.EntryLaws.{rises-found, rises-tested, all-put, all-without, rises-put, rises-without}
+use Rattle.keyed_state.specs.Keys.{IsKey, key_bytes, key_at}
+use Rattle.keyed_state.specs.KeyLaws.{key_takes, key_again}
+use Rattle.keyed_state.specs.declared.token.Token.{Token}
+use Rattle.keyed_state.specs.Tokens.{IsToken, is_up_to, least_token}
+use Rattle.keyed_state.specs.Spelling.{token_bytes, token_at}
+use Rattle.keyed_state.specs.SpellingLaws.{token_part, length-token}
+use Rattle.keyed_state.specs.TokenLaws.{up-trans}
 use Rattle.keyed_state.specs.States.{Form, KeyedState, state_of, entry_bytes, entry_at, entry_size, state_encode, state_at, state_size, are_up_to, state_decode, IsEntry, AreUpTo, IsState}
 
 -- what holds of what a key may have: its bytes are as many as is said, those that can be spelled are read back, and each is one of those, if a state has room for it

@@ -2,14 +2,14 @@
 use Rattle.std.specs.Prelude.{◌≡◌, ℕ, ◌+◌, ◌≤◌, Bool, true, ◌==◌, ◌&&◌, List, ◌++◌, length, Option, Some, None, nat_le, if◌then◌else◌}
 use Rattle.std.specs.List.{AllByRecursion, flat_map, list_all, sum_by}
 use Rattle.byteorder.specs.Endian.{big_bytes}
-use Rattle.limits.specs.declared.TheConstants.{STATE}
-use Rattle.reading.specs.Reading.{Read, ◌>>=◌, number_at, list_at}
-use Rattle.keyed_entries.specs.declared.KeyedEntry.{KeyedEntry}
-use Rattle.keyed_entries.specs.Keys.{IsKey, key_bytes, key_at}
-use Rattle.keyed_entries.specs.Entries.{entry_of, rises, Rises}
-use Rattle.tokens.specs.declared.token.Token.{Token}
-use Rattle.tokens.specs.Tokens.{is_up_to, IsToken}
-use Rattle.tokens.specs.Spelling.{token_bytes, token_at}
+use Rattle.address.specs.declared.limits.TheConstants.{STATE}
+use Rattle.big_endian.specs.Reading.{Read, ◌>>=◌, number_at, list_at}
+use Rattle.keyed_state.specs.declared.entries.KeyedEntry.{KeyedEntry}
+use Rattle.keyed_state.specs.Keys.{IsKey, key_bytes, key_at}
+use Rattle.keyed_state.specs.Entries.{entry_of, rises, Rises}
+use Rattle.keyed_state.specs.declared.token.Token.{Token}
+use Rattle.keyed_state.specs.Tokens.{is_up_to, IsToken}
+use Rattle.keyed_state.specs.Spelling.{token_bytes, token_at}
 
 -- what a key may have: its bytes and how many, what bytes begin with, its token, which there are, and which of them can be spelled
 pub record Form (V : Type 0) : Type 1 where

@@ -1,15 +1,13 @@
 ghost use Rattle.std.specs.Prelude.{◌≡◌, IfOk};
-ghost use Rattle.reading.specs.Reading.{IsReadOrNone, list_at};
+ghost use Rattle.big_endian.specs.Reading.{IsReadOrNone, list_at};
 ghost use Rattle.keyed_state.specs.States.{are_up_to, entry_at, state_at, state_decode, state_of};
 
-use crate::Kept;
-use keyed_entries::{KeyedEntry, is_rising, key_from};
-use limits::STATE;
-use owned_bytes::Bytes;
-use reading::Reader;
+use crate::{Kept, KeyedEntry, Token, is_rising, key_from, token_from};
+use address::Bytes;
+use address::limits::STATE;
+use big_endian::Reader;
 use std::alloc::{AllocError, Global};
 use std::cmp::Ordering;
-use tokens::{Token, token_from};
 
 /// The last token that was given, and the entries, their keys rising.
 #[derive(Debug, Drop)]

@@ -1,13 +1,11 @@
 ghost use Rattle.std.specs.Prelude.{◌≡◌, ◌≤◌, ◌+◌, ◌++◌, vec_len, vec_capacity, OnOk, OnErr};
 ghost use Rattle.std.specs.List.{flat_map, sum_by, AllByRecursion};
-ghost use Rattle.limits.specs.declared.TheConstants.{STATE};
+ghost use Rattle.address.specs.declared.limits.TheConstants.{STATE};
 ghost use Rattle.keyed_state.specs.States.{IsEntry, IsState, entry_bytes, entry_size, state_encode, state_of, state_size};
 
-use crate::Kept;
+use crate::{Kept, KeyedEntry, Token, put_key, put_token};
 use big_endian::put_u32;
-use keyed_entries::{KeyedEntry, put_key};
 use std::alloc::AllocError;
-use tokens::{Token, put_token};
 
 fn size_of_entry<V: Kept>(entry: &KeyedEntry<V>) -> usize
     requires { entry_size V.form entry.now ≤ STATE }

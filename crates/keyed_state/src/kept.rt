@@ -1,12 +1,12 @@
 ghost use Rattle.std.specs.Prelude.{◌≡◌, ◌≤◌, ◌+◌, ◌++◌, vec_len, vec_capacity, IfOk};
-ghost use Rattle.limits.specs.declared.TheConstants.{STATE};
-ghost use Rattle.reading.specs.Reading.{IsReadOrNone};
+ghost use Rattle.address.specs.declared.limits.TheConstants.{STATE};
+ghost use Rattle.big_endian.specs.Reading.{IsReadOrNone};
 ghost use Rattle.keyed_state.specs.States.{Form};
 ghost use Rattle.keyed_state.specs.StateLaws.{FormLaws};
 
-use reading::Reader;
+use crate::Token;
+use big_endian::Reader;
 use std::alloc::{AllocError, Global};
-use tokens::Token;
 
 /// What a key has in such a state: it was given with a token, and is spelled in bytes that are read back.
 pub trait Kept: Drop + Sized {

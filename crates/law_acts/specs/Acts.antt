@@ -5,7 +5,7 @@ use Rattle.std.specs.List.{Contains, flat_map, list_all}
 use Rattle.address.specs.Ids.{Address, ViewId, same_address, same_view_id}
 use Rattle.view.specs.Members.{View, stands_in}
 use Rattle.view.specs.View.{view_refusal}
-use Rattle.limits.specs.declared.TheConstants.{PAYLOAD, WINDOW}
+use Rattle.address.specs.declared.limits.TheConstants.{PAYLOAD, WINDOW}
 use Rattle.wire_values.specs.Values.{Entry, held_at, Report, nothing_reported}
 use Rattle.wire_values.specs.Values as wire
 use Rattle.wire_values.specs.declared.values.state.GivenState.{GivenState}

@@ -3,7 +3,7 @@ use Rattle.std.specs.Prelude.{◌≡◌, ◌≤◌, ◌+◌, ◌-◌, ◌/◌, �
 use Rattle.std.specs.List.{Contains, flat_map, range_with_len}
 use Rattle.std.specs.Option.{IsSomeAnd}
 use Rattle.address.specs.Ids.{ViewId}
-use Rattle.limits.specs.declared.TheConstants.{CHUNK}
+use Rattle.address.specs.declared.limits.TheConstants.{CHUNK}
 use Rattle.wire_values.specs.Chunks.{IsPlace, chunk_of}
 use Rattle.wire_values.specs.Values as wire
 use Rattle.wire_values.specs.declared.values.state.GivenState.{GivenState}

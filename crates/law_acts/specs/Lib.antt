@@ -4,3 +4,5 @@ pub mod Given
 pub mod Cores
 pub mod Acts
 pub mod Chains
+pub mod Decisions
+pub mod Laws

@@ -6,7 +6,7 @@ use Rattle.std.proofs.lemmas.Option.{none-some, same_Some}
 use Rattle.std.proofs.lemmas.List.{length-drop, take-append-drop, drop-drop, nil_from_length}
 use Rattle.std.proofs.lemmas.Bool.{cases_lt}
 use Rattle.address.specs.Ids.{ViewId}
-use Rattle.limits.specs.declared.TheConstants.{CHUNK}
+use Rattle.address.specs.declared.limits.TheConstants.{CHUNK}
 use Rattle.wire_values.specs.Chunks.{IsPlace, chunk_of}
 use Rattle.wire_values.specs.Values as wire
 use Rattle.wire_values.specs.declared.values.state.GivenState.{GivenState}

@@ -7,7 +7,7 @@ use Rattle.std.proofs.lemmas.Bool.{cond-true, cond-false, or_left, or_right, not
 use Rattle.std.proofs.lemmas.Option.{none-some, same_Some}
 use Rattle.address.specs.Ids.{Address, ViewId, same_address, same_view_id}
 use Rattle.view.specs.Members.{stands_in}
-use Rattle.limits.specs.declared.TheConstants.{CHUNK}
+use Rattle.address.specs.declared.limits.TheConstants.{CHUNK}
 use Rattle.wire_values.specs.Values.{Report}
 use Rattle.wire_values.specs.Values as wire
 use Rattle.wire_values.specs.declared.values.state.GivenState.{GivenState}

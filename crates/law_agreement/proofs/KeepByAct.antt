@@ -2,7 +2,7 @@
 use Rattle.std.proofs.Common.{◌≡◌, ℕ, ◌≤◌, length, false, Option, Some, List, subst, sym}
 use Rattle.address.specs.Ids.{Address, ViewId, IsAddress}
 use Rattle.view.specs.Members.{View}
-use Rattle.limits.specs.declared.TheConstants.{PAYLOAD}
+use Rattle.address.specs.declared.limits.TheConstants.{PAYLOAD}
 use Rattle.wire_values.specs.Values.{Entry, Report}
 use Rattle.wire_values.specs.Values as wire
 use Rattle.wire_values.specs.declared.values.state.GivenState.{GivenState}

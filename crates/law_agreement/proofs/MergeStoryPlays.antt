@@ -4,7 +4,7 @@ use Rattle.std.specs.Prelude.{IsSome, slice_get, length, ◌≤◌}
 use Rattle.std.proofs.lemmas.Option.{none-some}
 use Rattle.address.specs.Ids.{IsAddress}
 use Rattle.wire_values.specs.Values.{Entry, Report}
-use Rattle.limits.specs.declared.TheConstants.{PAYLOAD}
+use Rattle.address.specs.declared.limits.TheConstants.{PAYLOAD}
 use Rattle.state_transfer.specs.Meanings.{Meaning}
 use Rattle.flush.specs.Cuts.{held_among, greatest_stable, IsCut}
 use Rattle.flush.specs.Flushes.{group}

@@ -10,7 +10,7 @@ use Rattle.std.proofs.lemmas.List.{take_all}
 use Rattle.std.proofs.lemmas.Option.{none-some}
 use Rattle.address.specs.Ids.{Address, ViewId, same_address}
 use Rattle.address.proofs.SameIds.{same_address-true, same_address-refl, same_address-sym}
-use Rattle.limits.specs.declared.TheConstants.{MEMBERS}
+use Rattle.address.specs.declared.limits.TheConstants.{MEMBERS}
 use Rattle.view.specs.Members.{stands_in, is_distinct}
 use Rattle.view.specs.View.{view_refusal, begins_with}
 use Rattle.suspicion.specs.Suspicion.{leads}

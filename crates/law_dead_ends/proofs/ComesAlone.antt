@@ -8,7 +8,7 @@ use Rattle.std.proofs.lemmas.Bool.{and_from, or_left, or_right, or_cases}
 use Rattle.std.proofs.lemmas.Option.{none-some, same_Some}
 use Rattle.address.specs.Ids.{Address, ViewId, same_address}
 use Rattle.address.proofs.SameIds.{same_address-refl, same_address-true}
-use Rattle.limits.specs.declared.TheConstants.{GREATEST_NUMBER}
+use Rattle.address.specs.declared.limits.TheConstants.{GREATEST_NUMBER}
 use Rattle.view.specs.Members.{View, stands_in}
 use Rattle.view.proofs.MembersListed.{coordinator-in}
 use Rattle.state_transfer.specs.Meanings.{Meaning}
@@ -19,8 +19,8 @@ use Rattle.flush.specs.Flushes.{FlushModel, has_reported}
 use Rattle.view_install.specs.Promises.{PromiseModel}
 use Rattle.law_acts.specs.Acts.{others_of, proposed}
 use Rattle.law_acts.specs.Cores.{Core}
-use Rattle.law_choices.specs.Decisions.{due_proposal, due_at, is_due, promised_counter, proposal_after}
-use Rattle.law_choices.proofs.ProposalsAreViews.{next-means}
+use Rattle.law_acts.specs.Decisions.{due_proposal, due_at, is_due, promised_counter, proposal_after}
+use Rattle.law_acts.proofs.ProposalsAreViews.{next-means}
 use Rattle.step_output.specs.declared.output.Output.{Output}
 use Rattle.step_output.specs.Steps.{Who, who}
 use Rattle.traffic.specs.declared.view_state.ViewState.{ViewState}

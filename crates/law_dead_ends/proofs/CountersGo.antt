@@ -7,7 +7,7 @@ use Rattle.std.proofs.lemmas.Bool.Decides.{nat_tests}
 use Rattle.std.proofs.lemmas.Option.{none-some, same_Some}
 use Rattle.address.specs.Ids.{Address, same_address}
 use Rattle.address.proofs.SameIds.{same_address-sym}
-use Rattle.limits.specs.declared.TheConstants.{GREATEST_NUMBER}
+use Rattle.address.specs.declared.limits.TheConstants.{GREATEST_NUMBER}
 use Rattle.view.specs.Members.{View, stands_in}
 use Rattle.next_view.specs.ViewNotes.{NotesModel, others_than, suspecting, settled}
 use Rattle.next_view.specs.Candidates.{next_counter}

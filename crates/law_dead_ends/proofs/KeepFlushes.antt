@@ -24,8 +24,8 @@ use Rattle.view_install.specs.declared.promise.OfferAnswer.TheVariants.{Accept, 
 use Rattle.law_acts.specs.Acts.{others_of, proposed}
 use Rattle.law_acts.specs.Cores.{Core}
 use Rattle.law_acts.specs.Histories.{Posted}
-use Rattle.law_choices.specs.Decisions.{is_readable, due_proposal, due_at, regroups_in, is_due, proposal_after}
-use Rattle.law_choices.proofs.ProposalsAreViews.{next-means}
+use Rattle.law_acts.specs.Decisions.{is_readable, due_proposal, due_at, regroups_in, is_due, proposal_after}
+use Rattle.law_acts.proofs.ProposalsAreViews.{next-means}
 use Rattle.step_output.specs.Steps.{Who}
 use Rattle.traffic.specs.declared.view_state.ViewState.{ViewState}
 use Rattle.traffic.proofs.NewViewTraffic.{fresh-view}

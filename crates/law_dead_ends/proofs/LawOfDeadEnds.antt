@@ -5,7 +5,7 @@ use Rattle.std.specs.Option.{ForSome, IsSomeAnd, option_map, option_map_or, opti
 use Rattle.std.proofs.lemmas.Option.{none-some, same_Some}
 use Rattle.address.specs.Ids.{Address, same_address}
 use Rattle.address.proofs.SameIds.{same_address-true}
-use Rattle.limits.specs.declared.refusal.Refusal.TheVariants.{Closed}
+use Rattle.address.specs.declared.refusal.Refusal.TheVariants.{Closed}
 use Rattle.view.specs.Members.{View, stands_in}
 use Rattle.view.proofs.MembersListed.{coordinator-in}
 use Rattle.state_transfer.specs.Meanings.{Meaning}

@@ -27,9 +27,9 @@ use Rattle.step_output.specs.Outputs.{packet_in, spelled}
 use Rattle.step_output.specs.declared.output.Output.{Output}
 use Rattle.step_output.specs.Steps.{who}
 use Rattle.member.specs.Running.{IsAlive}
-use Rattle.limits.specs.declared.refusal.Refusal.{Refusal}
-use Rattle.limits.specs.declared.refusal.Refusal.TheVariants as refusal
-use Rattle.limits.specs.Refusals as refusals
+use Rattle.address.specs.declared.refusal.Refusal.{Refusal}
+use Rattle.address.specs.declared.refusal.Refusal.TheVariants as refusal
+use Rattle.address.specs.Refusals as refusals
 use Rattle.law_acts.proofs.LawsOfActs.{nothing-acted}
 use Rattle.member.specs.declared.error.Error.{Error}
 use Rattle.member.specs.declared.error.Error.TheVariants.{Refused, Wire}

@@ -8,7 +8,7 @@ use Rattle.std.proofs.lemmas.Option.{none-some, same_Some, cond_some}
 use Rattle.std.proofs.lemmas.List.{take-append-drop}
 use Rattle.address.specs.Ids.{Address, ViewId, IsAddress, same_address, same_view_id}
 use Rattle.address.proofs.SameIds.{same_address-refl}
-use Rattle.limits.specs.declared.TheConstants.{PAYLOAD}
+use Rattle.address.specs.declared.limits.TheConstants.{PAYLOAD}
 use Rattle.view.specs.Members.{View}
 use Rattle.wire_values.specs.Values.{Entry}
 use Rattle.wire_values.specs.declared.error.WireError.{WireError}

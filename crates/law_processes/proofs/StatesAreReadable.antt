@@ -38,7 +38,7 @@ use Rattle.law_processes.proofs.KeepBySteps.{IsDeployment, system_of, cores, sta
 use Rattle.member.specs.Handling.{Handled}
 use Rattle.member.specs.Members.{core_of}
 use Rattle.member.specs.declared.error.Error.TheVariants.{Refused}
-use Rattle.limits.specs.declared.refusal.Refusal.TheVariants.{Closed}
+use Rattle.address.specs.declared.refusal.Refusal.TheVariants.{Closed}
 
 -- a packet that came stands in the pool, and is for the member
 came-there : {S : Type 0} (pool : List Posted) (c : Core S) (which : Option ℕ) (m : Posted) → Some m ≡ came_of c pool which → (k : ℕ) × (slice_get pool k ≡ Some m) × (m.destination ≡ c.me)

@@ -1,7 +1,7 @@
 -- What the trace of a deployment carries, beside what the rules say of it.
 use Rattle.std.specs.Prelude.{◌≡◌, ℕ, ◌≤◌, List, None, Some, length, slice_get}
 use Rattle.address.specs.Ids.{IsAddress}
-use Rattle.limits.specs.declared.TheConstants.{PAYLOAD}
+use Rattle.address.specs.declared.limits.TheConstants.{PAYLOAD}
 use Rattle.state_transfer.specs.Meanings.{Meaning}
 use Rattle.trace_props.specs.declared.event.Event.TheVariants.{Delivered, Installed}
 use Rattle.trace_props.specs.declared.event.Delivery.{Delivery}

@@ -2,7 +2,7 @@
 use Rattle.std.specs.Prelude.{◌≡◌, ℕ, List, Some, Err}
 use Rattle.std.specs.Option.{IsSomeAnd}
 use Rattle.address.specs.Ids.{Address, ViewId}
-use Rattle.limits.specs.declared.refusal.Refusal.TheVariants.{Closed}
+use Rattle.address.specs.declared.refusal.Refusal.TheVariants.{Closed}
 use Rattle.state_transfer.specs.Meanings.{Meaning}
 use Rattle.trace_props.specs.Places.{EachPlace}
 use Rattle.law_copies.specs.Replicas.{ReplicasAgree}

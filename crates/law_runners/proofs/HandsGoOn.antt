@@ -8,7 +8,7 @@ use Rattle.trace_props.specs.declared.event.Event.TheVariants.{Started, Crashed}
 use Rattle.trace_props.specs.Observed.{has_started}
 use Rattle.udp_net.specs.Logs.{Log}
 use Rattle.udp_member.specs.Turns.{Driven}
-use Rattle.law_channels.specs.Plays.{crash_of}
+use Rattle.law_runners.specs.Plays.{crash_of}
 use Rattle.law_runners.specs.Items.{net_events}
 use Rattle.law_runners.specs.Runs.{Drives, new_channel}
 use Rattle.law_runners.specs.Systems.{Gone, with_runner, has_ended, Played, Nothing, Begins, Fails, Turns, Dies, Closes}

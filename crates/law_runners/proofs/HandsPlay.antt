@@ -23,8 +23,8 @@ use Rattle.udp_net.specs.Logs.{Log, Lists, NetEvent}
 use Rattle.udp_member.specs.Turns.{Driven}
 use Rattle.law_processes.specs.Deployments.{Step, Start, Crash, EachStep, StartsOnce, IsNew, after_steps, nothing_yet, bytes_of, trace_of}
 use Rattle.law_processes.specs.Processes.{all_told}
-use Rattle.law_channels.specs.Plays.{IsReady, crash_of}
-use Rattle.law_channels.specs.Known.{ChannelKnows}
+use Rattle.law_runners.specs.Plays.{IsReady, crash_of}
+use Rattle.law_runners.specs.KnownOfChannels.{ChannelKnows}
 use Rattle.law_runners.specs.Items.{Item, OfMember, Standing, not_begun, stands_after, Follow, IsProcess, net_events, steps_in}
 use Rattle.law_runners.specs.Runs.{new_channel, running_in, standing, happened_by, Adds, StandsWith}
 use Rattle.law_runners.specs.Merged.{Done, own_items, items_of, IsCarried, AreMerged, RunnersAreSynchronous}

@@ -14,7 +14,7 @@ use Rattle.udp_net.specs.Logs.{Log, Lists, NetEvent, Answered, Offered}
 use Rattle.udp_member.specs.Offers.{offered_as}
 use Rattle.law_processes.specs.Deployments.{Step, Start, Call, Crash, whose, left_with, puts_of, bytes_of, told_by, happens_by}
 use Rattle.law_processes.specs.Processes.{RunsFrom, member_after, all_put_out, all_told}
-use Rattle.law_channels.specs.Plays.{IsStepBy}
+use Rattle.law_runners.specs.Plays.{IsStepBy}
 use Rattle.law_runners.specs.Items.{Item, OfNet, OfMember, Standing, given_by, then_stands, stands_after, datagram_in, datagram_of, Follow, net_event, net_events, step_in, steps_in}
 use Rattle.law_runners.specs.Runs.{happened_by}
 

@@ -12,8 +12,8 @@ use Rattle.udp_net.specs.Logs.{Log, Lists}
 use Rattle.udp_member.specs.Turns.{Driven}
 use Rattle.law_processes.specs.Deployments.{IsNew, bytes_of}
 use Rattle.law_processes.specs.Processes.{all_told}
-use Rattle.law_channels.specs.Plays.{IsReady, falls, crash_of}
-use Rattle.law_channels.proofs.CallIsStep.{lent-calls-are, creates-are, joins-are}
+use Rattle.law_runners.specs.Plays.{IsReady, falls, crash_of}
+use Rattle.law_runners.proofs.CallIsStep.{lent-calls-are, creates-are, joins-are}
 use Rattle.law_runners.specs.Items.{Follow, stands_after, steps_in}
 use Rattle.law_runners.specs.Runs.{listed, with_channel, Makes, Listen, Round, Seek, Offer, Wait, Create, Join, Send, Hand, Take, Drives, Begun, Further, running_in, happened_by, Adds, CallsAddItems, new_channel, IsRun, RunsAreProcesses}
 use Rattle.law_runners.proofs.StepsOfCalls.{call-does, connect-does, again-does}

@@ -26,8 +26,8 @@ use Rattle.udp_member.specs.Rounds.{PassesOver, Asks, ComesNone, Cuts, Hears, co
 use Rattle.udp_member.specs.Seeking.{Hints, Seeks, sought, turned}
 use Rattle.law_processes.specs.Deployments.{Step, IsNew, bytes_of, happens_by}
 use Rattle.law_processes.specs.Processes.{all_told}
-use Rattle.law_channels.specs.Plays.{IsReady, LeftBy, falls, crash_of}
-use Rattle.law_channels.proofs.CallIsStep.{is_over, calls-are, lent-calls-are}
+use Rattle.law_runners.specs.Plays.{IsReady, LeftBy, falls, crash_of}
+use Rattle.law_runners.proofs.CallIsStep.{is_over, calls-are, lent-calls-are}
 use Rattle.law_runners.specs.Items.{Item, OfNet, Standing, stands_after, datagram_in, Follow, net_events, steps_in}
 use Rattle.law_runners.specs.Runs.{is_start, running_in, standing, happened_by, Adds}
 use Rattle.law_runners.proofs.ItemsJoin

@@ -11,3 +11,8 @@ pub mod HandsGoOn
 pub mod ChannelsTellNoStart
 pub mod ChannelsTellOwn
 pub mod SendsAreSaid
+pub mod CallIsStep
+pub mod WhatChannelsKnow
+pub mod NetsOfFrames
+pub mod OnePacket
+pub mod OrderAbove

@@ -3,7 +3,7 @@ use Rattle.std.proofs.Common.{◌≡◌, ℕ, Bool, true, false, cond, Option, N
 use Rattle.std.specs.Prelude.{MatchOption, MatchBool}
 use Rattle.std.specs.Option.{option_and_then}
 use Rattle.std.proofs.lemmas.List.{append_assoc}
-use Rattle.limits.specs.declared.refusal.Refusal.TheVariants as refusal
+use Rattle.address.specs.declared.refusal.Refusal.TheVariants as refusal
 use Rattle.address.specs.Ids.{Address, ViewId}
 use Rattle.view.specs.Members.{View}
 use Rattle.state_transfer.specs.Meanings.{Meaning}
@@ -28,7 +28,7 @@ use Rattle.udp_member.specs.Rounds.{ComesNone, Cuts, Hears, counting, silent_of,
 use Rattle.udp_member.specs.Seeking.{Hints, sought, turned}
 use Rattle.law_processes.specs.Said.{AreSaid, Says, SaysAt}
 use Rattle.law_processes.proofs.SendsWereAsked.{said-append, reply-said}
-use Rattle.law_channels.specs.Plays.{LeftBy}
+use Rattle.law_runners.specs.Plays.{LeftBy}
 use Rattle.law_runners.specs.Runs.{Makes, Listen, Round, Seek, Offer, Wait, Create, Join, Send, Hand, Take, SaysOnly, DrivesWithoutOffer, Still, Called, listed}
 
 module _ (May : ViewId → List ℕ → Type 0) {S : Type 0} (meaning : Meaning S) where

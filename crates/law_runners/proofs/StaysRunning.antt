@@ -1,7 +1,7 @@
 -- A channel runs on after what a runner hands in, unless that is answered 6 or 7.
 use Rattle.std.proofs.Common.{◌≡◌, ℕ, Bool, true, false, not, cond, Option, None, Some, is_some, List, refl, sym, ap, ◌∙◌, subst}
 use Rattle.std.specs.Prelude.{IsSomeAnd}
-use Rattle.limits.specs.declared.refusal.Refusal.TheVariants as refusal
+use Rattle.address.specs.declared.refusal.Refusal.TheVariants as refusal
 use Rattle.address.specs.Ids.{Address}
 use Rattle.state_transfer.specs.Meanings.{Meaning}
 use Rattle.trace_props.specs.declared.event.Event.{Event}
@@ -19,8 +19,8 @@ use Rattle.channel.specs.Errors.{is_end}
 use Rattle.channel.specs.Channels.{ChannelModel, stage_of, left_by}
 use Rattle.channel.specs.Calls.{CallsAt, Calls, Steps}
 use Rattle.udp_member.specs.Turns.{Handed, Datagram, Suspect, Tick, Hint, CallsBy, goes_on}
-use Rattle.law_channels.specs.Plays.{LeftBy}
-use Rattle.law_channels.proofs.CallIsStep.{ends_by, is_over}
+use Rattle.law_runners.specs.Plays.{LeftBy}
+use Rattle.law_runners.proofs.CallIsStep.{ends_by, is_over}
 
 not-so : (b : Bool) → not b ≡ true → b ≡ false
 not-so true e = absurd (let bad : false ≡ true = e in cc)

@@ -16,8 +16,8 @@ use Rattle.channel.specs.Errors.{is_end}
 use Rattle.channel.specs.Channels.{ChannelModel, member_in, is_in}
 use Rattle.law_processes.specs.Deployments.{Step, Start, Call, Crash, IsNew, bytes_of, left_with, happens_by}
 use Rattle.law_processes.specs.Processes.{StepsSo, RunsFrom, member_after, all_put_out, all_told}
-use Rattle.law_channels.specs.Plays.{IsReady, is_apart_after, Plays, IsStepBy, AreByCall, AreByConnect, AreByReconnect, falls, crash_of, happens_then, Happens, LeftBy}
-use Rattle.law_channels.proofs.CallIsStep.{ends_by, is_over, ended-after}
+use Rattle.law_runners.specs.Plays.{IsReady, is_apart_after, Plays, IsStepBy, AreByCall, AreByConnect, AreByReconnect, falls, crash_of, happens_then, Happens, LeftBy}
+use Rattle.law_runners.proofs.CallIsStep.{ends_by, is_over, ended-after}
 use Rattle.law_runners.specs.Items.{datagram_in}
 use Rattle.law_runners.specs.Runs.{is_start, running_in}
 use Rattle.law_runners.proofs.ItemsJoin.{MayHand, step-hands}

@@ -14,9 +14,9 @@ use Rattle.channel.specs.declared.stage.Stage.{Stage}
 use Rattle.channel.specs.declared.stage.Stage.TheVariants.{Apart, Connected, Ended}
 use Rattle.law_processes.specs.Deployments.{IsNew, trace_of}
 use Rattle.law_processes.specs.Known.{MembersKnow, CopiesAgree}
-use Rattle.law_channels.specs.Plays.{IsReady}
-use Rattle.law_channels.specs.Known.{ChannelKnows}
-use Rattle.law_channels.proofs.WhatChannelsKnow.{connected-knows}
+use Rattle.law_runners.specs.Plays.{IsReady}
+use Rattle.law_runners.specs.KnownOfChannels.{ChannelKnows}
+use Rattle.law_runners.proofs.WhatChannelsKnow.{connected-knows}
 use Rattle.law_runners.specs.Items.{Item, steps_in}
 use Rattle.law_runners.specs.Runs.{running_in, StandsWith}
 use Rattle.law_runners.specs.Merged.{items_of}

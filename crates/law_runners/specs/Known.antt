@@ -7,7 +7,7 @@ use Rattle.law_copies.specs.Replicas.{ReplicasAgree, HasDelivered}
 use Rattle.channel.specs.declared.stage.Stage.{Stage}
 use Rattle.channel.specs.Channels.{receiver_in}
 use Rattle.law_processes.specs.Deployments.{trace_of}
-use Rattle.law_channels.specs.Known.{ChannelKnows}
+use Rattle.law_runners.specs.KnownOfChannels.{ChannelKnows}
 use Rattle.law_runners.specs.Items.{Item, steps_in}
 use Rattle.law_runners.specs.Runs.{StandsWith}
 use Rattle.law_runners.specs.Merged.{Done, own_items, items_of, AreMerged}

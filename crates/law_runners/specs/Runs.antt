@@ -23,7 +23,7 @@ use Rattle.udp_member.specs.Seeking.{Seeks}
 use Rattle.law_processes.specs.Deployments.{Step, Start, Call, Crash, IsNew, bytes_of, happens_by}
 use Rattle.law_processes.specs.Processes.{all_told}
 use Rattle.law_processes.specs.Said.{Says}
-use Rattle.law_channels.specs.Plays.{IsReady, LeftBy, falls, crash_of}
+use Rattle.law_runners.specs.Plays.{IsReady, LeftBy, falls, crash_of}
 use Rattle.law_runners.specs.Items.{Item, OfMember, Standing, not_begun, stands_after, datagram_in, Follow, IsProcess, net_events, steps_in}
 
 -- ---- calls

@@ -15,8 +15,8 @@ use Rattle.channel.specs.declared.stage.Stage.TheVariants.{Apart, Connected, End
 use Rattle.udp_net.specs.Logs.{Log, Lists, NetEvent}
 use Rattle.udp_member.specs.Turns.{Driven}
 use Rattle.law_processes.specs.Deployments.{EachStep, StartsOnce, nothing_yet, trace_of}
-use Rattle.law_channels.specs.Plays.{crash_of}
-use Rattle.law_channels.specs.Known.{ChannelKnows}
+use Rattle.law_runners.specs.Plays.{crash_of}
+use Rattle.law_runners.specs.KnownOfChannels.{ChannelKnows}
 use Rattle.law_runners.specs.Items.{Item, IsProcess, net_events, steps_in}
 use Rattle.law_runners.specs.Runs.{Drives, new_channel, StandsWith}
 use Rattle.law_runners.specs.Merged.{Done, own_items, items_of, IsCarried}

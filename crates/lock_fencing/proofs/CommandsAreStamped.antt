@@ -5,7 +5,7 @@ use Rattle.address.specs.Ids.{ViewId}
 use Rattle.trace_props.specs.declared.event.Event.TheVariants.{Sent}
 use Rattle.law_processes.specs.Deployments.{nothing_yet, trace_of}
 use Rattle.law_processes.proofs.SendsWereAsked.{said-at, steps-said}
-use Rattle.tokens.specs.Tokens.{IsViewId}
+use Rattle.keyed_state.specs.Tokens.{IsViewId}
 use Rattle.lock_table.specs.Commands.{command_of}
 use Rattle.lock_table.specs.Meanings.{table_meaning}
 use Rattle.lock_table.specs.Stamps.{FirstSpells, SaidSpells}

@@ -3,9 +3,9 @@ use Rattle.std.proofs.Common.{◌≡◌, ℕ, Bool, true, false, cond, Option, S
 use Rattle.std.specs.Ordering.{nat_cmp, ordering_then, is_lt, is_le}
 use Rattle.std.proofs.lemmas.Bool.Decides.{nat_tests}
 use Rattle.std.proofs.lemmas.List.Sums.{fold-append}
-use Rattle.tokens.specs.declared.token.Token.{Token}
-use Rattle.tokens.specs.Tokens.{is_up_to, IsBelow}
-use Rattle.tokens.specs.TokenLaws.{up-refl, up-trans, below-up, not-below-itself}
+use Rattle.keyed_state.specs.declared.token.Token.{Token}
+use Rattle.keyed_state.specs.Tokens.{is_up_to, IsBelow}
+use Rattle.keyed_state.specs.TokenLaws.{up-refl, up-trans, below-up, not-below-itself}
 use Rattle.lock_fencing.specs.Fencing.{token_at}
 use Rattle.lock_fencing.specs.Guards.{serves, kept_after, kept_by, RefusesBelow, NeverBack, NoneBelow, NoneOlder}
 use Rattle.lock_fencing.proofs.TokensRiseInViews.{tokens-rise}

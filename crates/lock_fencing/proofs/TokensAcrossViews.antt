@@ -25,14 +25,14 @@ use Rattle.trace_props.proofs.InstallsOfRisingViews.{by_pushes, IsUpTo, IsUpTo-b
 use Rattle.trace_props.proofs.RuleOfEntry.{state_of-push, entry_state-push}
 use Rattle.law_copies.specs.Replicas as copies
 use Rattle.law_copies.proofs.StatesAreMade.{Grounds, state-made}
-use Rattle.tokens.specs.declared.token.Token.{Token}
+use Rattle.keyed_state.specs.declared.token.Token.{Token}
 use Rattle.lock_table.specs.declared.command.Command.{Command}
-use Rattle.tokens.specs.Tokens.{IsViewId, least_token}
+use Rattle.keyed_state.specs.Tokens.{IsViewId, least_token}
 use Rattle.lock_table.specs.Locks.{Table, view_of, carried_out}
 use Rattle.lock_table.specs.Commands.{command_of, after_command, table_apply}
 use Rattle.lock_table.specs.CommandLaws.{command_is_spelled, view-fits}
 use Rattle.lock_table.specs.Meanings.{table_meaning}
-use Rattle.keyed_entries.specs.Entries.{Rises}
+use Rattle.keyed_state.specs.Entries.{Rises}
 use Rattle.lock_table.proofs.GrantsRise.{token-in}
 use Rattle.lock_table.proofs.OneMessageGrants.{IsNew}
 use Rattle.law_processes.proofs.ElementsComeFrom.{comes-at, was-sent}

@@ -21,13 +21,13 @@ use Rattle.trace_props.proofs.DeliveredGrow.{is_delivery_to, is_delivery_to-at, 
 use Rattle.std.proofs.lemmas.List.Elements.{filter_map-append}
 use Rattle.law_copies.specs.Replicas as copies
 use Rattle.law_copies.proofs.StatesAreMade.{state-made, entry-later}
-use Rattle.keyed_entries.specs.Entries.{key_cmp}
-use Rattle.keyed_entries.specs.EntryLaws.{flipped}
-use Rattle.tokens.specs.declared.token.Token.{Token}
-use Rattle.tokens.specs.Tokens.{IsBelow, token_cmp}
+use Rattle.keyed_state.specs.Entries.{key_cmp}
+use Rattle.keyed_state.specs.EntryLaws.{flipped}
+use Rattle.keyed_state.specs.declared.token.Token.{Token}
+use Rattle.keyed_state.specs.Tokens.{IsBelow, token_cmp}
 use Rattle.lock_table.specs.Locks.{Lock, Table, IsTable, lock_of}
 use Rattle.lock_table.specs.Meanings.{table_meaning}
-use Rattle.tokens.specs.TokenLaws.{not-below-itself}
+use Rattle.keyed_state.specs.TokenLaws.{not-below-itself}
 use Rattle.lock_table.specs.Turns.{Message, after, after_all, Grants}
 use Rattle.lock_table.proofs.MessagesTurnLocks.{same-name}
 use Rattle.lock_table.proofs.GrantsRise.{later-above}

@@ -7,19 +7,19 @@ use Rattle.std.specs.declared.cmp.Ordering.TheVariants.{Less, Equal, Greater}
 use Rattle.std.proofs.lemmas.Bool.Decides.{nat_tests}
 use Rattle.std.proofs.lemmas.Map.Text.{is_eq-slice_cmp}
 use Rattle.std.proofs.lemmas.Slice.Eq.{bytes_eq-Decides}
-use Rattle.limits.specs.declared.TheConstants.{STATE}
+use Rattle.address.specs.declared.limits.TheConstants.{STATE}
 use Rattle.address.specs.Ids.{Address, ViewId, view_id_cmp, same_address}
 use Rattle.address.proofs.SameIds.{same_view_id-true}
 use Rattle.view.specs.Members.{stands_in}
 use Rattle.trace_props.proofs.EqualByTests.{is_eq-view_id}
 use Rattle.trace_props.proofs.InstallsOfRisingViews.{IsUpTo}
-use Rattle.keyed_entries.specs.declared.KeyedEntry.{KeyedEntry}
-use Rattle.keyed_entries.specs.Entries.{key_cmp, value_of, put, Rises}
-use Rattle.keyed_entries.proofs.LookUpsFind.{found-put, found-without}
-use Rattle.tokens.specs.declared.token.Token.{Token}
+use Rattle.keyed_state.specs.declared.entries.KeyedEntry.{KeyedEntry}
+use Rattle.keyed_state.specs.Entries.{key_cmp, value_of, put, Rises}
+use Rattle.keyed_state.proofs.LookUpsFind.{found-put, found-without}
+use Rattle.keyed_state.specs.declared.token.Token.{Token}
 use Rattle.lock_table.specs.declared.command.Command.{Command}
 use Rattle.lock_table.specs.declared.command.Command.TheVariants.{Acquire, Release, Roll}
-use Rattle.tokens.specs.Tokens.{IsViewId, next_token, least_token}
+use Rattle.keyed_state.specs.Tokens.{IsViewId, next_token, least_token}
 use Rattle.lock_table.specs.Locks.{Lock, Table, lock_of, queue, table_size, within, granted, joined_by, left_to, others, members, passed_on, with_lock, before, acquired, asked, gone_from, rolled, view_of, is_used_up, obeyed, carried_out}
 use Rattle.lock_table.proofs.MessagesTurnLocks.{came, left_at, found-rolled, same-name, acquired-beside, gone-beside}
 use Rattle.lock_table.proofs.GrantsRise.{token-in, some-lock, left-token}

@@ -12,8 +12,8 @@ use Rattle.trace_props.specs.Rules.{IsBelow as IsViewBelow}
 use Rattle.trace_props.specs.State.{state_of}
 use Rattle.trace_props.specs.Synchrony.{IsVirtuallySynchronous}
 use Rattle.lock_table.specs.declared.command.Command.{Command}
-use Rattle.tokens.specs.declared.token.Token.{Token}
-use Rattle.tokens.specs.Tokens.{IsBelow}
+use Rattle.keyed_state.specs.declared.token.Token.{Token}
+use Rattle.keyed_state.specs.Tokens.{IsBelow}
 use Rattle.lock_table.specs.Locks.{Lock, view_of}
 use Rattle.lock_table.specs.Commands.{command_of}
 use Rattle.lock_table.specs.Meanings.{table_meaning}

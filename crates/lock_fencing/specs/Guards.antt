@@ -1,8 +1,8 @@
 -- A guard keeps the greatest token that it served, and refuses each lower one.
 use Rattle.std.specs.Prelude.{◌≡◌, ◌↔◌, Bool, true, false, List, ◌∷◌, ◌++◌, fold, Option, Some, None, if◌then◌else◌}
 use Rattle.trace_props.specs.declared.event.Event.{Event}
-use Rattle.tokens.specs.declared.token.Token.{Token}
-use Rattle.tokens.specs.Tokens.{IsBelow, is_up_to}
+use Rattle.keyed_state.specs.declared.token.Token.{Token}
+use Rattle.keyed_state.specs.Tokens.{IsBelow, is_up_to}
 use Rattle.lock_fencing.specs.Fencing.{Grant, token_at, IsOfTables, SpellsViews, IsOlder}
 
 -- whether a guard serves a request with a token: the first one, and then each that is not below the greatest that it served

@@ -1,7 +1,7 @@
 -- What happens in a deployment of members that keep the table, where each of them stamps what it sends with its view (docs/RECEIVERS.md, "The table of locks").
 use Rattle.std.specs.Prelude.{◌≡◌, ◌⊎◌, ◌≤◌, ℕ, List, Some, Ok}
 use Rattle.address.specs.Ids.{ViewId, IsAddress}
-use Rattle.limits.specs.declared.TheConstants.{GREATEST_NUMBER}
+use Rattle.address.specs.declared.limits.TheConstants.{GREATEST_NUMBER}
 use Rattle.view.specs.Members.{View}
 use Rattle.trace_props.specs.declared.event.Event.{Event}
 use Rattle.law_processes.specs.Deployments.{Step, Deployment, EachStep, IsHistory, nothing_yet, trace_of}

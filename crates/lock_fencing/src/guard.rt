@@ -16,7 +16,7 @@ pub struct Guard {
 
 impl Model for Guard {
     ghost use Rattle.std.specs.Prelude.{Option};
-    ghost use Rattle.tokens.specs.declared.token.Token.{Token};
+    ghost use Rattle.keyed_state.specs.declared.token.Token.{Token};
 
     ghost Value = { Option Token };
 

@@ -11,16 +11,16 @@ use Rattle.trace_props.specs.declared.event.Install.{Install}
 use Rattle.trace_props.specs.State.{state_after}
 use Rattle.lock_table.specs.declared.command.Command.{Command}
 use Rattle.lock_table.specs.declared.command.Command.TheVariants.{Acquire, Release, Roll}
-use Rattle.tokens.specs.declared.token.Token.{Token}
+use Rattle.keyed_state.specs.declared.token.Token.{Token}
 use Rattle.lock_table.specs.Locks.{Table}
 use Rattle.lock_table.specs.Commands.{command_of}
 use Rattle.lock_table.specs.Meanings.{table_meaning}
-use Rattle.followed_events.specs.declared.waiting.Waiting.{Waiting}
-use Rattle.followed_events.specs.Waits.{ticket_of}
-use Rattle.followed_events.specs.Places.{next_place}
-use Rattle.followed_events.specs.Followed.{Followed, Follows, after_delivery, after_event, after_install, due}
-use Rattle.followed_events.proofs.OwnEvents.{nothing-stands, by-own, given, next-heard, answers-stay as stay}
-use Rattle.followed_events.proofs.EventsFollowed.{due-own, service-follows}
+use Rattle.application.specs.declared.waiting.Waiting.{Waiting}
+use Rattle.application.specs.Waits.{ticket_of}
+use Rattle.application.specs.Places.{next_place}
+use Rattle.application.specs.Followed.{Followed, Follows, after_delivery, after_event, after_install, due}
+use Rattle.application.proofs.OwnEvents.{nothing-stands, by-own, given, next-heard, answers-stay as stay}
+use Rattle.application.proofs.EventsFollowed.{due-own, service-follows}
 use Rattle.lock_service.specs.declared.standing.Standing.{Standing}
 use Rattle.lock_service.specs.declared.standing.Standing.TheVariants.{Holds, Waits, Apart}
 use Rattle.lock_service.specs.declared.answer.Answer.{Answer}

@@ -8,11 +8,11 @@ use Rattle.trace_props.specs.declared.event.Delivery.{Delivery}
 use Rattle.trace_props.specs.declared.event.Install.{Install}
 use Rattle.lock_table.specs.Locks.{Table}
 use Rattle.lock_table.specs.Commands.{command_of}
-use Rattle.followed_events.specs.Places.{next_place}
-use Rattle.followed_events.specs.Followed.{due}
-use Rattle.followed_events.proofs.FirstWaits.{is_taken, backs}
-use Rattle.followed_events.proofs.OwnEvents.{by-own, kept-all}
-use Rattle.followed_events.proofs.EventsFollowed.{due-once}
+use Rattle.application.specs.Places.{next_place}
+use Rattle.application.specs.Followed.{due}
+use Rattle.application.proofs.FirstWaits.{is_taken, backs}
+use Rattle.application.proofs.OwnEvents.{by-own, kept-all}
+use Rattle.application.proofs.EventsFollowed.{due-once}
 use Rattle.lock_service.specs.declared.standing.Standing.{Standing}
 use Rattle.lock_service.specs.declared.standing.Standing.TheVariants.{Holds, Waits, Apart}
 use Rattle.lock_service.specs.declared.answer.Answer.{Answer}

@@ -6,12 +6,12 @@ use Rattle.trace_props.specs.declared.event.Event.{Event}
 use Rattle.trace_props.specs.declared.event.Event.TheVariants.{Started, Sent, Delivered, Blocked, Installed, Left, Crashed}
 use Rattle.trace_props.specs.State.{state_after}
 use Rattle.lock_table.specs.declared.command.Command.TheVariants.{Acquire}
-use Rattle.tokens.specs.declared.token.Token.{Token}
+use Rattle.keyed_state.specs.declared.token.Token.{Token}
 use Rattle.lock_table.specs.Commands.{command_of}
 use Rattle.lock_table.specs.Meanings.{table_meaning}
-use Rattle.followed_events.specs.Waits.{ticket_of, waits_with}
-use Rattle.followed_events.specs.Services.{of_own, answers_given}
-use Rattle.followed_events.specs.Followed.{due}
+use Rattle.application.specs.Waits.{ticket_of, waits_with}
+use Rattle.application.specs.Services.{of_own, answers_given}
+use Rattle.application.specs.Followed.{due}
 use Rattle.lock_service.specs.declared.standing.Standing.TheVariants.{Holds}
 use Rattle.lock_service.specs.declared.answer.Answer.{Answer}
 use Rattle.lock_service.specs.declared.answer.Fate.TheVariants.{Granted}

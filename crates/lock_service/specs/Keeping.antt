@@ -10,10 +10,10 @@ use Rattle.lock_table.specs.declared.command.Command.TheVariants.{Acquire, Relea
 use Rattle.lock_table.specs.Locks.{Table}
 use Rattle.lock_table.specs.Commands.{command_of, table_apply}
 use Rattle.lock_table.specs.Meanings.{table_meaning}
-use Rattle.followed_events.specs.declared.waiting.Waiting.{Waiting}
-use Rattle.followed_events.specs.Places.{next_place}
-use Rattle.followed_events.specs.Services.{of_own}
-use Rattle.followed_events.specs.Followed.{Followed, nothing_followed, noting, due, state_in, after_delivery, after_install}
+use Rattle.application.specs.declared.waiting.Waiting.{Waiting}
+use Rattle.application.specs.Places.{next_place}
+use Rattle.application.specs.Services.{of_own}
+use Rattle.application.specs.Followed.{Followed, nothing_followed, noting, due, state_in, after_delivery, after_install}
 use Rattle.lock_service.specs.declared.standing.Standing.{Standing}
 use Rattle.lock_service.specs.declared.standing.Standing.TheVariants.{Holds, Waits, Apart}
 use Rattle.lock_service.specs.declared.answer.Answer.{Answer}

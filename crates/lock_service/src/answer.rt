@@ -6,10 +6,9 @@ ghost use Rattle.lock_service.specs.Keeping.{late_fate, still_waits, told, back}
 
 use crate::standing::is_waiting;
 use crate::{Standing, standing_of};
-use address::{Address, ViewId};
-use followed_events::Waiting;
+use address::{Address, Bytes, ViewId};
+use application::Waiting;
 use lock_table::{LockTable, Token};
-use owned_bytes::Bytes;
 use std::alloc::{AllocError, Global};
 
 /// What became of a request for a lock.

@@ -1,7 +1,7 @@
 ghost use Rattle.std.specs.Prelude.{◌≡◌, ℕ, ◌+◌, ◌++◌, List};
 ghost use Rattle.trace_props.specs.declared.event.Event.{Event};
 ghost use Rattle.lock_table.specs.Meanings.{table_meaning};
-ghost use Rattle.followed_events.specs.Followed.{Follows};
+ghost use Rattle.application.specs.Followed.{Follows};
 ghost use Rattle.lock_service.specs.Keeping.{Keeping};
 ghost use Rattle.lock_service.specs.Answers.{AllWait, GrantsAreTrue, answered_often, answers_to, heard_all, waits_often};
 

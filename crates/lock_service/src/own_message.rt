@@ -6,9 +6,8 @@ ghost use Rattle.lock_service.specs.Keeping.{early, early_by, first_verdict, rel
 
 use crate::standing::is_waiting;
 use crate::{Answer, Fate, Queued, Standing, standing_of};
-use address::{Address, ViewId};
+use address::{Address, Bytes, ViewId};
 use lock_table::{Command, LockTable};
-use owned_bytes::Bytes;
 use std::alloc::{AllocError, Global};
 
 // What an own message comes to, as far as the table right before it says so.

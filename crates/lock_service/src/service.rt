@@ -6,7 +6,7 @@ use crate::answer::{hand_back, keep_waiting, tell_all};
 use crate::own_message::{early_in, settle};
 use crate::{Answer, Queued};
 use address::{Address, ViewId};
-use followed_events::FollowedMember;
+use application::FollowedMember;
 use lock_table::LockTable;
 use std::alloc::{AllocError, Global};
 use std::marker::Model;

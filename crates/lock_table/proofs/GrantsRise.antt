@@ -3,12 +3,12 @@ use Rattle.std.proofs.Common.{◌≡◌, ◌≢◌, ℕ, Bool, true, false, cond
 use Rattle.std.specs.List.{filter, AllByRecursion}
 use Rattle.std.specs.Option.{option_map}
 use Rattle.address.specs.Ids.{Address, ViewId}
-use Rattle.tokens.specs.declared.token.Token.{Token}
+use Rattle.keyed_state.specs.declared.token.Token.{Token}
 use Rattle.lock_table.specs.declared.command.Command.{Command}
-use Rattle.tokens.specs.Tokens.{next_token, is_up_to, IsBelow}
+use Rattle.keyed_state.specs.Tokens.{next_token, is_up_to, IsBelow}
 use Rattle.lock_table.specs.Locks.{Lock, Table, IsTable, lock_of, left_to, passed_on}
 use Rattle.lock_table.specs.Commands.{command_of, after_command}
-use Rattle.tokens.specs.TokenLaws.{up-refl, up-trans, up-below, next-above}
+use Rattle.keyed_state.specs.TokenLaws.{up-refl, up-trans, up-below, next-above}
 use Rattle.lock_table.specs.StepLaws.{holds-of}
 use Rattle.lock_table.specs.Turns.{Message, IsMessage, after, after_all, token_of, leaves_by, Grants}
 use Rattle.lock_table.proofs.MessagesTurnLocks.{IsTurn, Unchanged, Aside, Free, Granted, Joined, Left, with_one, turn, carried-up}

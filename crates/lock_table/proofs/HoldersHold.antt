@@ -4,7 +4,7 @@ use Rattle.std.specs.List.{filter, AllByRecursion, list_any}
 use Rattle.std.specs.Option.{option_map, IsSomeAnd}
 use Rattle.std.proofs.lemmas.Bool.{or_parts}
 use Rattle.address.specs.Ids.{Address, ViewId}
-use Rattle.tokens.specs.declared.token.Token.{Token}
+use Rattle.keyed_state.specs.declared.token.Token.{Token}
 use Rattle.lock_table.specs.declared.command.Command.{Command}
 use Rattle.lock_table.specs.Locks.{Lock, Table, IsTable, lock_of, left_to}
 use Rattle.lock_table.specs.Commands.{command_of}

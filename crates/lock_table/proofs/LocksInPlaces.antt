@@ -4,13 +4,13 @@ use Rattle.std.specs.List.{slice_get, insert, remove}
 use Rattle.std.proofs.lemmas.Bool.{leb-true, le-leb, cond-true}
 use Rattle.std.proofs.lemmas.List.{length-append}
 use Rattle.std.proofs.lemmas.List.Sums.{sum_by-insert}
-use Rattle.limits.specs.declared.TheConstants.{STATE}
+use Rattle.address.specs.declared.limits.TheConstants.{STATE}
 use Rattle.address.specs.Ids.{Address, ViewId, same_address}
 use Rattle.view.specs.Members.{stands_in}
-use Rattle.keyed_entries.specs.declared.KeyedEntry.{KeyedEntry}
-use Rattle.keyed_entries.specs.Entries.{entry_of, value_of, put, IsHeldAt, IsFreeAt}
-use Rattle.tokens.specs.declared.token.Token.{Token}
-use Rattle.tokens.specs.Tokens.{next_token}
+use Rattle.keyed_state.specs.declared.entries.KeyedEntry.{KeyedEntry}
+use Rattle.keyed_state.specs.Entries.{entry_of, value_of, put, IsHeldAt, IsFreeAt}
+use Rattle.keyed_state.specs.declared.token.Token.{Token}
+use Rattle.keyed_state.specs.Tokens.{next_token}
 use Rattle.lock_table.specs.Locks.{Lock, Table, queue, granted, joined_by, left_to, others, with_lock, table_of, lock_size, table_size, acquired, asked, gone_from, released, within, IsLeft}
 use Rattle.lock_table.specs.StepLaws.{size-put}
 

@@ -4,9 +4,9 @@ use Rattle.std.specs.List.{filter}
 use Rattle.std.proofs.lemmas.List.{append-nil, take_all, drop_all}
 use Rattle.std.proofs.lemmas.List.Elements.{filter-append}
 use Rattle.address.specs.Ids.{Address, ViewId}
-use Rattle.keyed_entries.specs.declared.KeyedEntry.{KeyedEntry}
-use Rattle.keyed_entries.specs.Entries.{entry_of}
-use Rattle.tokens.specs.declared.token.Token.{Token}
+use Rattle.keyed_state.specs.declared.entries.KeyedEntry.{KeyedEntry}
+use Rattle.keyed_state.specs.Entries.{entry_of}
+use Rattle.keyed_state.specs.declared.token.Token.{Token}
 use Rattle.lock_table.specs.Locks.{Lock, Table, table_of, left_to, rolled, before, holder_in, IsLeft}
 use Rattle.lock_table.specs.StepLaws.{MayRoll, first-sound, roll-goes-on}
 

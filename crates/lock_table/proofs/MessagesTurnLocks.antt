@@ -9,20 +9,20 @@ use Rattle.std.proofs.lemmas.Bool.{and_right}
 use Rattle.std.proofs.lemmas.List.Elements.{filter_agree}
 use Rattle.std.proofs.lemmas.Map.Text.{is_eq-slice_cmp}
 use Rattle.std.proofs.lemmas.Slice.Eq.{bytes_eq-Decides}
-use Rattle.limits.specs.declared.TheConstants.{STATE}
+use Rattle.address.specs.declared.limits.TheConstants.{STATE}
 use Rattle.address.specs.Ids.{Address, ViewId, same_address}
 use Rattle.view.specs.Members.{View, stands_in}
-use Rattle.keyed_entries.specs.declared.KeyedEntry.{KeyedEntry}
-use Rattle.keyed_entries.specs.Entries.{key_cmp, value_of, put, Rises}
-use Rattle.keyed_entries.specs.EntryLaws.{IsBelowAll, below-all, equal-all}
-use Rattle.keyed_entries.proofs.LookUpsFind.{found-put, found-without}
-use Rattle.tokens.specs.declared.token.Token.{Token}
+use Rattle.keyed_state.specs.declared.entries.KeyedEntry.{KeyedEntry}
+use Rattle.keyed_state.specs.Entries.{key_cmp, value_of, put, Rises}
+use Rattle.keyed_state.specs.EntryLaws.{IsBelowAll, below-all, equal-all}
+use Rattle.keyed_state.proofs.LookUpsFind.{found-put, found-without}
+use Rattle.keyed_state.specs.declared.token.Token.{Token}
 use Rattle.lock_table.specs.declared.command.Command.{Command}
 use Rattle.lock_table.specs.declared.command.Command.TheVariants.{Acquire, Release, Roll}
-use Rattle.tokens.specs.Tokens.{next_token, is_up_to}
+use Rattle.keyed_state.specs.Tokens.{next_token, is_up_to}
 use Rattle.lock_table.specs.Locks.{Lock, Outcome, Table, queue, granted, joined_by, passed_on, left_to, others, members, with_lock, table_of, table_size, lock_of, acquired, asked, gone_from, released, before, rolled, within, view_of, is_used_up, obeyed, carried_out}
 use Rattle.lock_table.specs.Commands.{after_command}
-use Rattle.tokens.specs.TokenLaws.{up-refl, up-trans}
+use Rattle.keyed_state.specs.TokenLaws.{up-refl, up-trans}
 use Rattle.lock_table.specs.StepLaws.{next-up}
 use Rattle.lock_table.specs.Turns.{leaves_by, comes_by}
 

@@ -10,14 +10,14 @@ use Rattle.std.proofs.lemmas.List.{length_push}
 use Rattle.std.proofs.lemmas.List.Sums.{sum_by-cons}
 use Rattle.std.proofs.lemmas.Map.Text.{is_eq-slice_cmp}
 use Rattle.std.proofs.lemmas.Slice.Eq.{bytes_eq-Decides}
-use Rattle.limits.specs.declared.TheConstants.{STATE}
+use Rattle.address.specs.declared.limits.TheConstants.{STATE}
 use Rattle.address.specs.Ids.{Address, ViewId}
 use Rattle.view.specs.Members.{stands_in}
-use Rattle.keyed_entries.specs.declared.KeyedEntry.{KeyedEntry}
-use Rattle.keyed_entries.specs.Entries.{key_cmp, entry_of, value_of, put, Rises}
-use Rattle.keyed_entries.proofs.LookUpsFind.{found-put, found-without}
+use Rattle.keyed_state.specs.declared.entries.KeyedEntry.{KeyedEntry}
+use Rattle.keyed_state.specs.Entries.{key_cmp, entry_of, value_of, put, Rises}
+use Rattle.keyed_state.proofs.LookUpsFind.{found-put, found-without}
 use Rattle.lock_table.specs.declared.command.Command.TheVariants.{Acquire, Roll}
-use Rattle.tokens.specs.Tokens.{next_token}
+use Rattle.keyed_state.specs.Tokens.{next_token}
 use Rattle.lock_table.specs.Locks.{Lock, Table, queue, granted, joined_by, left_to, others, members, with_lock, table_size, lock_size, lock_of, asked, gone_from, released, rolled, within, is_used_up, obeyed}
 use Rattle.lock_table.specs.Commands.{command_of, after_command}
 use Rattle.lock_table.specs.StepLaws.{size-put}

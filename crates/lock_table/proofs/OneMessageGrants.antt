@@ -4,17 +4,17 @@ use Rattle.std.specs.List.{filter}
 use Rattle.std.specs.Ordering.{match_ordering, is_eq}
 use Rattle.std.specs.declared.cmp.Ordering.{Ordering}
 use Rattle.std.specs.declared.cmp.Ordering.TheVariants.{Less, Equal, Greater}
-use Rattle.limits.specs.declared.TheConstants.{STATE}
+use Rattle.address.specs.declared.limits.TheConstants.{STATE}
 use Rattle.address.specs.Ids.{Address, ViewId, same_address}
-use Rattle.keyed_entries.specs.declared.KeyedEntry.{KeyedEntry}
-use Rattle.keyed_entries.specs.Entries.{key_cmp, value_of, Rises}
-use Rattle.tokens.specs.declared.token.Token.{Token}
+use Rattle.keyed_state.specs.declared.entries.KeyedEntry.{KeyedEntry}
+use Rattle.keyed_state.specs.Entries.{key_cmp, value_of, Rises}
+use Rattle.keyed_state.specs.declared.token.Token.{Token}
 use Rattle.lock_table.specs.declared.command.Command.{Command}
 use Rattle.lock_table.specs.declared.command.Command.TheVariants.{Acquire, Release, Roll}
-use Rattle.tokens.specs.Tokens.{next_token, is_up_to, IsBelow}
+use Rattle.keyed_state.specs.Tokens.{next_token, is_up_to, IsBelow}
 use Rattle.lock_table.specs.Locks.{Lock, Table, IsTable, lock_of, table_size, left_to, passed_on, members, rolled, acquired, gone_from, view_of, is_used_up, obeyed, carried_out}
 use Rattle.lock_table.specs.Commands.{command_of, after_command}
-use Rattle.tokens.specs.TokenLaws.{up-below, next-above}
+use Rattle.keyed_state.specs.TokenLaws.{up-below, next-above}
 use Rattle.lock_table.specs.Turns.{Message, token_of, Grants}
 use Rattle.lock_table.proofs.MessagesTurnLocks.{came, came-up, left_at, found-rolled, same-name, acquired-beside, gone-beside}
 use Rattle.lock_table.proofs.GrantsRise.{token-in, some-lock, left-token}

@@ -8,11 +8,11 @@ use Rattle.std.specs.declared.cmp.Ordering.TheVariants.{Less, Equal, Greater}
 use Rattle.std.proofs.lemmas.Bool.{or_parts}
 use Rattle.address.specs.Ids.{Address, ViewId, same_address}
 use Rattle.view.specs.Members.{View, stands_in}
-use Rattle.keyed_entries.specs.declared.KeyedEntry.{KeyedEntry}
-use Rattle.keyed_entries.specs.Entries.{key_cmp, entry_of, value_of, put}
-use Rattle.tokens.specs.declared.token.Token.{Token}
+use Rattle.keyed_state.specs.declared.entries.KeyedEntry.{KeyedEntry}
+use Rattle.keyed_state.specs.Entries.{key_cmp, entry_of, value_of, put}
+use Rattle.keyed_state.specs.declared.token.Token.{Token}
 use Rattle.lock_table.specs.declared.command.Command.TheVariants.{Release, Roll}
-use Rattle.tokens.specs.Tokens.{next_token}
+use Rattle.keyed_state.specs.Tokens.{next_token}
 use Rattle.lock_table.specs.Locks.{Lock, Outcome, Table, queue, left_to, passed_on, others, members, gone_from, released, with_lock, table_of, before, rolled, is_used_up, obeyed, carried_out}
 use Rattle.lock_table.specs.Commands.{command_of, after_command}
 use Rattle.lock_table.specs.Turns.{Message, after, queue_of}

@@ -7,9 +7,9 @@ use Rattle.std.proofs.lemmas.List.{append-nil}
 use Rattle.address.specs.Ids.{Address, ViewId, same_address}
 use Rattle.address.proofs.SameIds.{same_address-true}
 use Rattle.view.specs.Members.{stands_in}
-use Rattle.tokens.specs.declared.token.Token.{Token}
+use Rattle.keyed_state.specs.declared.token.Token.{Token}
 use Rattle.lock_table.specs.declared.command.Command.{Command}
-use Rattle.tokens.specs.Tokens.{next_token}
+use Rattle.keyed_state.specs.Tokens.{next_token}
 use Rattle.lock_table.specs.Locks.{Lock, Table, IsTable, queue, lock_of, left_to, passed_on}
 use Rattle.lock_table.specs.Commands.{command_of}
 use Rattle.lock_table.specs.Turns.{Message, IsMessage, after, after_all, token_of, queue_of, leaves_by, leaves, comes_by, comes, stays, ahead, StandsOn, Grants}

@@ -8,22 +8,22 @@ use Rattle.address.specs.Ids.{ViewId, same_view_id}
 use Rattle.address.proofs.SameIds.{same_view_id-true}
 use Rattle.byteorder.specs.Endian.{big_bytes}
 use Rattle.big_endian.proofs.Bytes.{wide1}
-use Rattle.reading.specs.Reading.{number_at}
-use Rattle.reading.specs.PartLaws.{IsWithin, number_part}
+use Rattle.big_endian.specs.Reading.{number_at}
+use Rattle.big_endian.proofs.PartLaws.{IsWithin, number_part}
 use Rattle.script_reader.specs.declared.fault.Fault.{Fault}
 use Rattle.script_reader.specs.declared.fault.Fault.TheVariants.{BadNumber}
 use Rattle.script_reader.specs.Lines.{field_of, behind_field}
 use Rattle.script_reader.specs.Fields.{made, and_rest, spelled_at, field_at, end_at, last}
-use Rattle.keyed_entries.specs.declared.TheConstants.{KEY}
-use Rattle.keyed_entries.specs.Keys.{IsKey}
-use Rattle.keyed_entries.specs.Words.{key_of_text, key_field}
+use Rattle.keyed_state.specs.declared.entries.TheConstants.{KEY}
+use Rattle.keyed_state.specs.Keys.{IsKey}
+use Rattle.keyed_state.specs.Words.{key_of_text, key_field}
 use Rattle.lock_table.specs.declared.command.Command.{Command}
 use Rattle.lock_table.specs.declared.command.Command.TheVariants.{Acquire, Release, Roll}
-use Rattle.tokens.specs.Tokens.{IsViewId}
+use Rattle.keyed_state.specs.Tokens.{IsViewId}
 use Rattle.lock_table.specs.Locks.{view_of}
 use Rattle.lock_table.specs.Commands.{IsCommand, command_bytes, command_of}
-use Rattle.tokens.specs.Spelling.{view_id_bytes, view_id_at}
-use Rattle.tokens.specs.SpellingLaws.{view_id_part}
+use Rattle.keyed_state.specs.Spelling.{view_id_bytes, view_id_at}
+use Rattle.keyed_state.specs.SpellingLaws.{view_id_part}
 use Rattle.lock_table.specs.CommandLaws.{command_is_spelled, spelled_is_read}
 use Rattle.lock_table.specs.Stamps.{FirstSpells, SaidSpells, StampedSpells}
 

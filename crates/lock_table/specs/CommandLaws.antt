@@ -10,17 +10,17 @@ use Rattle.big_endian.specs.Spelled.{address_bytes}
 use Rattle.address.specs.Ids.{Address, ViewId, IsAddress, same_address}
 use Rattle.view.specs.Members.{View}
 use Rattle.view.specs.View.{view_refusal}
-use Rattle.limits.specs.declared.TheConstants.{PAYLOAD, MEMBERS, GREATEST_NUMBER}
-use Rattle.reading.specs.Reading.{number_at, address_at, list_at, ◌>>=◌}
-use Rattle.reading.specs.PartLaws.{bind_some, some_is, joined, IsPart, IsWithin, number_part, address_part, list_takes, list_again, to_end_takes, to_end_again}
-use Rattle.keyed_entries.specs.Keys.{key_bytes, key_at}
-use Rattle.keyed_entries.specs.KeyLaws.{key_takes, key_again}
+use Rattle.address.specs.declared.limits.TheConstants.{PAYLOAD, MEMBERS, GREATEST_NUMBER}
+use Rattle.big_endian.specs.Reading.{number_at, address_at, list_at, ◌>>=◌}
+use Rattle.big_endian.proofs.PartLaws.{bind_some, some_is, joined, IsPart, IsWithin, number_part, address_part, list_takes, list_again, to_end_takes, to_end_again}
+use Rattle.keyed_state.specs.Keys.{key_bytes, key_at}
+use Rattle.keyed_state.specs.KeyLaws.{key_takes, key_again}
 use Rattle.lock_table.specs.declared.command.Command.{Command}
 use Rattle.lock_table.specs.declared.command.Command.TheVariants.{Acquire, Release, Roll}
-use Rattle.tokens.specs.Tokens.{next_token, IsViewId}
+use Rattle.keyed_state.specs.Tokens.{next_token, IsViewId}
 use Rattle.lock_table.specs.Locks.{Table, IsTable, members, rolled, view_of, is_used_up, obeyed, carried_out}
-use Rattle.tokens.specs.Spelling.{view_id_bytes, view_id_at}
-use Rattle.tokens.specs.SpellingLaws.{view_id_part}
+use Rattle.keyed_state.specs.Spelling.{view_id_bytes, view_id_at}
+use Rattle.keyed_state.specs.SpellingLaws.{view_id_part}
 use Rattle.lock_table.specs.StepLaws.{acquired-is-table, released-is-table, rolled-is-table}
 use Rattle.lock_table.specs.Commands.{IsView, view_bytes, view_at, IsRequest, request_bytes, request_at, requested, command_bytes, roll_at, command_at, command_of, IsCommand, after_command, table_apply}
 

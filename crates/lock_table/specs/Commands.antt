@@ -6,15 +6,15 @@ use Rattle.byteorder.specs.Endian.{big_bytes}
 use Rattle.address.specs.Ids.{Address, ViewId, same_view_id, IsAddress}
 use Rattle.view.specs.Members.{View}
 use Rattle.view.specs.View.{view_refusal}
-use Rattle.limits.specs.declared.TheConstants.{MEMBERS}
+use Rattle.address.specs.declared.limits.TheConstants.{MEMBERS}
 use Rattle.big_endian.specs.Spelled.{address_bytes}
-use Rattle.reading.specs.Reading.{Read, ◌>>=◌, number_at, address_at, list_at, read_to_end}
-use Rattle.keyed_entries.specs.Keys.{IsKey, key_bytes, key_at}
+use Rattle.big_endian.specs.Reading.{Read, ◌>>=◌, number_at, address_at, list_at, read_to_end}
+use Rattle.keyed_state.specs.Keys.{IsKey, key_bytes, key_at}
 use Rattle.lock_table.specs.declared.command.Command.{Command}
 use Rattle.lock_table.specs.declared.command.Command.TheVariants.{Acquire, Release, Roll}
-use Rattle.tokens.specs.Tokens.{IsViewId}
+use Rattle.keyed_state.specs.Tokens.{IsViewId}
 use Rattle.lock_table.specs.Locks.{Table, carried_out}
-use Rattle.tokens.specs.Spelling.{view_id_bytes, view_id_at}
+use Rattle.keyed_state.specs.Spelling.{view_id_bytes, view_id_at}
 
 -- ---- a view: its id, the number of its members in a byte, and they
 

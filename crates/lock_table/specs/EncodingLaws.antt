@@ -6,10 +6,10 @@ use Rattle.byteorder.specs.Endian.{big_bytes}
 use Rattle.big_endian.proofs.Bytes.{wide4}
 use Rattle.big_endian.specs.Spelled.{address_bytes}
 use Rattle.address.specs.Ids.{Address, IsAddress}
-use Rattle.reading.specs.Reading.{number_at, address_at, list_at, ◌>>=◌}
-use Rattle.reading.specs.PartLaws.{bind_some, some_is, joined, IsPart, IsWithin, number_part, address_part, list_takes, list_again}
-use Rattle.tokens.specs.Spelling.{token_bytes, token_at}
-use Rattle.tokens.specs.SpellingLaws.{token_part, length-token}
+use Rattle.big_endian.specs.Reading.{number_at, address_at, list_at, ◌>>=◌}
+use Rattle.big_endian.proofs.PartLaws.{bind_some, some_is, joined, IsPart, IsWithin, number_part, address_part, list_takes, list_again}
+use Rattle.keyed_state.specs.Spelling.{token_bytes, token_at}
+use Rattle.keyed_state.specs.SpellingLaws.{token_part, length-token}
 use Rattle.keyed_state.specs.StateLaws.{FormLaws}
 use Rattle.lock_table.specs.Forms.{Lock, IsShort, waiters_bytes, waiters_at, lock_bytes, lock_at, lock_form}
 

@@ -4,10 +4,10 @@ use Rattle.std.specs.List.{AllByRecursion, flat_map}
 use Rattle.byteorder.specs.Endian.{big_bytes}
 use Rattle.address.specs.Ids.{Address, IsAddress}
 use Rattle.big_endian.specs.Spelled.{address_bytes}
-use Rattle.reading.specs.Reading.{Read, ◌>>=◌, number_at, address_at, list_at}
-use Rattle.tokens.specs.declared.token.Token.{Token}
-use Rattle.tokens.specs.Tokens.{IsToken}
-use Rattle.tokens.specs.Spelling.{token_bytes, token_at}
+use Rattle.big_endian.specs.Reading.{Read, ◌>>=◌, number_at, address_at, list_at}
+use Rattle.keyed_state.specs.declared.token.Token.{Token}
+use Rattle.keyed_state.specs.Tokens.{IsToken}
+use Rattle.keyed_state.specs.Spelling.{token_bytes, token_at}
 use Rattle.keyed_state.specs.States.{Form}
 
 -- a lock that is held: by whom, with which token, and who waits for it, in the order of their requests

@@ -5,12 +5,12 @@ use Rattle.std.specs.Option.{option_map}
 use Rattle.std.specs.Borrow.{Bor}
 use Rattle.address.specs.Ids.{Address, ViewId, same_address}
 use Rattle.view.specs.Members.{View, stands_in}
-use Rattle.limits.specs.declared.TheConstants.{STATE, GREATEST_NUMBER}
-use Rattle.keyed_entries.specs.declared.KeyedEntry.{KeyedEntry}
-use Rattle.keyed_entries.specs.Entries.{entry_of, value_of, put, without}
+use Rattle.address.specs.declared.limits.TheConstants.{STATE, GREATEST_NUMBER}
+use Rattle.keyed_state.specs.declared.entries.KeyedEntry.{KeyedEntry}
+use Rattle.keyed_state.specs.Entries.{entry_of, value_of, put, without}
 use Rattle.keyed_state.specs.States.{KeyedState, state_of, entry_size, state_size, IsState, IsEntry as IsEntryOf, AreUpTo as AreAllUpTo}
-use Rattle.tokens.specs.declared.token.Token.{Token}
-use Rattle.tokens.specs.Tokens.{next_token}
+use Rattle.keyed_state.specs.declared.token.Token.{Token}
+use Rattle.keyed_state.specs.Tokens.{next_token}
 pub use Rattle.lock_table.specs.Forms.{Lock, IsLock, queue, granted}
 use Rattle.lock_table.specs.Forms.{lock_form}
 use Rattle.lock_table.specs.declared.command.Command.{Command}

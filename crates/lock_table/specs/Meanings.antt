@@ -1,7 +1,7 @@
 -- What the table means as a receiver.
 use Rattle.std.specs.Prelude.{[]}
 use Rattle.state_transfer.specs.Meanings.{Meaning}
-use Rattle.tokens.specs.Tokens.{least_token}
+use Rattle.keyed_state.specs.Tokens.{least_token}
 use Rattle.lock_table.specs.Locks.{Table, IsTable}
 use Rattle.lock_table.specs.Encoding.{table_encode, table_decode}
 use Rattle.lock_table.specs.Commands.{table_apply}

@@ -3,9 +3,9 @@ use Rattle.std.specs.Prelude.{◌≡◌, ◌+◌, ◌≤◌, ℕ, List, Some, No
 use Rattle.std.specs.List.{filter}
 use Rattle.address.specs.Ids.{ViewId, same_address}
 use Rattle.view.specs.Members.{View}
-use Rattle.limits.specs.declared.TheConstants.{STATE}
+use Rattle.address.specs.declared.limits.TheConstants.{STATE}
 use Rattle.lock_table.specs.declared.command.Command.TheVariants.{Acquire, Release, Roll}
-use Rattle.tokens.specs.Tokens.{next_token}
+use Rattle.keyed_state.specs.Tokens.{next_token}
 use Rattle.lock_table.specs.Locks.{Lock, Table, IsTable, granted, is_used_up, joined_by, lock_of, members, others, table_size}
 use Rattle.lock_table.specs.Commands.{command_of}
 use Rattle.lock_table.specs.Turns.{Message, after, queue_of, Grants}

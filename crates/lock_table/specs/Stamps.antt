@@ -4,7 +4,7 @@ use Rattle.address.specs.Ids.{ViewId}
 use Rattle.view.specs.Members.{View}
 use Rattle.lock_table.specs.declared.command.Command.{Command}
 use Rattle.lock_table.specs.declared.command.Command.TheVariants.{Roll}
-use Rattle.tokens.specs.Tokens.{IsViewId}
+use Rattle.keyed_state.specs.Tokens.{IsViewId}
 use Rattle.lock_table.specs.Locks.{view_of}
 use Rattle.lock_table.specs.Commands.{IsCommand, command_bytes, command_of, in_view}
 use Rattle.lock_table.specs.Words.{lock_payload_within}

@@ -8,17 +8,17 @@ use Rattle.std.proofs.lemmas.Bool.{leb-true}
 use Rattle.std.proofs.lemmas.List.Sums.{sum_by-cons}
 use Rattle.address.specs.Ids.{Address, ViewId, IsAddress}
 use Rattle.view.specs.Members.{stands_in}
-use Rattle.limits.specs.declared.TheConstants.{STATE, GREATEST_NUMBER}
-use Rattle.keyed_entries.specs.declared.KeyedEntry.{KeyedEntry}
-use Rattle.keyed_entries.specs.Entries.{key_cmp, entry_of, value_of, put, Rises}
-use Rattle.keyed_entries.specs.EntryLaws.{IsBelowAll}
-use Rattle.keyed_entries.specs.Keys.{IsKey}
-use Rattle.tokens.specs.declared.token.Token.{Token}
-use Rattle.tokens.specs.Tokens.{next_token, is_up_to, IsViewId, IsToken}
+use Rattle.address.specs.declared.limits.TheConstants.{STATE, GREATEST_NUMBER}
+use Rattle.keyed_state.specs.declared.entries.KeyedEntry.{KeyedEntry}
+use Rattle.keyed_state.specs.Entries.{key_cmp, entry_of, value_of, put, Rises}
+use Rattle.keyed_state.specs.EntryLaws.{IsBelowAll}
+use Rattle.keyed_state.specs.Keys.{IsKey}
+use Rattle.keyed_state.specs.declared.token.Token.{Token}
+use Rattle.keyed_state.specs.Tokens.{next_token, is_up_to, IsViewId, IsToken}
 use Rattle.keyed_state.specs.StateLaws as states
 use Rattle.lock_table.specs.Forms.{lock_form}
 use Rattle.lock_table.specs.Locks.{Lock, Outcome, Table, queue, granted, joined_by, passed_on, left_to, table_of, lock_size, table_size, acquired, asked, with_lock, others, gone_from, released, before, rolled, within, IsLock, IsEntry, AreUpTo, IsTable}
-use Rattle.tokens.specs.TokenLaws.{up-trans, up-refl, below-is-up, next-above, next-next, next-is-token}
+use Rattle.keyed_state.specs.TokenLaws.{up-trans, up-refl, below-is-up, next-above, next-next, next-is-token}
 
 -- ---- lists
 

@@ -1,6 +1,6 @@
 -- The laws of the table as a receiver, and of its encoding.
 use Rattle.std.proofs.Common.{◌≡◌, ℕ, ◌≤◌, List, length, Some}
-use Rattle.limits.specs.declared.TheConstants.{STATE}
+use Rattle.address.specs.declared.limits.TheConstants.{STATE}
 use Rattle.keyed_state.specs.StateLaws as states
 use Rattle.lock_table.specs.Forms.{lock_form}
 use Rattle.lock_table.specs.Locks.{Table, IsTable}

@@ -1,9 +1,9 @@
 -- The line of a table of locks.
 use Rattle.std.specs.Prelude.{ℕ, ◌∷◌, [], ◌++◌, List, codes, flat_map}
 use Rattle.address.specs.Ids.{Address, text_of_address}
-use Rattle.keyed_entries.specs.declared.KeyedEntry.{KeyedEntry}
+use Rattle.keyed_state.specs.declared.entries.KeyedEntry.{KeyedEntry}
 use Rattle.vsync_text.specs.TraceText.{hex_of, dash, field, line_with, text_of_addresses}
-use Rattle.tokens.specs.TokenText.{text_of_token}
+use Rattle.keyed_state.specs.TokenText.{text_of_token}
 use Rattle.lock_table.specs.Locks.{Lock, Table}
 
 -- who holds a lock, with which token, and who waits, joined by commas: `:HOLDER:TOKEN:WAITERS`

@@ -4,10 +4,10 @@ use Rattle.std.specs.List.{filter}
 use Rattle.std.specs.Option.{option_map, option_map_or}
 use Rattle.std.specs.Ordering.{is_eq}
 use Rattle.address.specs.Ids.{Address, same_address, IsAddress}
-use Rattle.limits.specs.declared.TheConstants.{PAYLOAD}
+use Rattle.address.specs.declared.limits.TheConstants.{PAYLOAD}
 use Rattle.view.specs.Members.{stands_in}
-use Rattle.keyed_entries.specs.Entries.{key_cmp}
-use Rattle.tokens.specs.declared.token.Token.{Token}
+use Rattle.keyed_state.specs.Entries.{key_cmp}
+use Rattle.keyed_state.specs.declared.token.Token.{Token}
 use Rattle.lock_table.specs.declared.command.Command.{Command}
 use Rattle.lock_table.specs.declared.command.Command.TheVariants.{Acquire, Release, Roll}
 use Rattle.lock_table.specs.Locks.{Lock, Table, queue, lock_of}

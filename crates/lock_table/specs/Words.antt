@@ -8,7 +8,7 @@ use Rattle.script_reader.specs.declared.fault.Fault.TheVariants.{BadNumber}
 use Rattle.script_reader.specs.Lines.{field_of, behind_field}
 use Rattle.script_reader.specs.Fields.{Read, ◌>>=◌, made, spelled_at, last}
 use Rattle.trace_reader.specs.Spelling.{view_id_of_text, view_of_text}
-use Rattle.keyed_entries.specs.Words.{key_field}
+use Rattle.keyed_state.specs.Words.{key_field}
 use Rattle.lock_table.specs.declared.command.Command.{Command}
 use Rattle.lock_table.specs.declared.command.Command.TheVariants.{Acquire, Release, Roll}
 use Rattle.lock_table.specs.Commands.{command_bytes}

@@ -1,7 +1,7 @@
 //! What a payload asks of the table.
 
 ghost use Rattle.std.specs.Prelude.{◌≡◌, ◌++◌, IfOk, IfSome, OnOk, OnErr, Some};
-ghost use Rattle.reading.specs.Reading.{IsReadOrNone};
+ghost use Rattle.big_endian.specs.Reading.{IsReadOrNone};
 ghost use Rattle.lock_table.specs.Locks.{view_of};
 ghost use Rattle.lock_table.specs.Commands.{command_bytes, command_of, in_view};
 
@@ -9,8 +9,8 @@ use crate::LONGEST_COMMAND;
 use crate::decoding::command_from;
 use crate::encoding::put_command;
 use address::ViewId;
-use keyed_entries::KeyBytes;
-use reading::Reader;
+use big_endian::Reader;
+use keyed_state::KeyBytes;
 use std::alloc::{AllocError, Global};
 use view::View;
 

@@ -1,17 +1,16 @@
 //! Commands and locks from bytes, in one pass.
 
 ghost use Rattle.std.specs.Prelude.{◌≡◌, IfOk};
-ghost use Rattle.reading.specs.Reading.{IsReadOrNone, list_at, address_at};
+ghost use Rattle.big_endian.specs.Reading.{IsReadOrNone, list_at, address_at};
 ghost use Rattle.lock_table.specs.Forms.{waiters_at, lock_at};
 ghost use Rattle.lock_table.specs.Commands.{view_at, request_at, roll_at, command_at};
 
 use crate::{Command, Lock};
+use address::limits::MEMBERS;
 use address::{Address, ViewId};
-use keyed_entries::{KeyBytes, key_from};
-use limits::MEMBERS;
-use reading::Reader;
+use big_endian::Reader;
+use keyed_state::{KeyBytes, key_from, token_from, view_id_from};
 use std::alloc::{AllocError, Global};
-use tokens::{token_from, view_id_from};
 use view::{Addresses, View};
 
 fn some_addresses(

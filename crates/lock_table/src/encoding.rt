@@ -4,7 +4,7 @@ ghost use Rattle.std.specs.Prelude.{◌≡◌, ◌≤◌, ◌+◌, ◌*◌, ◌+
 ghost use Rattle.std.specs.List.{flat_map, AllByRecursion};
 ghost use Rattle.address.specs.Ids.{IsAddress};
 ghost use Rattle.big_endian.specs.Spelled.{address_bytes};
-ghost use Rattle.limits.specs.declared.TheConstants.{MEMBERS};
+ghost use Rattle.address.specs.declared.limits.TheConstants.{MEMBERS};
 ghost use Rattle.lock_table.specs.Forms.{waiters_bytes, lock_bytes};
 ghost use Rattle.lock_table.specs.Commands.{IsCommand, IsView, view_bytes, command_bytes};
 ghost use Rattle.lock_table.specs.declared.TheConstants.{LONGEST_COMMAND};
@@ -13,8 +13,7 @@ ghost use Rattle.lock_table.specs.declared.command.Command.TheVariants.{Roll};
 use crate::{Command, Lock};
 use address::Address;
 use big_endian::{put_address, put_u8, put_u32};
-use keyed_entries::put_key;
-use tokens::{put_token, put_view_id};
+use keyed_state::{put_key, put_token, put_view_id};
 use view::View;
 
 fn put_addresses(list: &[Address], out: &mut Vec<u8>)

@@ -2,19 +2,16 @@
 
 ghost use Rattle.std.specs.Prelude.{◌≡◌, false, length, IfOk, OnOk, OnErr};
 ghost use Rattle.address.specs.Ids.{IsAddress};
-ghost use Rattle.keyed_entries.specs.Entries.{entry_of};
+ghost use Rattle.keyed_state.specs.Entries.{entry_of};
 ghost use Rattle.lock_table.specs.Locks.{IsTable, within, acquired, released, rolled, members, is_used_up, table_of, granted, holder_in};
 ghost use Rattle.lock_table.specs.StepLaws.{MayRoll};
 ghost use Rattle.std.specs.List.{filter};
 
 use crate::{Lock, Token};
-use address::{Address, ViewId};
-use keyed_entries::{KeyBytes, KeyedEntry, Place, find};
-use keyed_state::size_of_all;
-use limits::STATE;
-use owned_bytes::Bytes;
+use address::limits::STATE;
+use address::{Address, Bytes, ViewId};
+use keyed_state::{KeyBytes, KeyedEntry, Place, find, known_view_id, size_of_all};
 use std::alloc::{AllocError, Global};
-use tokens::known_view_id;
 use view::View;
 
 // The last token that was granted, and the locks that are held, their names rising.

@@ -5,16 +5,16 @@ ghost use Rattle.address.specs.Ids.{Address, ViewId};
 ghost use Rattle.view.specs.Members.{View as ViewValue, stands_in};
 ghost use Rattle.lock_table.specs.declared.command.Command.{Command as CommandValue};
 ghost use Rattle.std.specs.declared.cmp.Ordering.TheVariants.{Less};
-ghost use Rattle.keyed_entries.specs.Entries.{key_cmp};
+ghost use Rattle.keyed_state.specs.Entries.{key_cmp};
 ghost use Rattle.lock_table.specs.declared.command.Command.TheVariants.{Release, Roll};
-ghost use Rattle.tokens.specs.Tokens.{IsBelow};
+ghost use Rattle.keyed_state.specs.Tokens.{IsBelow};
 ghost use Rattle.lock_table.specs.Locks.{Lock, Table, IsTable, lock_of, queue};
 ghost use Rattle.lock_table.specs.Encoding.{table_encode, table_decode};
 ghost use Rattle.lock_table.specs.Commands.{IsCommand, command_bytes, command_of};
 ghost use Rattle.lock_table.specs.Moves.{FreeIsGranted, HeldIsWaitedFor, ReleasedIsLeft, RolledIsLeft};
 ghost use Rattle.lock_table.specs.Stamps.{FirstSpells, SaidSpells, StampedSpells};
 ghost use Rattle.lock_table.specs.Turns.{Message, IsMessage, after, after_all, queue_of, Grants, leaves, stays, comes, StandsOn};
-ghost use Rattle.limits.specs.declared.TheConstants.{STATE};
+ghost use Rattle.address.specs.declared.limits.TheConstants.{STATE};
 
 /// The law of the encoding: a state is decoded from its encoding and from no other bytes, and only a table's states
 /// are. No encoding is longer than `STATE` bytes.

@@ -13,15 +13,15 @@ mod lock;
 mod table;
 mod words;
 
+use address::limits::MEMBERS;
 pub use command::Command;
+pub use keyed_state::Token;
 pub use law::{
     in_turn, moves, one_encoding, one_holder, one_spelling, release_by_another, roll_again,
     stamps_spell, tokens_rise,
 };
-use limits::MEMBERS;
 pub use lock::Lock;
 pub use table::LockTable;
-pub use tokens::Token;
 
 /// The most bytes that a command is spelled in: a roll's kind and number of members in one each, its view's id in 14, and each member in six.
 pub const LONGEST_COMMAND: usize = 1 + 14 + 1 + 6 * MEMBERS;

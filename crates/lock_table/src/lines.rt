@@ -3,14 +3,13 @@
 ghost use Rattle.std.specs.Prelude.{◌≡◌, ◌++◌, ◌∷◌, OnOk};
 ghost use Rattle.vsync_text.specs.TraceText.{GoesOnFrom, field};
 ghost use Rattle.lock_table.specs.Locks.{table_of};
-ghost use Rattle.tokens.specs.TokenText.{text_of_token};
+ghost use Rattle.keyed_state.specs.TokenText.{text_of_token};
 ghost use Rattle.lock_table.specs.TableText.{text_of_queue, text_of_lock, text_of_more, text_of_locks, table_line};
 
 use crate::{Lock, Token};
 use address::Address;
-use keyed_entries::KeyedEntry;
+use keyed_state::{KeyedEntry, put_token_text};
 use std::alloc::AllocError;
-use tokens::put_token_text;
 use vsync_text::{put, put_address, put_addresses, put_hex};
 
 // Appends who holds a lock, with which token, and who waits.

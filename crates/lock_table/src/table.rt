@@ -2,15 +2,14 @@ ghost use Rattle.std.specs.Prelude.{◌≡◌, ◌==◌, ◌≤◌, ◌++◌, tr
 ghost use Rattle.lock_table.specs.Locks.{is_used_up, carried_out, entry_lent, lock_lent, lock_of};
 ghost use Rattle.lock_table.specs.Encoding.{table_encode, table_decode};
 ghost use Rattle.lock_table.specs.Commands.{table_apply};
-ghost use Rattle.limits.specs.declared.TheConstants.{STATE};
+ghost use Rattle.address.specs.declared.limits.TheConstants.{STATE};
 
 use crate::held::Held;
 use crate::{Command, Lock, Token};
+use address::limits::GREATEST_NUMBER;
 use address::{Address, ViewId};
-use followed_events::Replica;
-use keyed_entries::{KeyedEntry, Place, find};
-use keyed_state::{contents_of, put_state, size_of_all};
-use limits::GREATEST_NUMBER;
+use application::Replica;
+use keyed_state::{KeyedEntry, Place, contents_of, find, put_state, size_of_all};
 use state_transfer::Receiver;
 use std::alloc::{AllocError, Global};
 use std::marker::Model;

@@ -4,13 +4,13 @@ ghost use Rattle.std.specs.Prelude.{◌≡◌, Ok, Err, MatchResult};
 ghost use Rattle.std.specs.Option.{option_copied};
 ghost use Rattle.script_reader.specs.Texts.{IsReadUnlessRefused};
 ghost use Rattle.script_reader.specs.Fields.{made, last};
-ghost use Rattle.keyed_entries.specs.Words.{key_field};
+ghost use Rattle.keyed_state.specs.Words.{key_field};
 ghost use Rattle.lock_table.specs.declared.command.Command.TheVariants.{Acquire, Release};
 ghost use Rattle.lock_table.specs.Words.{view_id_field, named, members_field, acquire_said, release_said, roll_said, command_said, command_said_in};
 
 use crate::Command;
 use address::ViewId;
-use keyed_entries::{KeyBytes, last_key};
+use keyed_state::{KeyBytes, last_key};
 use script_reader::{Fault, Unheard, first_field};
 use std::alloc::Global;
 use trace_reader::{view_id_in, view_in};

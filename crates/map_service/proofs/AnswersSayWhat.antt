@@ -11,12 +11,12 @@ use Rattle.trace_props.specs.declared.event.Install.{Install}
 use Rattle.replicated_map.specs.Entries.{MapState}
 use Rattle.replicated_map.specs.Meanings.{map_meaning}
 use Rattle.replicated_map.specs.Outcomes.{outcome_at}
-use Rattle.followed_events.specs.declared.waiting.Waiting.{Waiting}
-use Rattle.followed_events.specs.Waits.{ticket_of}
-use Rattle.followed_events.specs.Places.{next_place, place_after}
-use Rattle.followed_events.specs.Followed.{Followed, Follows, after_delivery, after_event, after_install, due}
-use Rattle.followed_events.proofs.OwnEvents.{nothing-stands, by-own, given, gives, answers-stay as stay}
-use Rattle.followed_events.proofs.EventsFollowed.{due-own, service-follows}
+use Rattle.application.specs.declared.waiting.Waiting.{Waiting}
+use Rattle.application.specs.Waits.{ticket_of}
+use Rattle.application.specs.Places.{next_place, place_after}
+use Rattle.application.specs.Followed.{Followed, Follows, after_delivery, after_event, after_install, due}
+use Rattle.application.proofs.OwnEvents.{nothing-stands, by-own, given, gives, answers-stay as stay}
+use Rattle.application.proofs.EventsFollowed.{due-own, service-follows}
 use Rattle.map_service.specs.declared.waiting.Answer.{Answer}
 use Rattle.map_service.specs.declared.waiting.Fate.{Fate}
 use Rattle.map_service.specs.declared.waiting.Fate.TheVariants as fate

@@ -4,10 +4,10 @@ use Rattle.std.proofs.lemmas.List.Sums.{sum_by-cons, sum_by-append}
 use Rattle.trace_props.specs.declared.event.Event.{Event}
 use Rattle.trace_props.specs.declared.event.Delivery.{Delivery}
 use Rattle.trace_props.specs.declared.event.Install.{Install}
-use Rattle.followed_events.specs.Followed.{due}
-use Rattle.followed_events.proofs.FirstWaits.{is_taken, backs}
-use Rattle.followed_events.proofs.OwnEvents.{by-own, kept-all}
-use Rattle.followed_events.proofs.EventsFollowed.{due-once}
+use Rattle.application.specs.Followed.{due}
+use Rattle.application.proofs.FirstWaits.{is_taken, backs}
+use Rattle.application.proofs.OwnEvents.{by-own, kept-all}
+use Rattle.application.proofs.EventsFollowed.{due-once}
 use Rattle.map_service.specs.declared.waiting.Answer.{Answer}
 use Rattle.map_service.specs.declared.waiting.Fate.{Fate}
 use Rattle.map_service.specs.Serving.{Serving, heard, delivered, installed, answer_of, answered, fate_of, back}

@@ -9,11 +9,11 @@ use Rattle.trace_props.specs.declared.event.Install.{Install}
 use Rattle.trace_props.specs.State.{state_after}
 use Rattle.replicated_map.specs.Meanings.{map_meaning}
 use Rattle.replicated_map.specs.Outcomes.{outcome_at}
-use Rattle.followed_events.specs.declared.waiting.Waiting.{Waiting}
-use Rattle.followed_events.specs.Waits.{ticket_of, waits_with}
-use Rattle.followed_events.specs.Places.{next_place, place_after}
-use Rattle.followed_events.specs.Services.{of_own, answers_given}
-use Rattle.followed_events.specs.Followed.{due}
+use Rattle.application.specs.declared.waiting.Waiting.{Waiting}
+use Rattle.application.specs.Waits.{ticket_of, waits_with}
+use Rattle.application.specs.Places.{next_place, place_after}
+use Rattle.application.specs.Services.{of_own, answers_given}
+use Rattle.application.specs.Followed.{due}
 use Rattle.map_service.specs.declared.waiting.Answer.{Answer}
 use Rattle.map_service.specs.declared.waiting.Fate.TheVariants as fate
 use Rattle.map_service.specs.Serving.{Serving, heard, answered, fate_of, back}

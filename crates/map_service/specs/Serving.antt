@@ -7,10 +7,10 @@ use Rattle.trace_props.specs.declared.event.Install.{Install}
 use Rattle.replicated_map.specs.Entries.{MapState}
 use Rattle.replicated_map.specs.Meanings.{map_meaning}
 use Rattle.replicated_map.specs.Outcomes.{outcome_at}
-use Rattle.followed_events.specs.declared.waiting.Waiting.{Waiting}
-use Rattle.followed_events.specs.Places.{next_place}
-use Rattle.followed_events.specs.Services.{of_own}
-use Rattle.followed_events.specs.Followed.{Followed, nothing_followed, noting, due, after_delivery, after_install}
+use Rattle.application.specs.declared.waiting.Waiting.{Waiting}
+use Rattle.application.specs.Places.{next_place}
+use Rattle.application.specs.Services.{of_own}
+use Rattle.application.specs.Followed.{Followed, nothing_followed, noting, due, after_delivery, after_install}
 use Rattle.map_service.specs.declared.waiting.Answer.{Answer}
 use Rattle.map_service.specs.declared.waiting.Fate.{Fate}
 use Rattle.map_service.specs.declared.waiting.Fate.TheVariants as fate

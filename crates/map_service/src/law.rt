@@ -5,10 +5,10 @@ ghost use Rattle.trace_props.specs.declared.event.Event.{Event};
 ghost use Rattle.trace_props.specs.declared.event.Event.TheVariants.{Delivered};
 ghost use Rattle.trace_props.specs.declared.event.Delivery.{Delivery};
 ghost use Rattle.replicated_map.specs.Meanings.{map_meaning};
-ghost use Rattle.followed_events.specs.Followed.{Follows};
+ghost use Rattle.application.specs.Followed.{Follows};
 ghost use Rattle.map_service.specs.declared.waiting.Answer.{Answer};
 ghost use Rattle.map_service.specs.Serving.{Serving, answer_of, fate_of};
-ghost use Rattle.followed_events.specs.Waits.{ticket_of};
+ghost use Rattle.application.specs.Waits.{ticket_of};
 ghost use Rattle.map_service.specs.Answers.{IsTrueAnswer, answered_often, answers_to, heard_all, waits_often};
 
 /// The law of the copy: after any events the service knows the view, the place and the state that they say (docs/EMBEDDING.md, "What became of a write").

@@ -4,7 +4,7 @@ ghost use Rattle.map_service.specs.Serving.{delivered, heard, installed, noted, 
 use crate::waiting::hand_back;
 use crate::{Answer, Fate};
 use address::{Address, ViewId};
-use followed_events::FollowedMember;
+use application::FollowedMember;
 use replicated_map::ReplicatedMap;
 use std::alloc::{AllocError, Global};
 use std::marker::Model;

@@ -4,7 +4,7 @@ ghost use Rattle.std.specs.Prelude.{◌≡◌, ◌+◌, ◌≤◌, ◌++◌, len
 ghost use Rattle.map_service.specs.Serving.{back};
 
 use address::ViewId;
-use followed_events::Waiting;
+use application::Waiting;
 use replicated_map::Outcome;
 
 /// What became of a message of one's own.

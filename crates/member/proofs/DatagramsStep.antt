@@ -3,7 +3,7 @@ use Rattle.std.proofs.Common.{◌≡◌, ℕ, ◌+◌, Bool, true, false, cond, 
 use Rattle.std.specs.Prelude.{MatchBool, MatchOption}
 use Rattle.std.specs.Option.{option_map, option_map_or, option_and_then}
 use Rattle.std.proofs.lemmas.Bool.{and_parts}
-use Rattle.limits.specs.declared.TheConstants.{WINDOW}
+use Rattle.address.specs.declared.limits.TheConstants.{WINDOW}
 use Rattle.address.specs.Ids.{Address, same_address}
 use Rattle.wire_values.specs.Values as wire
 use Rattle.wire_values.specs.declared.error.WireError.{WireError}
@@ -15,7 +15,7 @@ use Rattle.state_transfer.specs.Meanings.{Meaning}
 use Rattle.address.proofs.SameIds.{same_address-true}
 use Rattle.law_acts.specs.Histories.{Posted}
 use Rattle.law_acts.specs.Acts.{packet}
-use Rattle.law_choices.specs.Decisions.{is_readable}
+use Rattle.law_acts.specs.Decisions.{is_readable}
 use Rattle.state_chunks.specs.HeldChunks.{given_in}
 use Rattle.step_output.specs.declared.output.Output.{Output}
 use Rattle.step_output.specs.Outputs.{Puts}

@@ -8,9 +8,9 @@ use Rattle.std.proofs.lemmas.Bool.{and_from, not-true}
 use Rattle.std.proofs.lemmas.Bool.Decides.{nat_tests}
 use Rattle.std.proofs.lemmas.Option.{none-some, same_Some}
 use Rattle.address.specs.Ids.{Address, ViewId, same_address}
-use Rattle.limits.specs.declared.TheConstants.{GREATEST_NUMBER, WINDOW, STEP_EVENTS}
-use Rattle.limits.specs.declared.refusal.Refusal.{Refusal}
-use Rattle.limits.specs.declared.refusal.Refusal.TheVariants.{Memory, Closed, AlreadyConnected}
+use Rattle.address.specs.declared.limits.TheConstants.{GREATEST_NUMBER, WINDOW, STEP_EVENTS}
+use Rattle.address.specs.declared.refusal.Refusal.{Refusal}
+use Rattle.address.specs.declared.refusal.Refusal.TheVariants.{Memory, Closed, AlreadyConnected}
 use Rattle.state_transfer.specs.Meanings.{Meaning}
 use Rattle.trace_props.specs.Recorded.{IsShort, IsRecordable}
 use Rattle.trace_props.specs.declared.event.Event.{Event}
@@ -328,7 +328,7 @@ module _ {S : Type 0} (meaning : Meaning S) (p : Address) (group : List ℕ) whe
   connected-in : (view_state : Option ViewState) (b : Bool) → is_some view_state ≡ true → is_some view_state || b ≡ true
   connected-in view_state b e = ap (λ x. x || b) e
 
-  pub send-handled : (payload : Bor (List ℕ)) (old new : MemberState S) (start out : Output) → IsOrdered p old → send_refusal (core_at p old) payload.now ≡ None → Puts [] [] start
+  send-handled : (payload : Bor (List ℕ)) (old new : MemberState S) (start out : Output) → IsOrdered p old → send_refusal (core_at p old) payload.now ≡ None → Puts [] [] start
       → Sends meaning (who p group) payload.now (in_step old start) (in_step new out) → ((came : Option Posted) → Did meaning came (who p group) (in_step old start) (in_step new out))
       → SendsFirst p payload.now (in_step old start) out → (has_room old.view_state ≡ true → DeliversAtOnce p payload.now (in_step old start) out) → IsRunning (who p group) new → Holds (Some old) (Send payload) (Ok out) (Some new)
   send-handled payload old new start out ordered free nothing sends did first prompt runs =
@@ -337,6 +337,15 @@ module _ {S : Type 0} (meaning : Meaning S) (p : Address) (group : List ℕ) whe
       ok-handled old new (Send payload) start out nothing (did None) (ap (option_map Refused) free) refl
       (record { first = s.first; quiet = s.quiet }, stays-connected None old new start out on (did None))
       (at-once old.view_state payload.now start out nothing s.inside ordered prompt) sends (λ i. absurd (let n : false ≡ true = i in cc)) s.few runs
+
+  -- the same, of a payload that has these bytes
+  pub sent-handled : (payload : Bor (List ℕ)) (sent : List ℕ) (old new : MemberState S) (start out : Output) → sent ≡ payload.now → IsOrdered p old → send_refusal (core_at p old) payload.now ≡ None → Puts [] [] start
+      → Sends meaning (who p group) sent (in_step old start) (in_step new out) → ((came : Option Posted) → Did meaning came (who p group) (in_step old start) (in_step new out))
+      → SendsFirst p sent (in_step old start) out → (has_room old.view_state ≡ true → DeliversAtOnce p sent (in_step old start) out) → IsRunning (who p group) new → Holds (Some old) (Send payload) (Ok out) (Some new)
+  sent-handled payload sent old new start out same ordered free nothing sends did first prompt runs =
+      send-handled payload old new start out ordered free nothing (subst (λ (b : List ℕ). Sends meaning (who p group) b (in_step old start) (in_step new out)) same sends) did
+      (subst (λ (b : List ℕ). SendsFirst p b (in_step old start) out) same first)
+      (subst (λ (b : List ℕ). has_room old.view_state ≡ true → DeliversAtOnce p b (in_step old start) out) same prompt) runs
 
   -- it is sent, but for want of memory
   pub unsaid-handled : (payload : Bor (List ℕ)) (old : MemberState S) → send_refusal (core_at p old) payload.now ≡ None → Holds (Some old) (Send payload) (Err (Refused Memory)) None

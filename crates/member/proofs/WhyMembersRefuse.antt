@@ -1,10 +1,10 @@
 -- Why a member refuses: never with 6 while it runs; and a message of its own never for want of memory.
 use Rattle.std.proofs.Common.{◌≡◌, ℕ, Bool, true, false, cond, not, Option, Some, None, List, length, nat_le, nat_lt, is_some, refl, sym, ap, ◌∙◌}
 use Rattle.std.specs.Option.{option_map, option_map_or}
-use Rattle.limits.specs.declared.TheConstants.{PAYLOAD, OUTSTANDING, GREATEST_NUMBER}
-use Rattle.limits.specs.declared.refusal.Refusal.{Refusal}
-use Rattle.limits.specs.declared.refusal.Refusal.TheVariants.{NotConnected, Blocked, Busy, TooLong, AlreadyConnected, Closed, Exhausted}
-use Rattle.limits.specs.Refusals as refusals
+use Rattle.address.specs.declared.limits.TheConstants.{PAYLOAD, OUTSTANDING, GREATEST_NUMBER}
+use Rattle.address.specs.declared.refusal.Refusal.{Refusal}
+use Rattle.address.specs.declared.refusal.Refusal.TheVariants.{NotConnected, Blocked, Busy, TooLong, AlreadyConnected, Closed, Exhausted}
+use Rattle.address.specs.Refusals as refusals
 use Rattle.wire_values.specs.declared.error.WireError.{WireError}
 use Rattle.wire.specs.Packets.{wire_refusal}
 use Rattle.law_acts.specs.Cores.{Core, is_frozen}

@@ -1,8 +1,8 @@
 -- The numbers of a member's errors.
 use Rattle.std.specs.Prelude.{ℕ, Bool, false}
-use Rattle.limits.specs.declared.refusal.Refusal.{Refusal}
-use Rattle.limits.specs.declared.refusal.Refusal.TheVariants.{Closed, Memory}
-use Rattle.limits.specs.Refusals as refusals
+use Rattle.address.specs.declared.refusal.Refusal.{Refusal}
+use Rattle.address.specs.declared.refusal.Refusal.TheVariants.{Closed, Memory}
+use Rattle.address.specs.Refusals as refusals
 use Rattle.wire_values.specs.Reading.{error_number}
 use Rattle.membership.specs.declared.stop.Stop.{Stop}
 use Rattle.membership.specs.declared.stop.Stop.TheVariants as stop

@@ -3,8 +3,8 @@ use Rattle.std.specs.Prelude.{◌≡◌, ℕ, ◌+◌, ◌<◌, ◌≤◌, Bool,
 use Rattle.std.specs.Option.{IsSomeAnd}
 use Rattle.std.specs.List.{list_all, Contains, AllByRecursion}
 use Rattle.address.specs.Ids.{same_address}
-use Rattle.limits.specs.declared.TheConstants.{GREATEST_NUMBER, WINDOW, STEP_EVENTS}
-use Rattle.limits.specs.declared.refusal.Refusal.TheVariants.{Memory, Closed}
+use Rattle.address.specs.declared.limits.TheConstants.{GREATEST_NUMBER, WINDOW, STEP_EVENTS}
+use Rattle.address.specs.declared.refusal.Refusal.TheVariants.{Memory, Closed}
 use Rattle.wire.specs.Packets.{IsPacket}
 use Rattle.state_transfer.specs.Meanings.{Meaning}
 use Rattle.trace_props.specs.declared.event.Event.{Event}

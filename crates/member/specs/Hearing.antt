@@ -7,7 +7,7 @@ use Rattle.wire_values.specs.declared.packet.Body.{Body}
 use Rattle.wire_values.specs.declared.packet.Body.TheVariants as bodies
 use Rattle.state_transfer.specs.Meanings.{Meaning}
 use Rattle.law_acts.specs.Histories.{Posted}
-use Rattle.law_choices.specs.Decisions.{is_readable}
+use Rattle.law_acts.specs.Decisions.{is_readable}
 use Rattle.membership.specs.declared.member_state.MemberState.{MemberState}
 use Rattle.wire_values.specs.Kinds.{install_said}
 use Rattle.membership.specs.MemberStates.{would_hold}

@@ -1,17 +1,16 @@
 -- A member as contracts see it: who it is, what it decides by while it runs, and why it refuses an input.
-use Rattle.std.specs.Prelude.{ℕ, Bool, true, false, not, is_some, List, Result, Ok, Err, Option, None, Some, if◌then◌else◌}
+use Rattle.std.specs.Prelude.{ℕ, Bool, true, false, is_some, List, Result, Ok, Err, Option, None, Some, if◌then◌else◌}
 use Rattle.std.specs.Option.{option_map, option_map_or, option_and_then}
 use Rattle.address.specs.Ids.{Address}
-use Rattle.limits.specs.declared.refusal.Refusal.TheVariants.{AlreadyConnected, Closed}
+use Rattle.address.specs.declared.refusal.Refusal.TheVariants.{AlreadyConnected, Closed}
 use Rattle.wire_values.specs.declared.error.WireError.{WireError}
 use Rattle.wire_values.specs.declared.packet.Packet.{Packet}
-use Rattle.wire_values.specs.Values as wire
 use Rattle.wire.specs.Packets.{packet_of, wire_refusal}
 use Rattle.state_transfer.specs.Meanings.{Meaning}
 use Rattle.law_acts.specs.Histories.{Posted}
 use Rattle.law_acts.specs.Cores.{Core}
 use Rattle.law_acts.specs.Acts.{handed}
-pub use Rattle.law_choices.specs.Decisions.{promise_of, is_fitting, is_entry, is_readable}
+pub use Rattle.law_acts.specs.Decisions.{promise_of, is_fitting, is_entry, is_readable}
 use Rattle.step_output.specs.Names.{same_name}
 use Rattle.membership.specs.declared.member_state.MemberState.{MemberState}
 use Rattle.membership.specs.MemberStates.{core_of as core_at}

@@ -1,9 +1,9 @@
 ghost use Rattle.std.specs.Prelude.{◌≡◌};
 ghost use Rattle.member.specs.Errors.{number_of, stopped};
 ghost use Rattle.member.specs.declared.error.Error.TheVariants as error;
-ghost use Rattle.limits.specs.declared.refusal.Refusal.TheVariants as refusal;
+ghost use Rattle.address.specs.declared.refusal.Refusal.TheVariants as refusal;
 
-use limits::Refusal;
+use address::limits::Refusal;
 use membership::Stop;
 use std::alloc::AllocError;
 use wire_values::WireError;

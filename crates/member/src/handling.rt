@@ -1,7 +1,7 @@
 //! What a member does by each input. After its end it answers 6; want of memory ends it.
 
 ghost use Rattle.std.specs.Prelude.{◌≡◌, Some, None, Ok, IfOk};
-ghost use Rattle.limits.specs.declared.refusal.Refusal.TheVariants as refusal;
+ghost use Rattle.address.specs.declared.refusal.Refusal.TheVariants as refusal;
 ghost use Rattle.member.specs.declared.error.Error.TheVariants as error;
 ghost use Rattle.member.specs.Running.{IsAlive};
 ghost use Rattle.member.specs.declared.input.Input.TheVariants as input;
@@ -13,8 +13,8 @@ use crate::heard::about;
 use crate::hearing::{pass_time, take_packet};
 use crate::{Error, Heard, Taken};
 use address::Address;
-use limits::Refusal;
-use member_messages::{send, send_refusal};
+use address::limits::Refusal;
+use member_messages::{send, sendable};
 use member_views::{announce_view, ask, create, leave, on_suspect};
 use membership::MemberState;
 use state_transfer::Receiver;
@@ -89,11 +89,12 @@ pub(crate) fn send_message<R: Receiver>(
     let Some(running) = member_state else {
         return Err(Error::Refused(Refusal::Closed));
     };
-    if let Some(refusal) = send_refusal(running, payload) {
-        return Err(Error::Refused(refusal));
-    }
+    let payload = match sendable(running, payload) {
+        Ok(payload) => payload,
+        Err(refusal) => return Err(Error::Refused(refusal)),
+    };
     let mut out = Output::nothing(who.alloc);
-    match send(running, who, payload, &mut out) {
+    match send(running, who, &payload, &mut out) {
         Ok(()) => Ok(out),
         Err(_) => Err(end_without_memory(member_state)),
     }

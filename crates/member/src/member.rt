@@ -23,9 +23,9 @@ use crate::handling::{
 };
 use crate::watching::watched_in;
 use crate::{Error, Input, Taken};
+use address::limits::STEP_EVENTS;
 use address::{Address, ViewId};
 use flush::Flush;
-use limits::STEP_EVENTS;
 use membership::{MemberState, SentInstall};
 use state_transfer::Receiver;
 use std::alloc::{AllocError, Global};

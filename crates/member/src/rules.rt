@@ -1,7 +1,7 @@
 //! Which rule a packet has, by its kind.
 
 ghost use Rattle.std.specs.Prelude.{◌≡◌, ◌+◌, Some, Ok, Err, OnOk, true, false};
-ghost use Rattle.limits.specs.declared.TheConstants.{WINDOW};
+ghost use Rattle.address.specs.declared.limits.TheConstants.{WINDOW};
 ghost use Rattle.address.specs.Ids.{same_address};
 ghost use Rattle.law_acts.specs.Acts.{packet};
 ghost use Rattle.step_output.specs.Calm.{IsCalm};

@@ -6,7 +6,7 @@ use Rattle.std.proofs.lemmas.Bool.{and_parts, not-false}
 use Rattle.std.proofs.lemmas.Bool.Decides.{nat_tests}
 use Rattle.std.proofs.lemmas.Option.{none-some}
 use Rattle.address.specs.Ids.{Address}
-use Rattle.limits.specs.declared.TheConstants.{PAYLOAD, WINDOW, OUTSTANDING, GREATEST_NUMBER}
+use Rattle.address.specs.declared.limits.TheConstants.{PAYLOAD, WINDOW, OUTSTANDING, GREATEST_NUMBER}
 use Rattle.state_transfer.specs.Meanings.{Meaning}
 use Rattle.trace_props.specs.declared.event.Event.{Event}
 use Rattle.trace_props.specs.declared.event.Event.TheVariants.{Sent}
@@ -24,8 +24,8 @@ use Rattle.traffic.specs.Takes.{follower_pushing, SendsForward}
 use Rattle.traffic.specs.Turns.{SendsOrdering, DeliversOwnAtOnce, IsFewMore, own_entry}
 use Rattle.membership.specs.declared.member_state.MemberState.{MemberState}
 use Rattle.membership.specs.MemberStates.{core_of, view_in, view_core_in}
-use Rattle.limits.specs.declared.refusal.Refusal.{Refusal}
-use Rattle.limits.specs.declared.refusal.Refusal.TheVariants.{NotConnected, TooLong, Blocked, Busy, Exhausted}
+use Rattle.address.specs.declared.refusal.Refusal.{Refusal}
+use Rattle.address.specs.declared.refusal.Refusal.TheVariants.{NotConnected, TooLong, Blocked, Busy, Exhausted}
 use Rattle.member_messages.specs.Refusals.{send_refusal}
 use Rattle.member_messages.specs.Messages.{Sends, SendsNext, SendsFirst, DeliversNext, DeliversAtOnce, has_room}
 use Rattle.member_messages.proofs.MembersAreOpen.{going_on}

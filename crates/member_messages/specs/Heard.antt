@@ -1,7 +1,7 @@
 -- Which packets of messages a member hears.
 use Rattle.std.specs.Prelude.{ℕ, ◌-◌, Bool, true, false, not, ◌&&◌, Option, None, Some, nat_lt}
 use Rattle.std.specs.Option.{option_map_or}
-use Rattle.limits.specs.declared.TheConstants.{WINDOW}
+use Rattle.address.specs.declared.limits.TheConstants.{WINDOW}
 use Rattle.address.specs.Ids.{Address, ViewId, same_address, same_view_id}
 use Rattle.view.specs.Members.{View, stands_in}
 use Rattle.wire_values.specs.Values.{Progress}

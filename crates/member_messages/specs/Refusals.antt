@@ -1,9 +1,9 @@
 -- Why a message of the member's own is refused.
 use Rattle.std.specs.Prelude.{ℕ, not, is_some, List, length, Option, None, Some, nat_lt, nat_le, if◌then◌else◌}
-use Rattle.limits.specs.declared.TheConstants.{PAYLOAD, OUTSTANDING, GREATEST_NUMBER}
+use Rattle.address.specs.declared.limits.TheConstants.{PAYLOAD, OUTSTANDING, GREATEST_NUMBER}
 use Rattle.law_acts.specs.Cores.{Core, is_frozen}
-use Rattle.limits.specs.declared.refusal.Refusal.{Refusal}
-use Rattle.limits.specs.declared.refusal.Refusal.TheVariants.{NotConnected, TooLong, Blocked, Busy, Exhausted}
+use Rattle.address.specs.declared.refusal.Refusal.{Refusal}
+use Rattle.address.specs.declared.refusal.Refusal.TheVariants.{NotConnected, TooLong, Blocked, Busy, Exhausted}
 
 -- the first of these that applies
 abbrev pub send_refusal : {S : Type 0} → Core S → List ℕ → Option Refusal

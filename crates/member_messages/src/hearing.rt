@@ -3,8 +3,8 @@
 ghost use Rattle.std.specs.Prelude.{◌≡◌};
 ghost use Rattle.member_messages.specs.Heard.{hears, takes_forward, takes_ack, takes_order, takes_status, is_near};
 
+use address::limits::WINDOW;
 use address::{Address, ViewId};
-use limits::WINDOW;
 use membership::MemberState;
 use state_transfer::Receiver;
 use traffic::{Follower, ViewState};

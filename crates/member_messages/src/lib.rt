@@ -11,7 +11,7 @@ mod ticking;
 
 pub use hearing::{hears, takes_ack, takes_forward, takes_order, takes_status};
 pub use ordering::{on_ack, on_forward, on_nak};
-pub use refusal::send_refusal;
+pub use refusal::sendable;
 pub use sending::send;
 pub use taking::{on_order, on_status};
 pub use ticking::tick_in_view;

@@ -1,7 +1,7 @@
 //! The packets of messages that the coordinator of a view takes.
 
 ghost use Rattle.std.specs.Prelude.{◌≡◌, Some, false, Ok, OnOk};
-ghost use Rattle.limits.specs.declared.TheConstants.{WINDOW};
+ghost use Rattle.address.specs.declared.limits.TheConstants.{WINDOW};
 ghost use Rattle.address.specs.Ids.{same_address};
 ghost use Rattle.wire_values.specs.declared.packet.Body.TheVariants as bodies;
 ghost use Rattle.law_acts.specs.Acts.{packet};

@@ -1,16 +1,18 @@
 //! Why a message of the member's own is refused.
 
-ghost use Rattle.std.specs.Prelude.{◌≡◌};
+ghost use Rattle.std.specs.Prelude.{◌≡◌, IfOk};
+ghost use Rattle.std.specs.Result.{result_err};
 ghost use Rattle.address.specs.Ids.{Address};
 ghost use Rattle.membership.specs.MemberStates.{core_of};
 ghost use Rattle.traffic.specs.ViewStates.{view_core_of};
 ghost use Rattle.member_messages.specs.Refusals.{send_refusal};
 
-use limits::{PAYLOAD, Refusal};
+use address::limits::Refusal;
 use membership::MemberState;
 use sequencer::Forwards;
 use state_transfer::Receiver;
 use traffic::ViewState;
+use wire_values::Payload;
 
 // Its own messages in its view.
 fn forwards(view_state: &ViewState) -> &Forwards
@@ -23,19 +25,26 @@ fn forwards(view_state: &ViewState) -> &Forwards
     }
 }
 
-/// Why a payload is not sent, if it is not: the first that applies of having no view, a payload that is too long, being blocked, `OUTSTANDING` messages that are
-/// outstanding, and numbers that are used up.
-pub fn send_refusal<R: Receiver>(member_state: &MemberState<R>, payload: &[u8]) -> Option<Refusal>
-    ensures { (me : Address) → result ≡ send_refusal (core_of me member_state.now) payload.now }
+/// A payload that may be sent, of bytes; or why it is not, the first that applies of having no view, a payload that is too long, being blocked, `OUTSTANDING` messages
+/// that are outstanding, and numbers that are used up. Its length is tested here, and nowhere else.
+pub fn sendable<'a, R: Receiver>(
+    member_state: &MemberState<R>,
+    payload: &'a [u8],
+) -> Result<Payload<'a>, Refusal>
+    ensures payload { IfOk result (λ sent. sent ≡ payload.now) }
+    ensures refused { (me : Address) → result_err result ≡ send_refusal (core_of me member_state.now) payload.now }
 {
     let Some(view_state) = &member_state.view_state else {
-        return Some(Refusal::NotConnected);
+        return Err(Refusal::NotConnected);
     };
-    if payload.len() > PAYLOAD {
-        return Some(Refusal::TooLong);
-    }
+    let Some(payload) = Payload::new(payload) else {
+        return Err(Refusal::TooLong);
+    };
     if !member_state.promise.is_installed() {
-        return Some(Refusal::Blocked);
+        return Err(Refusal::Blocked);
     }
-    forwards(view_state).refusal()
+    match forwards(view_state).refusal() {
+        Some(refusal) => Err(refusal),
+        None => Ok(payload),
+    }
 }

@@ -22,7 +22,7 @@ use wire_values::Payload;
 pub fn send<R: Receiver>(
     member_state: &mut MemberState<R>,
     who: &Identity,
-    payload: &[u8],
+    payload: &Payload<'_>,
     out: &mut Output,
 ) -> Result<(), AllocError>
     requires member_state { IsMemberState (who_of who.now) member_state.old }
@@ -35,17 +35,14 @@ pub fn send<R: Receiver>(
     ensures calm { OnOk result (SendsFirst who.now.address payload.now (in_step member_state.old out.old) out.new) }
     ensures prompt { OnOk result (has_room member_state.old.view_state ≡ true → DeliversAtOnce who.now.address payload.now (in_step member_state.old out.old) out.new) }
 {
-    let Some(payload) = Payload::new(payload) else {
-        unreachable!();
-    };
     match &mut member_state.view_state {
         None => Ok(()),
         Some(ViewState::Coordinator(coordinator)) => {
-            coordinator.send(who, &payload, &mut member_state.receiver, out)?;
+            coordinator.send(who, payload, &mut member_state.receiver, out)?;
             Ok(())
         }
         Some(ViewState::Follower(follower)) => {
-            follower.send(who, &payload, out)?;
+            follower.send(who, payload, out)?;
             Ok(())
         }
     }

@@ -11,7 +11,7 @@ use Rattle.view_install.specs.declared.promise.OfferAnswer.{OfferAnswer}
 use Rattle.view_install.specs.declared.promise.OfferAnswer.TheVariants.{Accept, Behind, Ignore}
 use Rattle.view_install.specs.Promises.{offered}
 use Rattle.law_acts.specs.Acts.{proposed}
-use Rattle.law_choices.specs.Decisions.{due_proposal}
+use Rattle.law_acts.specs.Decisions.{due_proposal}
 use Rattle.step_output.specs.declared.output.Output.{Output}
 use Rattle.traffic.specs.declared.view_state.ViewState.{ViewState}
 use Rattle.traffic.specs.ViewStates.{fresh_in}

@@ -7,7 +7,7 @@ use Rattle.std.proofs.lemmas.Bool.{and_parts}
 use Rattle.std.proofs.lemmas.List.{append-nil, length-append}
 use Rattle.address.specs.Ids.{Address, ViewId, same_address}
 use Rattle.view.specs.Members.{View}
-use Rattle.limits.specs.declared.TheConstants.{WINDOW}
+use Rattle.address.specs.declared.limits.TheConstants.{WINDOW}
 use Rattle.wire_values.specs.Values.{Entry, Report}
 use Rattle.wire_values.specs.Values as wire
 use Rattle.state_transfer.specs.Meanings.{Meaning}
@@ -20,7 +20,7 @@ use Rattle.view_install.specs.Promises.{offered}
 use Rattle.law_acts.specs.Histories.{Posted}
 use Rattle.law_acts.specs.Cores.{is_open}
 use Rattle.law_acts.specs.Acts.{delivery}
-use Rattle.law_choices.specs.Decisions.{due_proposal, cuts_of}
+use Rattle.law_acts.specs.Decisions.{due_proposal, cuts_of}
 use Rattle.state_chunks.specs.HeldChunks.{given_in}
 use Rattle.step_output.specs.declared.output.Output.{Output}
 use Rattle.step_output.specs.Outputs.{Grows}

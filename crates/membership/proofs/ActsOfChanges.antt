@@ -6,7 +6,7 @@ use Rattle.std.specs.Option.{option_and_then, option_eq, option_map, option_map_
 use Rattle.std.proofs.lemmas.Bool.{and_parts, cond-false}
 use Rattle.std.proofs.lemmas.List.{append-nil, map-append}
 use Rattle.std.proofs.lemmas.Option.{none-some, same_Some}
-use Rattle.limits.specs.declared.TheConstants.{CHUNK}
+use Rattle.address.specs.declared.limits.TheConstants.{CHUNK}
 use Rattle.address.specs.Ids.{Address, ViewId, same_address, same_view_id}
 use Rattle.view.specs.Members.{View}
 use Rattle.state_transfer.specs.Meanings.{Meaning}
@@ -30,8 +30,8 @@ use Rattle.law_acts.specs.Acts.{Puts, packet, proposed, promised, others_of, ins
 use Rattle.law_acts.specs.Given.{IsGiven, chunk_at, chunks_of}
 use Rattle.law_acts.specs.Chains.{Acted}
 use Rattle.law_acts.proofs.LawsOfActs.{one-acted, nothing-acted, then-acted}
-use Rattle.law_choices.specs.Decisions.{promise_of, cuts_of, form_of, kept_of, is_entry, is_fitting, is_readable, due_proposal}
-use Rattle.law_choices.proofs.ActsAreAllowed.{promises-acted, proposes-acted, records-acted, gathers-acted, finishes-acted, enters-acted}
+use Rattle.law_acts.specs.Decisions.{promise_of, cuts_of, form_of, kept_of, is_entry, is_fitting, is_readable, due_proposal}
+use Rattle.law_acts.proofs.ActsAreAllowed.{promises-acted, proposes-acted, records-acted, gathers-acted, finishes-acted, enters-acted}
 use Rattle.step_output.specs.declared.output.Output.{Output}
 use Rattle.step_output.specs.Outputs.{packet_in, spelled}
 use Rattle.step_output.proofs.GrowthAdds.{all-then, grows-nothing}

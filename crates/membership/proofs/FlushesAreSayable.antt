@@ -7,7 +7,7 @@ use Rattle.std.proofs.lemmas.Bool.{and_parts, or_cases, eqb-true, or_right}
 use Rattle.std.proofs.lemmas.Bool.Decides.{nat_tests}
 use Rattle.std.proofs.lemmas.Option.{none-some, same_Some}
 use Rattle.address.specs.Ids.{Address, ViewId, same_address}
-use Rattle.limits.specs.declared.TheConstants.{GREATEST_NUMBER, MEMBERS, WINDOW}
+use Rattle.address.specs.declared.limits.TheConstants.{GREATEST_NUMBER, MEMBERS, WINDOW}
 use Rattle.view.specs.Members.{stands_in, is_distinct}
 use Rattle.view.specs.View.{view_refusal, begins_with}
 use Rattle.view.specs.declared.ViewError.TheVariants.{Empty, TooMany, Repeated, NotFirst}
@@ -21,7 +21,7 @@ use Rattle.flush.proofs.Groups.{groups-are-reported}
 use Rattle.flush.proofs.CutItems.{cut-is}
 use Rattle.address.proofs.SameIds.{same_address-true, same_address-refl, same_view_id-refl}
 use Rattle.law_acts.specs.Acts.{others_of, base_for, items_for}
-use Rattle.law_choices.specs.Decisions.{cuts_of}
+use Rattle.law_acts.specs.Decisions.{cuts_of}
 use Rattle.membership.specs.MemberStates.{is_complete}
 use Rattle.membership.specs.Installs.{IsSayable}
 use Rattle.view.proofs.MembersListed.{all-by}

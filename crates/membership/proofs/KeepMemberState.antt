@@ -22,8 +22,8 @@ use Rattle.wire_values.specs.Lists.{IsChunk}
 use Rattle.law_acts.specs.Histories.{Posted}
 use Rattle.law_acts.specs.Acts.{others_of, proposed, lone_view, chunk_packets}
 use Rattle.law_acts.specs.Cores.{id_of}
-use Rattle.law_choices.specs.Decisions.{is_fitting, is_entry}
-use Rattle.law_choices.proofs.OffersAccepted.{accepted-parts}
+use Rattle.law_acts.specs.Decisions.{is_fitting, is_entry}
+use Rattle.law_acts.proofs.OffersAccepted.{accepted-parts}
 use Rattle.step_output.specs.declared.output.Output.{Output}
 use Rattle.step_output.specs.Outputs.{packet_in}
 use Rattle.traffic.specs.declared.view_state.ViewState.{ViewState}

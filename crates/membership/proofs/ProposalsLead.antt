@@ -13,8 +13,8 @@ use Rattle.view_install.specs.Promises.{PromiseModel, offered, is_accept, answer
 use Rattle.view_install.specs.declared.promise.OfferAnswer.TheVariants.{Accept, Ignore}
 use Rattle.trace_props.specs.Rules.{IsBelow}
 use Rattle.law_acts.specs.Acts.{IsAbovePromise}
-use Rattle.law_choices.specs.Decisions.{proposal_after, due_proposal}
-use Rattle.law_choices.proofs.ProposalsAreViews.{next-means, proposal-is-view, due-means}
+use Rattle.law_acts.specs.Decisions.{proposal_after, due_proposal}
+use Rattle.law_acts.proofs.ProposalsAreViews.{next-means, proposal-is-view, due-means}
 use Rattle.membership.specs.declared.member_state.MemberState.{MemberState}
 use Rattle.membership.specs.MemberStates.{core_of, view_in, leads_in, anew_proposal, IsMemberState}
 use Rattle.view.proofs.MembersListed.{coordinator-in}

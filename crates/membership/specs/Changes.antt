@@ -13,7 +13,7 @@ use Rattle.view_install.specs.declared.promise.OfferAnswer.{OfferAnswer}
 use Rattle.view_install.specs.declared.promise.OfferAnswer.TheVariants.{Accept, Behind, Ignore}
 use Rattle.view_install.specs.Promises.{offered, promising, after_install}
 use Rattle.law_acts.specs.Acts.{packet, others_of, proposed}
-use Rattle.law_choices.specs.Decisions.{due_proposal, is_entry, is_readable, kept_of}
+use Rattle.law_acts.specs.Decisions.{due_proposal, is_entry, is_readable, kept_of}
 use Rattle.step_output.specs.declared.output.Output.{Output}
 use Rattle.step_output.specs.Outputs.{Grows, packet_in, spelled}
 use Rattle.traffic.specs.declared.view_state.ViewState.{ViewState}

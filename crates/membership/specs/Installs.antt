@@ -17,7 +17,7 @@ use Rattle.law_acts.specs.Histories.{Posted}
 use Rattle.law_acts.specs.Cores.{applied, id_of}
 use Rattle.law_acts.specs.Words.{message_for}
 use Rattle.law_acts.specs.Acts.{others_of, delivery, deliveries, undelivered, proposed, base_for, items_for, instructing_one}
-use Rattle.law_choices.specs.Decisions.{cuts_of, form_of}
+use Rattle.law_acts.specs.Decisions.{cuts_of, form_of}
 use Rattle.wire_values.specs.declared.values.state.GivenState.TheVariants as forms
 use Rattle.membership.specs.declared.sent_install.SentInstall.{SentInstall}
 use Rattle.step_output.specs.Steps.{Who}

@@ -4,7 +4,7 @@ ghost use Rattle.std.specs.Prelude.{◌≡◌, ◌∷◌, [], true, false, Err, 
 ghost use Rattle.std.specs.Option.{option_and_then};
 ghost use Rattle.law_acts.specs.Acts.{deliveries};
 ghost use Rattle.law_acts.specs.Cores.{applied, id_of};
-ghost use Rattle.law_choices.specs.Decisions.{is_readable, gives_some, is_fitting};
+ghost use Rattle.law_acts.specs.Decisions.{is_readable, gives_some, is_fitting};
 ghost use Rattle.state_chunks.specs.HeldChunks.{given_in};
 ghost use Rattle.sequencer.specs.Forwards.{AreShort};
 ghost use Rattle.traffic.specs.ViewStates.{view_of};
@@ -18,8 +18,7 @@ ghost use Rattle.membership.specs.InSteps.{in_step};
 
 use crate::finishing::{behind, deliver_all, own_of};
 use crate::{MemberState, Stop};
-use address::ViewId;
-use owned_bytes::Bytes;
+use address::{Bytes, ViewId};
 use state_transfer::Receiver;
 use std::alloc::{AllocError, Global};
 use step_output::{Identity, Output};

@@ -2,7 +2,7 @@
 
 ghost use Rattle.std.specs.Prelude.{◌≡◌, ◌≤◌, ◌++◌, drop, [], ◌∷◌, OnOk, IfOk, IfSome, Some, None, length, map, unwrap_or};
 ghost use Rattle.std.specs.List.{flat_map, AllByRecursion};
-ghost use Rattle.limits.specs.declared.TheConstants.{STATE};
+ghost use Rattle.address.specs.declared.limits.TheConstants.{STATE};
 ghost use Rattle.view.specs.View.{view_refusal};
 ghost use Rattle.wire_values.specs.Fields.{entry_bytes, IsEntry};
 ghost use Rattle.flush.specs.Flushes.{together_of, previous_of};
@@ -10,7 +10,7 @@ ghost use Rattle.wire_values.specs.Chunks.{IsTotal};
 ghost use Rattle.wire_values.specs.declared.packet.Body.TheVariants as bodies;
 ghost use Rattle.law_acts.specs.Acts.{others_of, base_for, items_for, delivery, packet, chunk_packets};
 ghost use Rattle.law_acts.specs.Cores.{applied};
-ghost use Rattle.law_choices.specs.Decisions.{cuts_of, kept_of};
+ghost use Rattle.law_acts.specs.Decisions.{cuts_of, kept_of};
 ghost use Rattle.traffic.specs.ViewStates.{view_of};
 ghost use Rattle.step_output.specs.Outputs.{Grows};
 ghost use Rattle.membership.specs.Installs.{SpellsCut, IsSayable, instruction_to, instructing, delivered_by, own_of, going, finished_state, finished_given, finish_packets, finish_sent, finish_events};
@@ -21,9 +21,8 @@ use crate::SentInstall;
 use crate::beginning::others_of;
 use crate::giving::{form_of, given_state, is_chunked, kept_of, put_given};
 use crate::sent_install::copied;
-use address::{Address, ViewId};
+use address::{Address, Bytes, ViewId};
 use flush::Flush;
-use owned_bytes::Bytes;
 use state_transfer::Receiver;
 use std::alloc::{AllocError, Global};
 use step_output::{Identity, Output};

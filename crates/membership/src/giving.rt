@@ -2,20 +2,19 @@
 
 ghost use Rattle.std.specs.Prelude.{◌≡◌, ◌≤◌, ◌<◌, ◌+◌, [], OnOk, IfOk, IfSome, Some, length, map, unwrap_or};
 ghost use Rattle.std.specs.List.{range_with_len};
-ghost use Rattle.limits.specs.declared.TheConstants.{STATE};
+ghost use Rattle.address.specs.declared.limits.TheConstants.{STATE};
 ghost use Rattle.wire_values.specs.Chunks.{IsTotal};
 ghost use Rattle.wire_values.specs.declared.packet.Body.TheVariants as bodies;
 ghost use Rattle.law_acts.specs.Acts.{packet, chunk_packets};
 ghost use Rattle.law_acts.specs.Given.{chunk_at, chunks_of};
-ghost use Rattle.law_choices.specs.Decisions.{form_of, kept_of};
+ghost use Rattle.law_acts.specs.Decisions.{form_of, kept_of};
 ghost use Rattle.state_chunks.specs.HeldChunks.{chunk_count};
 ghost use Rattle.step_output.specs.Outputs.{Grows};
 ghost use Rattle.membership.specs.MemberStates.{is_chunked};
 ghost use Rattle.membership.specs.Installs.{given_to};
 
-use address::{Address, ViewId};
+use address::{Address, Bytes, ViewId};
 use flush::Flush;
-use owned_bytes::Bytes;
 use state_chunks::{chunk_count, chunk_of};
 use state_transfer::Receiver;
 use std::alloc::AllocError;

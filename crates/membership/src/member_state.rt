@@ -4,10 +4,9 @@ ghost use Rattle.law_acts.specs.Cores.{is_open};
 ghost use Rattle.membership.specs.MemberStates.{view_in, is_connected, idle_member};
 
 use crate::SentInstall;
-use address::Address;
+use address::{Address, Bytes};
 use flush::Flush;
 use next_view::ViewNotes;
-use owned_bytes::Bytes;
 use state_chunks::HeldChunks;
 use state_transfer::Receiver;
 use std::alloc::Global;

@@ -1,7 +1,7 @@
 //! What a member has to propose by itself, and that it does.
 
 ghost use Rattle.std.specs.Prelude.{◌≡◌, OnOk, IfOk, None, true};
-ghost use Rattle.law_choices.specs.Decisions.{promised_counter, is_due, proposal_after, due_at, due_proposal};
+ghost use Rattle.law_acts.specs.Decisions.{promised_counter, is_due, proposal_after, due_at, due_proposal};
 ghost use Rattle.membership.specs.MemberStates.{core_of, IsMemberState, leads_in, anew_proposal, anew_past};
 ghost use Rattle.next_view.specs.ViewNotes.{having_heard};
 ghost use Rattle.membership.specs.Changes.{ProposesIf, Regroups, BeginsAnew};

@@ -3,7 +3,7 @@
 ghost use Rattle.std.specs.Prelude.{◌≡◌, OnOk, Ok, Err, true, false};
 ghost use Rattle.address.specs.Ids.{same_address};
 ghost use Rattle.view_install.specs.Promises.{offered, may_install, same_view};
-ghost use Rattle.law_choices.specs.Decisions.{is_readable, is_entry};
+ghost use Rattle.law_acts.specs.Decisions.{is_readable, is_entry};
 ghost use Rattle.membership.specs.declared.stop.Stop.TheVariants as stop;
 ghost use Rattle.membership.specs.MemberStates.{core_of, is_connected, awaits, would_hold, IsMemberState};
 ghost use Rattle.state_chunks.specs.HeldChunks.{given_in};

@@ -1,7 +1,7 @@
 -- The window's slots: those of the numbers after the stable count, each with the entry that is held there, or none.
 use Rattle.std.specs.Prelude.{◌≡◌, ℕ, suc, List, [], ◌∷◌, Option, None, Some, length}
 use Rattle.circular_buffer.specs.Buffer.{Buffer}
-use Rattle.limits.specs.declared.TheConstants.{WINDOW}
+use Rattle.address.specs.declared.limits.TheConstants.{WINDOW}
 use Rattle.wire_values.specs.Values.{Entry}
 use Rattle.nak_stream.specs.Windows.{IsWindow}
 

@@ -5,7 +5,7 @@ use Rattle.std.specs.Map.{keys_of}
 use Rattle.std.specs.BTreeMap.{insert_entry}
 use Rattle.std.specs.List.Sorted.{IsStrictlySortedBy}
 use Rattle.wire_values.specs.Values.{Entry, held_at}
-use Rattle.limits.specs.declared.TheConstants.{WINDOW, GREATEST_NUMBER}
+use Rattle.address.specs.declared.limits.TheConstants.{WINDOW, GREATEST_NUMBER}
 
 -- a window: a stable count, a delivered count, and what is held, as pairs of number and entry with rising numbers
 pub record WindowModel : Type 0 where

@@ -12,7 +12,7 @@ pub struct OwnedPayload {
 
 impl Model for OwnedPayload {
     ghost use Rattle.std.specs.Prelude.{List, ℕ, length, ◌≤◌};
-    ghost use Rattle.limits.specs.declared.TheConstants.{PAYLOAD};
+    ghost use Rattle.address.specs.declared.limits.TheConstants.{PAYLOAD};
 
     ghost Value = { List ℕ };
 

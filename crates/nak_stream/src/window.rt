@@ -1,14 +1,14 @@
 ghost use Rattle.std.specs.Prelude.{◌≡◌, ℕ, ◌+◌, ◌≤◌, ◌<◌, length, slice_set, Some, [], IfOk, OnOk, OnErr, IsSome, IsSomeAnd, IsTrue, MatchOption, is_some};
 ghost use Rattle.std.specs.Option.{option_copied};
 ghost use Rattle.circular_buffer.specs.Buffer.{buffer};
-ghost use Rattle.limits.specs.declared.TheConstants.{WINDOW};
+ghost use Rattle.address.specs.declared.limits.TheConstants.{WINDOW};
 ghost use Rattle.wire_values.specs.Values.{held_at};
 ghost use Rattle.nak_stream.specs.Windows.{WindowModel, empty_window, held_above, offers, taken, delivering, collected, IsWindow, IsLeastGap, IsGreatestGap};
 ghost use Rattle.nak_stream.specs.Rings.{numbered, IsFull};
 
 use crate::Entry;
+use address::limits::{GREATEST_NUMBER, WINDOW};
 use circular_buffer::{HeapCircularBuffer, Iter};
-use limits::{GREATEST_NUMBER, WINDOW};
 use std::alloc::{AllocError, Global};
 use std::marker::Model;
 use wire_values::Entry as LentEntry;

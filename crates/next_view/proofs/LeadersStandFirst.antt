@@ -9,7 +9,7 @@ use Rattle.std.proofs.lemmas.List.{length-take}
 use Rattle.address.specs.Ids.{Address, ViewId, same_address}
 use Rattle.view.specs.Members.{stands_in, is_distinct}
 use Rattle.view.specs.View.{begins_with, view_refusal}
-use Rattle.limits.specs.declared.TheConstants.{MEMBERS}
+use Rattle.address.specs.declared.limits.TheConstants.{MEMBERS}
 use Rattle.suspicion.specs.Suspicion.{leads}
 use Rattle.next_view.specs.ViewNotes.{is_later}
 use Rattle.next_view.specs.Candidates.{with_one, unsuspected, is_current, all_candidates}

@@ -3,7 +3,7 @@ use Rattle.std.specs.Prelude.{ℕ, ◌+◌, Bool, not, ◌||◌, Option, None, S
 use Rattle.std.specs.List.{list_any}
 use Rattle.std.specs.Cmp.Lexicographic.{pointwise}
 use Rattle.address.specs.Ids.{Address, same_address}
-use Rattle.limits.specs.declared.TheConstants.{GREATEST_NUMBER, MEMBERS}
+use Rattle.address.specs.declared.limits.TheConstants.{GREATEST_NUMBER, MEMBERS}
 use Rattle.view.specs.Members.{stands_in}
 use Rattle.next_view.specs.ViewNotes.{NotesModel, is_later}
 

@@ -7,7 +7,7 @@ ghost use Rattle.next_view.specs.Noting.{is_known_here, noting, is_new, new_of, 
 
 use crate::lists::{add_all, all_current, is_known, is_later, keep_others, stands_in};
 use address::Address;
-use limits::{GREATEST_NUMBER, MEMBERS};
+use address::limits::{GREATEST_NUMBER, MEMBERS};
 use std::alloc::{AllocError, Global};
 use std::marker::Model;
 use suspicion::Suspects;

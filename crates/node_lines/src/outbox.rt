@@ -7,7 +7,7 @@ ghost use Rattle.node_lines.specs.Came.{Fills};
 ghost use Rattle.node_lines.specs.Outboxes.{nothing_waits, left_of, without_long, without_next, is_whole};
 
 use crate::{Lines, LinesError};
-use limits::PAYLOAD;
+use address::limits::PAYLOAD;
 use script_reader::split_at_first;
 use std::alloc::{AllocError, Global};
 use std::marker::Model;

@@ -1,6 +1,6 @@
 use crate::fixtures::{address, first_of};
+use address::limits::GREATEST_NUMBER;
 use address::{Address, Exhausted, Node, ViewId, next_after};
-use limits::GREATEST_NUMBER;
 use std::alloc::Global;
 
 #[test]

@@ -1,6 +1,6 @@
 use crate::fixtures::{address, first_of, listed, view_of};
+use address::limits::GREATEST_NUMBER;
 use address::{Address, ViewId};
-use limits::GREATEST_NUMBER;
 use next_view::ViewNotes;
 use std::alloc::Global;
 use view::View;

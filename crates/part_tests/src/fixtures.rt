@@ -1,5 +1,5 @@
 ghost use Rattle.std.specs.Prelude.{◌≤◌};
-ghost use Rattle.limits.specs.declared.TheConstants.{GREATEST_NUMBER};
+ghost use Rattle.address.specs.declared.limits.TheConstants.{GREATEST_NUMBER};
 
 use address::{Address, Node, ViewId};
 use std::alloc::Global;

@@ -1,5 +1,5 @@
-//! The tests of the crates that a member is made of, a module for each crate, and of the packets, by hand from the
-//! format's tables, to the byte. They stand apart from what they test, so that it is proved once and not twice.
+//! The tests of the crates that a member is made of, a module for each crate, of the packets, by hand from the
+//! format's tables, to the byte, and of `hmac` and `frames`. They stand apart from what they test, so that it is proved once and not twice.
 #![tactic(auto)]
 
 #[cfg(test)]
@@ -12,6 +12,10 @@ mod chat_log_tests;
 mod fixtures;
 #[cfg(test)]
 mod flush_tests;
+#[cfg(test)]
+mod framed_net_tests;
+#[cfg(test)]
+mod hmac_tests;
 #[cfg(test)]
 mod nak_stream_tests;
 #[cfg(test)]

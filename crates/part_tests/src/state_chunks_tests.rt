@@ -1,4 +1,4 @@
-use limits::{CHUNK, STATE, WHOLE_STATE};
+use address::limits::{CHUNK, STATE, WHOLE_STATE};
 use state_chunks::{HeldChunks, chunk_count, chunk_of};
 use std::alloc::{AllocError, Global};
 use wire_values::{Chunk, GivenState, State, Total};

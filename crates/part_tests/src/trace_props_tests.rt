@@ -1,9 +1,9 @@
 use crate::fixtures::first_of;
-use owned_bytes::Bytes;
+use address::Bytes;
 use std::alloc::{AllocError, Global};
 use trace_props::{Event, HandedBack, Numbered, Trace};
 
-// What each rule refuses and what it lets pass is tested as text, by the files `check-*.txt` of the crate `scenarios`.
+// What each rule refuses and what it lets pass is tested as text, by the files `tests/data/check-*.txt`.
 
 /// The trace of one start.
 fn started(alloc: Global) -> Result<Trace, AllocError> {

@@ -2,7 +2,7 @@
 //! with its number.
 
 use crate::wire_samples::{FLUSH, INSTALL, JOIN, ORDER, REPORT, STATE, second_view, unhex};
-use limits::GREATEST_NUMBER;
+use address::limits::GREATEST_NUMBER;
 use std::alloc::Global;
 use wire_values::{
     Reader, WireError, chunk_at, count_at, entry_at, group_at, install_at, number_at, payload_at,

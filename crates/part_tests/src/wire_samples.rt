@@ -1,5 +1,5 @@
 ghost use Rattle.std.specs.Prelude.{◌≤◌, length};
-ghost use Rattle.limits.specs.declared.TheConstants.{GREATEST_NUMBER, PAYLOAD};
+ghost use Rattle.address.specs.declared.limits.TheConstants.{GREATEST_NUMBER, PAYLOAD};
 
 use address::{Address, Node, ViewId};
 use std::alloc::{AllocError, Global};

@@ -10,12 +10,12 @@ use Rattle.std.proofs.lemmas.List.Sums.{sum_by-cons, sum_by-remove}
 use Rattle.std.proofs.lemmas.Map.Text.{is_eq-slice_cmp}
 use Rattle.std.proofs.lemmas.Slice.Eq.{bytes_eq-Decides}
 use Rattle.address.specs.Ids.{ViewId}
-use Rattle.limits.specs.declared.TheConstants.{STATE, GREATEST_NUMBER}
-use Rattle.keyed_entries.specs.declared.KeyedEntry.{KeyedEntry}
-use Rattle.keyed_entries.specs.Keys.{IsKey}
-use Rattle.keyed_entries.specs.Entries.{key_cmp, entry_of, value_of, put, without, IsHeldAt}
-use Rattle.tokens.specs.declared.token.Token.{Token}
-use Rattle.tokens.specs.Tokens.{next_token, IsViewId}
+use Rattle.address.specs.declared.limits.TheConstants.{STATE, GREATEST_NUMBER}
+use Rattle.keyed_state.specs.declared.entries.KeyedEntry.{KeyedEntry}
+use Rattle.keyed_state.specs.Keys.{IsKey}
+use Rattle.keyed_state.specs.Entries.{key_cmp, entry_of, value_of, put, without, IsHeldAt}
+use Rattle.keyed_state.specs.declared.token.Token.{Token}
+use Rattle.keyed_state.specs.Tokens.{next_token, IsViewId}
 use Rattle.replicated_map.specs.declared.entries.Held.{Held}
 use Rattle.keyed_state.specs.States.{entry_size as size_in}
 use Rattle.replicated_map.specs.Values.{held_form}

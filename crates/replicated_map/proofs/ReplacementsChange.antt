@@ -4,11 +4,11 @@ use Rattle.std.proofs.lemmas.Option.{none-some, same_Some}
 use Rattle.std.proofs.lemmas.Map.Text.{is_eq-slice_cmp}
 use Rattle.std.proofs.lemmas.Slice.Eq.{bytes_eq-Decides}
 use Rattle.address.specs.Ids.{ViewId}
-use Rattle.keyed_entries.specs.Entries.{value_of, put}
-use Rattle.keyed_entries.proofs.LookUpsFind.{found-put}
-use Rattle.tokens.specs.declared.token.Token.{Token}
-use Rattle.tokens.specs.Tokens.{next_token}
-use Rattle.tokens.specs.TokenLaws.{token-is, is-token}
+use Rattle.keyed_state.specs.Entries.{value_of, put}
+use Rattle.keyed_state.proofs.LookUpsFind.{found-put}
+use Rattle.keyed_state.specs.declared.token.Token.{Token}
+use Rattle.keyed_state.specs.Tokens.{next_token}
+use Rattle.keyed_state.specs.TokenLaws.{token-is, is-token}
 use Rattle.replicated_map.specs.declared.entries.Held.{Held}
 use Rattle.replicated_map.specs.Entries.{MapState, held, held_of, value_in, version_in, given, put_within, removed}
 use Rattle.replicated_map.specs.Commands.{is_expected, has_version, map_apply, after_command}

@@ -6,16 +6,16 @@ use Rattle.std.proofs.lemmas.Option.{same_Some}
 use Rattle.address.specs.Ids.{ViewId}
 use Rattle.byteorder.specs.Endian.{big_bytes}
 use Rattle.big_endian.proofs.Bytes.{wide1}
-use Rattle.reading.specs.Reading.{number_at}
-use Rattle.reading.specs.PartLaws.{IsWithin, number_part}
+use Rattle.big_endian.specs.Reading.{number_at}
+use Rattle.big_endian.proofs.PartLaws.{IsWithin, number_part}
 use Rattle.script_reader.specs.declared.fault.Fault.{Fault}
 use Rattle.script_reader.specs.declared.fault.Fault.TheVariants.{BadNumber}
 use Rattle.script_reader.specs.Lines.{field_of, behind_field}
 use Rattle.script_reader.specs.Fields.{made, last, end_at, ◌>>=◌}
-use Rattle.keyed_entries.specs.Words.{key_field}
-use Rattle.tokens.specs.Tokens.{IsViewId}
-use Rattle.tokens.specs.Spelling.{view_id_bytes, view_id_at}
-use Rattle.tokens.specs.SpellingLaws.{view_id_part}
+use Rattle.keyed_state.specs.Words.{key_field}
+use Rattle.keyed_state.specs.Tokens.{IsViewId}
+use Rattle.keyed_state.specs.Spelling.{view_id_bytes, view_id_at}
+use Rattle.keyed_state.specs.SpellingLaws.{view_id_part}
 use Rattle.replicated_map.specs.declared.command.Command.{Command}
 use Rattle.replicated_map.specs.declared.command.Command.TheVariants.{Put, Remove, Replace, Clear, ReplaceAt, RemoveAt}
 use Rattle.replicated_map.specs.Commands.{IsCommand, command_bytes, command_of}

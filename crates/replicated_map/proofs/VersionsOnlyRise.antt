@@ -7,12 +7,12 @@ use Rattle.std.specs.declared.cmp.Ordering.TheVariants.{Less, Equal, Greater}
 use Rattle.std.proofs.lemmas.Option.{none-some, same_Some}
 use Rattle.address.specs.Ids.{ViewId}
 use Rattle.trace_props.specs.declared.event.Message.{Message}
-use Rattle.keyed_entries.specs.declared.KeyedEntry.{KeyedEntry}
-use Rattle.keyed_entries.specs.Entries.{key_cmp, value_of}
-use Rattle.keyed_entries.proofs.LookUpsFind.{found-put, found-without}
-use Rattle.tokens.specs.declared.token.Token.{Token}
-use Rattle.tokens.specs.Tokens.{IsBelow, is_up_to, next_token}
-use Rattle.tokens.specs.TokenLaws.{up-refl, up-trans, up-below, below-is-up, not-below-itself, next-above, next-above-views}
+use Rattle.keyed_state.specs.declared.entries.KeyedEntry.{KeyedEntry}
+use Rattle.keyed_state.specs.Entries.{key_cmp, value_of}
+use Rattle.keyed_state.proofs.LookUpsFind.{found-put, found-without}
+use Rattle.keyed_state.specs.declared.token.Token.{Token}
+use Rattle.keyed_state.specs.Tokens.{IsBelow, is_up_to, next_token}
+use Rattle.keyed_state.specs.TokenLaws.{up-refl, up-trans, up-below, below-is-up, not-below-itself, next-above, next-above-views}
 use Rattle.replicated_map.specs.declared.command.Command.{Command}
 use Rattle.replicated_map.specs.declared.command.Command.TheVariants.{Put, Remove, Replace, Clear, ReplaceAt, RemoveAt}
 use Rattle.replicated_map.specs.declared.entries.Held.{Held}

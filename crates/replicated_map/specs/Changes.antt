@@ -1,8 +1,8 @@
 -- What a replacement makes of a map, and which puts stay within the limits of its state (docs/RECEIVERS.md, "The map's commands").
 use Rattle.std.specs.Prelude.{◌≡◌, ◌≢◌, true, false, ℕ, ◌+◌, List, length, Option, Some, None}
 use Rattle.address.specs.Ids.{Address, ViewId}
-use Rattle.keyed_entries.specs.Entries.{put, without}
-use Rattle.tokens.specs.declared.token.Token.{Token}
+use Rattle.keyed_state.specs.Entries.{put, without}
+use Rattle.keyed_state.specs.declared.token.Token.{Token}
 use Rattle.replicated_map.specs.declared.command.Command.TheVariants.{Put, Remove, Replace, ReplaceAt, RemoveAt}
 use Rattle.replicated_map.specs.declared.entries.Held.{Held}
 use Rattle.replicated_map.specs.Entries.{MapState, held_of, value_in, version_in, given, is_within, removed, map_size}

@@ -4,14 +4,14 @@ use Rattle.std.proofs.lemmas.Bool.{eqb-true, eqb-false}
 use Rattle.byteorder.specs.Endian.{big_bytes}
 use Rattle.big_endian.proofs.Bytes.{wide1}
 use Rattle.address.specs.Ids.{Address, ViewId, IsAddress}
-use Rattle.limits.specs.declared.TheConstants.{PAYLOAD}
-use Rattle.reading.specs.Reading.{number_at, ◌>>=◌}
-use Rattle.reading.specs.PartLaws.{bind_some, some_is, joined, IsPart, IsWithin, number_part, to_end_takes, to_end_again}
-use Rattle.keyed_entries.specs.Keys.{key_bytes, key_at}
-use Rattle.keyed_entries.specs.KeyLaws.{key_takes, key_again}
-use Rattle.tokens.specs.declared.token.Token.{Token}
-use Rattle.tokens.specs.Spelling.{view_id_bytes, view_id_at, token_bytes, token_at}
-use Rattle.tokens.specs.SpellingLaws.{view_id_part, token_part}
+use Rattle.address.specs.declared.limits.TheConstants.{PAYLOAD}
+use Rattle.big_endian.specs.Reading.{number_at, ◌>>=◌}
+use Rattle.big_endian.proofs.PartLaws.{bind_some, some_is, joined, IsPart, IsWithin, number_part, to_end_takes, to_end_again}
+use Rattle.keyed_state.specs.Keys.{key_bytes, key_at}
+use Rattle.keyed_state.specs.KeyLaws.{key_takes, key_again}
+use Rattle.keyed_state.specs.declared.token.Token.{Token}
+use Rattle.keyed_state.specs.Spelling.{view_id_bytes, view_id_at, token_bytes, token_at}
+use Rattle.keyed_state.specs.SpellingLaws.{view_id_part, token_part}
 use Rattle.replicated_map.specs.declared.command.Command.{Command}
 use Rattle.replicated_map.specs.declared.command.Command.TheVariants.{Put, Remove, Replace, Clear, ReplaceAt, RemoveAt}
 use Rattle.replicated_map.specs.Entries.{MapState, IsMap, held_of, value_in, put_within, removed}

@@ -3,11 +3,11 @@ use Rattle.std.specs.Prelude.{ℕ, List, ◌++◌, Option, Some, None, Bool, tru
 use Rattle.std.specs.Cmp.Lexicographic.{pointwise}
 use Rattle.byteorder.specs.Endian.{big_bytes}
 use Rattle.address.specs.Ids.{Address, ViewId}
-use Rattle.reading.specs.Reading.{Read, ◌>>=◌, number_at, read_to_end}
-use Rattle.keyed_entries.specs.Keys.{IsKey, key_bytes, key_at}
-use Rattle.tokens.specs.declared.token.Token.{Token}
-use Rattle.tokens.specs.Tokens.{is_token, IsViewId, IsToken}
-use Rattle.tokens.specs.Spelling.{view_id_bytes, view_id_at, token_bytes, token_at}
+use Rattle.big_endian.specs.Reading.{Read, ◌>>=◌, number_at, read_to_end}
+use Rattle.keyed_state.specs.Keys.{IsKey, key_bytes, key_at}
+use Rattle.keyed_state.specs.declared.token.Token.{Token}
+use Rattle.keyed_state.specs.Tokens.{is_token, IsViewId, IsToken}
+use Rattle.keyed_state.specs.Spelling.{view_id_bytes, view_id_at, token_bytes, token_at}
 use Rattle.replicated_map.specs.declared.command.Command.{Command}
 use Rattle.replicated_map.specs.declared.command.Command.TheVariants.{Put, Remove, Replace, Clear, ReplaceAt, RemoveAt}
 use Rattle.replicated_map.specs.declared.entries.Held.{Held}

@@ -2,10 +2,10 @@
 use Rattle.std.proofs.Common.{◌≡◌, ℕ, List, ◌++◌, length, Some, refl, ap, subst, ◌∙◌, append_assoc, arith}
 use Rattle.std.proofs.lemmas.List.{length-append}
 use Rattle.byteorder.specs.Endian.{big_bytes}
-use Rattle.reading.specs.Reading.{◌>>=◌}
-use Rattle.reading.specs.PartLaws.{bind_some, some_is, joined, IsPart, sized_part}
-use Rattle.tokens.specs.Spelling.{token_bytes, token_at}
-use Rattle.tokens.specs.SpellingLaws.{token_part, length-token}
+use Rattle.big_endian.specs.Reading.{◌>>=◌}
+use Rattle.big_endian.proofs.PartLaws.{bind_some, some_is, joined, IsPart, sized_part}
+use Rattle.keyed_state.specs.Spelling.{token_bytes, token_at}
+use Rattle.keyed_state.specs.SpellingLaws.{token_part, length-token}
 use Rattle.keyed_state.specs.StateLaws.{FormLaws}
 use Rattle.replicated_map.specs.declared.TheConstants.{VALUE}
 use Rattle.replicated_map.specs.declared.entries.Held.{Held}

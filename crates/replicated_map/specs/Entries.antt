@@ -3,13 +3,13 @@ use Rattle.std.specs.Prelude.{ℕ, Bool, ◌&&◌, List, [], Option, if◌then�
 use Rattle.std.specs.Option.{option_map}
 use Rattle.std.specs.Borrow.{Bor}
 use Rattle.address.specs.Ids.{ViewId}
-use Rattle.keyed_entries.specs.declared.KeyedEntry.{KeyedEntry}
-use Rattle.keyed_entries.specs.Entries.{entry_of, value_of, put, without}
-use Rattle.tokens.specs.declared.token.Token.{Token}
-use Rattle.tokens.specs.Tokens.{next_token}
+use Rattle.keyed_state.specs.declared.entries.KeyedEntry.{KeyedEntry}
+use Rattle.keyed_state.specs.Entries.{entry_of, value_of, put, without}
+use Rattle.keyed_state.specs.declared.token.Token.{Token}
+use Rattle.keyed_state.specs.Tokens.{next_token}
 pub use Rattle.keyed_state.specs.States.{state_of}
 use Rattle.keyed_state.specs.States.{KeyedState, IsState, state_size}
-use Rattle.limits.specs.declared.TheConstants.{STATE, GREATEST_NUMBER}
+use Rattle.address.specs.declared.limits.TheConstants.{STATE, GREATEST_NUMBER}
 use Rattle.replicated_map.specs.declared.entries.Held.{Held}
 pub use Rattle.replicated_map.specs.Values.{IsValue, held}
 use Rattle.replicated_map.specs.Values.{held_form}

@@ -2,10 +2,10 @@
 use Rattle.std.proofs.Common.{◌≡◌, ℕ, ◌≤◌, Bool, true, false, cond, leb, List, length, Some, refl, arith}
 use Rattle.std.proofs.lemmas.Bool.{leb-true, and_parts}
 use Rattle.address.specs.Ids.{ViewId}
-use Rattle.limits.specs.declared.TheConstants.{STATE, GREATEST_NUMBER}
-use Rattle.keyed_entries.specs.Keys.{IsKey}
-use Rattle.tokens.specs.Tokens.{IsViewId, next_token}
-use Rattle.tokens.specs.TokenLaws.{up-refl, below-is-up, next-above, next-is-token}
+use Rattle.address.specs.declared.limits.TheConstants.{STATE, GREATEST_NUMBER}
+use Rattle.keyed_state.specs.Keys.{IsKey}
+use Rattle.keyed_state.specs.Tokens.{IsViewId, next_token}
+use Rattle.keyed_state.specs.TokenLaws.{up-refl, below-is-up, next-above, next-is-token}
 use Rattle.keyed_state.specs.StateLaws as states
 use Rattle.replicated_map.specs.Values.{IsValue, held, held_form}
 use Rattle.replicated_map.specs.Entries.{MapState, map_size, IsMap, given, is_within, put_within, removed, cleared}

@@ -1,7 +1,7 @@
 -- The line of a map. It leaves the versions out.
 use Rattle.std.specs.Prelude.{ℕ, ◌∷◌, [], ◌++◌, List, codes, flat_map}
 use Rattle.address.specs.Ids.{Address, text_of_address}
-use Rattle.keyed_entries.specs.declared.KeyedEntry.{KeyedEntry}
+use Rattle.keyed_state.specs.declared.entries.KeyedEntry.{KeyedEntry}
 use Rattle.vsync_text.specs.TraceText.{hex_of, dash, field, line_with}
 use Rattle.replicated_map.specs.declared.entries.Held.{Held}
 use Rattle.replicated_map.specs.Entries.{MapState}

@@ -1,7 +1,7 @@
 -- What the map means as a receiver.
 use Rattle.std.specs.Prelude.{[]}
 use Rattle.state_transfer.specs.Meanings.{Meaning}
-use Rattle.tokens.specs.Tokens.{least_token}
+use Rattle.keyed_state.specs.Tokens.{least_token}
 use Rattle.replicated_map.specs.Entries.{MapState, IsMap}
 use Rattle.replicated_map.specs.Encoding.{map_encode, map_decode}
 use Rattle.replicated_map.specs.Commands.{map_apply}

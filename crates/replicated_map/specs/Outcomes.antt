@@ -1,8 +1,8 @@
 -- What becomes of a command at a map, and what that says of the map before and after it (docs/RECEIVERS.md, "What becomes of a command").
 use Rattle.std.specs.Prelude.{◌≡◌, ◌≢◌, false, ℕ, List, Option, Some, None, if◌then◌else◌}
 use Rattle.address.specs.Ids.{Address, ViewId}
-use Rattle.tokens.specs.declared.token.Token.{Token}
-use Rattle.tokens.specs.Tokens.{next_token}
+use Rattle.keyed_state.specs.declared.token.Token.{Token}
+use Rattle.keyed_state.specs.Tokens.{next_token}
 use Rattle.replicated_map.specs.declared.command.Command.{Command}
 use Rattle.replicated_map.specs.declared.command.Command.TheVariants.{Put, Remove, Replace, Clear, ReplaceAt, RemoveAt}
 use Rattle.replicated_map.specs.declared.entries.Held.{Held}

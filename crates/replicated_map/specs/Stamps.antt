@@ -1,7 +1,7 @@
 -- What is stamped with a view spells it (docs/RECEIVERS.md, "The map's commands").
 use Rattle.std.specs.Prelude.{◌≡◌, ℕ, List, Some, Ok}
 use Rattle.address.specs.Ids.{ViewId}
-use Rattle.tokens.specs.Tokens.{IsViewId}
+use Rattle.keyed_state.specs.Tokens.{IsViewId}
 use Rattle.replicated_map.specs.declared.command.Command.{Command}
 use Rattle.replicated_map.specs.Commands.{IsCommand, command_of, in_view}
 use Rattle.replicated_map.specs.Words.{map_payload_within}

@@ -1,9 +1,9 @@
 -- What a key has: a value, and the version that it was given with; as bytes, and from bytes.
 use Rattle.std.specs.Prelude.{ℕ, ◌+◌, ◌≤◌, List, ◌++◌, length, Some}
-use Rattle.reading.specs.Reading.{Read, ◌>>=◌, sized_bytes, sized_at}
-use Rattle.tokens.specs.declared.token.Token.{Token}
-use Rattle.tokens.specs.Tokens.{IsToken}
-use Rattle.tokens.specs.Spelling.{token_bytes, token_at}
+use Rattle.big_endian.specs.Reading.{Read, ◌>>=◌, sized_bytes, sized_at}
+use Rattle.keyed_state.specs.declared.token.Token.{Token}
+use Rattle.keyed_state.specs.Tokens.{IsToken}
+use Rattle.keyed_state.specs.Spelling.{token_bytes, token_at}
 use Rattle.keyed_state.specs.States.{Form}
 use Rattle.replicated_map.specs.declared.TheConstants.{VALUE}
 use Rattle.replicated_map.specs.declared.entries.Held.{Held}

@@ -3,8 +3,8 @@ use Rattle.std.specs.Prelude.{◌≡◌, ◌≢◌, true, ℕ, List, Some, fold}
 use Rattle.std.specs.Ordering.{is_lt}
 use Rattle.address.specs.Ids.{ViewId, view_id_cmp}
 use Rattle.trace_props.specs.declared.event.Message.{Message}
-use Rattle.tokens.specs.declared.token.Token.{Token}
-use Rattle.tokens.specs.Tokens.{IsBelow}
+use Rattle.keyed_state.specs.declared.token.Token.{Token}
+use Rattle.keyed_state.specs.Tokens.{IsBelow}
 use Rattle.replicated_map.specs.declared.command.Command.{Command}
 use Rattle.replicated_map.specs.declared.entries.Held.{Held}
 use Rattle.replicated_map.specs.Entries.{MapState, IsMap, held_of, version_in}

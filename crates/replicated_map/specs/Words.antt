@@ -6,10 +6,10 @@ use Rattle.script_reader.specs.declared.fault.Fault.{Fault}
 use Rattle.script_reader.specs.declared.fault.Fault.TheVariants.{BadNumber, MissingField}
 use Rattle.script_reader.specs.Lines.{field_of, behind_field}
 use Rattle.script_reader.specs.Fields.{Read, ◌>>=◌, made, spelled_at, last, end_at}
-use Rattle.keyed_entries.specs.Words.{key_field}
-use Rattle.tokens.specs.declared.token.Token.{Token}
-use Rattle.tokens.specs.Tokens.{least_token}
-use Rattle.tokens.specs.TokenText.{token_of_text}
+use Rattle.keyed_state.specs.Words.{key_field}
+use Rattle.keyed_state.specs.declared.token.Token.{Token}
+use Rattle.keyed_state.specs.Tokens.{least_token}
+use Rattle.keyed_state.specs.TokenText.{token_of_text}
 use Rattle.replicated_map.specs.declared.TheConstants.{VALUE}
 use Rattle.replicated_map.specs.declared.command.Command.{Command}
 use Rattle.replicated_map.specs.declared.command.Command.TheVariants.{Put, Remove, Replace, Clear, ReplaceAt, RemoveAt}

@@ -1,17 +1,16 @@
 //! How entries change: a value in its place, and the size with it.
 
 ghost use Rattle.std.specs.Prelude.{◌≡◌, ◌≤◌, ◌&&◌, nat_le, OnOk, OnErr};
-ghost use Rattle.limits.specs.declared.TheConstants.{STATE, GREATEST_NUMBER};
-ghost use Rattle.keyed_entries.specs.Entries.{IsPlace, put};
+ghost use Rattle.address.specs.declared.limits.TheConstants.{STATE, GREATEST_NUMBER};
+ghost use Rattle.keyed_state.specs.Entries.{IsPlace, put};
 ghost use Rattle.replicated_map.specs.Entries.{IsValue, held, map_size};
 
 use crate::entries::copied;
 use crate::{Held, ValueBytes};
-use keyed_entries::{KeyBytes, KeyedEntry, Place};
-use limits::{GREATEST_NUMBER, STATE};
-use owned_bytes::Bytes;
+use address::Bytes;
+use address::limits::{GREATEST_NUMBER, STATE};
+use keyed_state::{KeyBytes, KeyedEntry, Place, Token};
 use std::alloc::AllocError;
-use tokens::Token;
 
 // In how many bytes a state is encoded once a key, whose place is this, has a value. It has so many without.
 pub(crate) fn size_with(

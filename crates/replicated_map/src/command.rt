@@ -7,8 +7,8 @@ use crate::decoding::command_from;
 use crate::encoding::put_command;
 use crate::{LONGEST_COMMAND, ValueBytes, Version};
 use address::ViewId;
-use keyed_entries::KeyBytes;
-use reading::Reader;
+use big_endian::Reader;
+use keyed_state::KeyBytes;
 use std::alloc::AllocError;
 
 /// What a message asks of the map (docs/RECEIVERS.md, "The map's commands"). A command that gives a value spells the view in which it is sent: of that view, or of a later one, is

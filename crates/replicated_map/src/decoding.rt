@@ -1,16 +1,15 @@
 //! Commands from bytes, in one pass.
 
-ghost use Rattle.reading.specs.Reading.{IsReadOrNone};
-ghost use Rattle.tokens.specs.Spelling.{token_at};
+ghost use Rattle.big_endian.specs.Reading.{IsReadOrNone};
+ghost use Rattle.keyed_state.specs.Spelling.{token_at};
 ghost use Rattle.replicated_map.specs.Values.{value_at};
 ghost use Rattle.replicated_map.specs.Commands.{expected_at, pair_at, put_at, remove_at, replace_at, replace_version_at, remove_version_at, command_at};
 
 use crate::{Command, VALUE, ValueBytes, Version};
-use keyed_entries::{KeyBytes, key_from};
-use reading::Reader;
-use tokens::{token_from, view_id_from};
+use big_endian::Reader;
+use keyed_state::{KeyBytes, key_from, token_from, view_id_from};
 
-#[tactic(auto, unfolding(reading::specs::Reading::sized_at))]
+#[tactic(auto, unfolding(big_endian::specs::Reading::sized_at))]
 pub(crate) fn value_from<'a>(from: &mut Reader<'a>) -> Option<ValueBytes<'a>>
     ensures { IsReadOrNone (λ x. (x, from.new)) result (value_at from.old) }
 {

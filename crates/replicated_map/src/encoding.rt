@@ -1,18 +1,17 @@
 //! Commands as bytes. What grows is grown once, before the first byte is put.
 
 ghost use Rattle.std.specs.Prelude.{◌≡◌, ◌≤◌, ◌+◌, ◌++◌, length, vec_len, vec_capacity};
-ghost use Rattle.tokens.specs.Tokens.{IsToken};
-ghost use Rattle.tokens.specs.Spelling.{token_bytes};
+ghost use Rattle.keyed_state.specs.Tokens.{IsToken};
+ghost use Rattle.keyed_state.specs.Spelling.{token_bytes};
 ghost use Rattle.replicated_map.specs.Values.{IsValue, value_bytes};
 ghost use Rattle.replicated_map.specs.Commands.{IsCommand, IsExpected, IsPair, expected_bytes, pair_bytes, command_bytes};
 ghost use Rattle.replicated_map.specs.declared.TheConstants.{VALUE, LONGEST_COMMAND};
-ghost use Rattle.keyed_entries.specs.declared.TheConstants.{KEY};
-ghost use Rattle.tokens.specs.declared.TheConstants.{TOKEN_BYTES};
+ghost use Rattle.keyed_state.specs.declared.entries.TheConstants.{KEY};
+ghost use Rattle.keyed_state.specs.declared.TheConstants.{TOKEN_BYTES};
 
 use crate::{Command, ValueBytes, Version};
 use big_endian::{put, put_u8, put_u16};
-use keyed_entries::{KeyBytes, put_key};
-use tokens::{put_token, put_view_id};
+use keyed_state::{KeyBytes, put_key, put_token, put_view_id};
 
 // Appends a value: its length in two bytes, and its bytes.
 pub(crate) fn put_value(value: &[u8], out: &mut Vec<u8>)

@@ -1,18 +1,16 @@
 //! The entries of a map: what a key has, copies and look-ups.
 
 ghost use Rattle.std.specs.Prelude.{◌≡◌, IfOk};
-ghost use Rattle.keyed_entries.specs.Entries.{Rises, entry_of, value_of};
+ghost use Rattle.keyed_state.specs.Entries.{Rises, entry_of, value_of};
 ghost use Rattle.replicated_map.specs.Entries.{held, held_lent};
 
 use crate::ValueBytes;
 use crate::decoding::value_from;
 use crate::encoding::put_value;
-use keyed_entries::{KeyBytes, KeyedEntry, Place, find};
-use keyed_state::Kept;
-use owned_bytes::Bytes;
-use reading::Reader;
+use address::Bytes;
+use big_endian::Reader;
+use keyed_state::{Kept, KeyBytes, KeyedEntry, Place, Token, find, put_token, token_from};
 use std::alloc::{AllocError, Global};
-use tokens::{Token, put_token, token_from};
 
 /// What a key has: a value, and the version that it was given with.
 #[derive(Debug, Drop)]

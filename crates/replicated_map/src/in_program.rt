@@ -6,12 +6,11 @@ ghost use Rattle.replicated_map.specs.Commands.{command_bytes};
 use crate::lines::put_map_line;
 use crate::words::command_said;
 use crate::{Command, ReplicatedMap};
-use address::{Address, ViewId};
+use address::{Address, Bytes, ViewId};
 use application::Application;
-use owned_bytes::Bytes;
+use keyed_state::Token;
 use script_reader::{Payloads, Unheard};
 use std::alloc::{AllocError, Global};
-use tokens::Token;
 use view::View;
 
 // The spelling of a command.

@@ -7,7 +7,7 @@ ghost use Rattle.replicated_map.specs.Changes.{ReplacedIfExpected, KeptIfNotExpe
 ghost use Rattle.replicated_map.specs.Outcomes.{StoredStands, ReplaceStands, VersionStands, RemovalStands, VersionRemovalStands, FullIsKeptOut, DifferentIsKept, OtherVersionIsKept, OtherVersionIsNotRemoved, MissingIsKept, ClearedStands, NoCommandIsKept};
 ghost use Rattle.replicated_map.specs.Versions.{AboveAllBefore, AboveLowerViews, VersionsRise, NamesOneValue, GoneIsGone};
 ghost use Rattle.replicated_map.specs.Stamps.{StampedSpells, SaidSpells};
-ghost use Rattle.limits.specs.declared.TheConstants.{STATE};
+ghost use Rattle.address.specs.declared.limits.TheConstants.{STATE};
 
 /// The law of the encoding: a state is decoded from its encoding and from no other bytes, and only a map's states
 /// are. No encoding is longer than `STATE` bytes.

@@ -17,11 +17,10 @@ mod words;
 
 pub use command::Command;
 pub use entries::Held;
-use keyed_entries::KEY;
+use keyed_state::{KEY, VIEW_ID_BYTES};
 pub use law::{one_encoding, one_spelling, outcomes, replaces, sizes, stamps_spell, versions};
 pub use map::ReplicatedMap;
 pub use outcome::Outcome;
-use tokens::VIEW_ID_BYTES;
 pub use values::{ValueBytes, Version};
 
 /// The longest value, in bytes.

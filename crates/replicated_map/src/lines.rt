@@ -7,7 +7,7 @@ ghost use Rattle.replicated_map.specs.MapText.{text_of_entry, text_of_more, text
 
 use crate::Held;
 use address::Address;
-use keyed_entries::KeyedEntry;
+use keyed_state::KeyedEntry;
 use std::alloc::AllocError;
 use vsync_text::{put, put_address, put_hex};
 

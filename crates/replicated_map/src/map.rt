@@ -1,23 +1,23 @@
 ghost use Rattle.std.specs.Prelude.{◌≡◌, ◌==◌, ◌≤◌, ◌++◌, true, false, length, slice_get, IfOk, OnOk, OnErr, MatchOption};
-ghost use Rattle.keyed_entries.specs.Entries.{Rises};
-ghost use Rattle.tokens.specs.Tokens.{next_token};
+ghost use Rattle.keyed_state.specs.Entries.{Rises};
+ghost use Rattle.keyed_state.specs.Tokens.{next_token};
 ghost use Rattle.replicated_map.specs.Entries.{put_within, removed, map_size, value_in, held_of, held_lent, entry_lent};
 ghost use Rattle.replicated_map.specs.Encoding.{map_encode, map_decode};
 ghost use Rattle.replicated_map.specs.Commands.{is_expected, has_version, carried_out, map_apply};
-ghost use Rattle.limits.specs.declared.TheConstants.{STATE};
+ghost use Rattle.address.specs.declared.limits.TheConstants.{STATE};
 
 use crate::changing::{has_room, put_at, size_with};
 use crate::entries::found_at;
 use crate::{Command, Held, ValueBytes, Version};
 use address::{Address, ViewId};
-use followed_events::Replica;
-use keyed_entries::{KeyBytes, KeyedEntry, Place, find};
-use keyed_state::{contents_of, put_state, size_of_all};
+use application::Replica;
+use keyed_state::{
+    KeyBytes, KeyedEntry, Place, Token, contents_of, find, known_view_id, put_state, size_of_all,
+};
 use state_transfer::Receiver;
 use std::alloc::{AllocError, Global};
 use std::cmp::Ordering;
 use std::marker::Model;
-use tokens::{Token, known_view_id};
 use view::View;
 
 /// A copy of the map. Contracts see it as the last version that was given, and the list of its entries, their keys rising (docs/RECEIVERS.md, "The map's state").

@@ -9,9 +9,8 @@ use crate::changing::{has_room, size_with};
 use crate::map::{is_as_expected, is_of_version};
 use crate::{Command, Held, ReplicatedMap, ValueBytes};
 use address::ViewId;
-use keyed_entries::{KeyBytes, find};
+use keyed_state::{KeyBytes, Token, find};
 use std::alloc::{AllocError, Global};
-use tokens::Token;
 
 /// What becomes of a command at a map (docs/RECEIVERS.md, "What becomes of a command").
 #[derive(Debug, Drop)]

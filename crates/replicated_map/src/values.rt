@@ -1,12 +1,12 @@
 ghost use Rattle.std.specs.Prelude.{◌≡◌};
 ghost use Rattle.std.specs.Option.{SomeIff};
-ghost use Rattle.tokens.specs.Tokens.{IsToken};
+ghost use Rattle.keyed_state.specs.Tokens.{IsToken};
 ghost use Rattle.replicated_map.specs.Entries.{IsValue};
 
 use crate::VALUE;
-use limits::GREATEST_NUMBER;
+use address::limits::GREATEST_NUMBER;
+use keyed_state::{Token, known_view_id};
 use std::marker::Model;
-use tokens::{Token, known_view_id};
 
 /// A value in lent bytes, at most `VALUE` of them.
 #[derive(Debug, Drop)]
@@ -52,8 +52,8 @@ pub struct Version {
 }
 
 impl Model for Version {
-    ghost use Rattle.tokens.specs.declared.token.Token.{Token};
-    ghost use Rattle.tokens.specs.Tokens.{IsToken};
+    ghost use Rattle.keyed_state.specs.declared.token.Token.{Token};
+    ghost use Rattle.keyed_state.specs.Tokens.{IsToken};
 
     ghost Value = { Token };
 

@@ -3,14 +3,13 @@
 ghost use Rattle.std.specs.Prelude.{◌≡◌, Ok, Err, MatchResult};
 ghost use Rattle.std.specs.Option.{option_copied};
 ghost use Rattle.script_reader.specs.Fields.{last};
-ghost use Rattle.tokens.specs.TokenText.{token_of_text};
+ghost use Rattle.keyed_state.specs.TokenText.{token_of_text};
 ghost use Rattle.replicated_map.specs.Words.{expected_of, expected_field, version_field, last_value, put_said, remove_said, replaced, replace_said, clear_said, version_replaced, replace_at_said, remove_at_said, command_said};
 
 use crate::{Command, ValueBytes, Version};
 use address::ViewId;
-use keyed_entries::{KeyBytes, key_field, last_key};
+use keyed_state::{KeyBytes, key_field, last_key, token_in};
 use script_reader::{Fault, first_field};
-use tokens::token_in;
 
 // The expected value that a field says: `-` says that there is none.
 fn expected_in(field: &[u8]) -> Option<Option<ValueBytes<'_>>>

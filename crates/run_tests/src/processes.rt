@@ -3,8 +3,8 @@
 use chat_log::ChatLog;
 use commands::run_check_processes;
 use endings::Status;
-use law_merges::verdicts_are_the_same;
 use std::alloc::{AllocError, Global};
+use trace_merge::verdicts_are_the_same;
 
 /// What the first of two processes tells: it makes a group, says `h`, and lets the second in.
 const FIRST: &[u8] =

@@ -3,7 +3,7 @@ use Rattle.std.specs.Prelude.{ℕ, List, Option, None, Some, option_and_then}
 use Rattle.address.specs.Ids.{Address}
 use Rattle.script_reader.specs.Lines.{before_byte, behind_byte}
 use Rattle.script_reader.specs.Numbers.{number_in}
-use Rattle.limits.specs.declared.TheConstants.{GREATEST_INCARNATION, GREATEST_NODE}
+use Rattle.address.specs.declared.limits.TheConstants.{GREATEST_INCARNATION, GREATEST_NODE}
 
 -- the address of a node and an incarnation, if both are there
 abbrev pub address_from : Option ℕ → Option ℕ → Option Address

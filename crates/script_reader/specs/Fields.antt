@@ -2,7 +2,7 @@
 -- text behind that space.
 use Rattle.std.specs.Prelude.{ℕ, List, Option, None, Some, Result, Ok, Err}
 use Rattle.address.specs.Ids.{Address}
-use Rattle.limits.specs.declared.TheConstants.{GREATEST_NUMBER, GREATEST_NODE}
+use Rattle.address.specs.declared.limits.TheConstants.{GREATEST_NUMBER, GREATEST_NODE}
 use Rattle.script_reader.specs.declared.fault.Fault.{Fault}
 use Rattle.script_reader.specs.declared.fault.Fault.TheVariants.{BadNumber, MissingField}
 use Rattle.script_reader.specs.Lines.{field_of, behind_field}

@@ -7,7 +7,7 @@ use Rattle.script_reader.specs.declared.line.Word.{Word}
 use Rattle.script_reader.specs.declared.line.Word.TheVariants.{Start, Create, Join, Send, Deliver, Tick, Suspect, Hint, Leave, Crash}
 use Rattle.script_reader.specs.declared.fault.Fault.{Fault}
 use Rattle.script_reader.specs.declared.fault.Fault.TheVariants.{UnknownWord, BadNumber, MissingField, LineTooLong}
-use Rattle.limits.specs.declared.TheConstants.{SCRIPT_LINE}
+use Rattle.address.specs.declared.limits.TheConstants.{SCRIPT_LINE}
 use Rattle.script_reader.specs.Lines.{field_of, behind_field}
 use Rattle.script_reader.specs.Texts.{FaultAt, said_by}
 use Rattle.script_reader.specs.Fields.{◌>>=◌, made, last, node_field, address_field, packet_field}

@@ -10,7 +10,7 @@ use Rattle.script_reader.specs.declared.udp_script.UdpEvent.{UdpEvent}
 use Rattle.script_reader.specs.declared.udp_script.UdpEvent.TheVariants as udp_event
 use Rattle.script_reader.specs.declared.udp_script.UdpLine.{UdpLine}
 use Rattle.script_reader.specs.declared.udp_script.TheConstants.{ROUNDS}
-use Rattle.limits.specs.declared.TheConstants.{SCRIPT_LINE}
+use Rattle.address.specs.declared.limits.TheConstants.{SCRIPT_LINE}
 use Rattle.script_reader.specs.Lines.{field_of, behind_field}
 use Rattle.script_reader.specs.Numbers.{number_in}
 use Rattle.script_reader.specs.Fields.{Read, made, spelled_at, last}

@@ -10,8 +10,8 @@ ghost use Rattle.script_reader.specs.UdpScript.{rounds_field};
 
 use crate::Fault;
 use crate::udp_script::ROUNDS;
+use address::limits::{GREATEST_INCARNATION, GREATEST_NODE, GREATEST_NUMBER};
 use address::{Address, Node};
-use limits::{GREATEST_INCARNATION, GREATEST_NODE, GREATEST_NUMBER};
 
 /// The index of the first byte of a text that is `byte`.
 fn index_of(byte: u8, text: &[u8]) -> Option<usize>

@@ -7,9 +7,8 @@ ghost use Rattle.script_reader.specs.Texts.{is_skipped, reading_by, IsReadUnless
 
 use crate::field::{address_field, first_field, node_field, packet_field};
 use crate::{Fault, Payloads, Unheard};
-use address::{Address, Node};
-use limits::SCRIPT_LINE;
-use owned_bytes::Bytes;
+use address::limits::SCRIPT_LINE;
+use address::{Address, Bytes, Node};
 use std::alloc::Global;
 use world_model::WorldEvent;
 

@@ -3,7 +3,7 @@ ghost use Rattle.script_reader.specs.declared.fault.Fault.{Fault as FaultValue};
 ghost use Rattle.script_reader.specs.Texts.{IsReadUnlessRefused};
 
 use crate::Unheard;
-use owned_bytes::Bytes;
+use address::Bytes;
 use std::alloc::{AllocError, Global};
 
 /// How the text of a `send` says the payload that is sent (docs/FORMATS.md, "Script text").

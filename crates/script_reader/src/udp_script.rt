@@ -7,7 +7,7 @@ ghost use Rattle.script_reader.specs.Texts.{and_then, reading_by, HasRead, IsRea
 use crate::field::{first_field, first_line, rounds_field};
 use crate::line::{Word, event_of, is_skipped, word_of};
 use crate::{AsWritten, Fault, Unheard, Unread};
-use limits::SCRIPT_LINE;
+use address::limits::SCRIPT_LINE;
 use std::alloc::{AllocError, Global};
 use world_model::WorldEvent;
 

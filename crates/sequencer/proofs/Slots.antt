@@ -6,7 +6,7 @@ use Rattle.std.specs.Option.{option_map}
 use Rattle.std.proofs.lemmas.Bool.Decides.{nat_tests}
 use Rattle.std.proofs.lemmas.Option.{slice_get-get_or}
 use Rattle.circular_buffer.specs.Buffer.{Buffer, buffer, keep_last}
-use Rattle.limits.specs.declared.TheConstants.{OUTSTANDING, GREATEST_NUMBER}
+use Rattle.address.specs.declared.limits.TheConstants.{OUTSTANDING, GREATEST_NUMBER}
 use Rattle.address.specs.Ids.{Address}
 use Rattle.trace_props.specs.declared.event.Numbered.{Numbered}
 use Rattle.sequencer.specs.Queues.{Queue, takes, offered, waiting_with, without_first, follows, has_next, entry_with, next_of, served}

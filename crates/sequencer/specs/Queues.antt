@@ -4,7 +4,7 @@ use Rattle.std.specs.List.{list_any, find}
 use Rattle.std.specs.Option.{option_map, option_map_or}
 use Rattle.address.specs.Ids.{Address, same_address}
 use Rattle.wire_values.specs.Values.{Entry}
-use Rattle.limits.specs.declared.TheConstants.{WINDOW, OUTSTANDING, GREATEST_NUMBER}
+use Rattle.address.specs.declared.limits.TheConstants.{WINDOW, OUTSTANDING, GREATEST_NUMBER}
 use Rattle.trace_props.specs.declared.event.Numbered.{Numbered}
 
 -- a list in which the first element that passes a test is changed

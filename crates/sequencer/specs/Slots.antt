@@ -2,7 +2,7 @@
 use Rattle.std.specs.Prelude.{◌≡◌, ◌≤◌, ℕ, suc, Bool, true, false, List, [], ◌∷◌, Option, None, Some, length}
 use Rattle.std.specs.List.{AllByRecursion}
 use Rattle.circular_buffer.specs.Buffer.{Buffer}
-use Rattle.limits.specs.declared.TheConstants.{OUTSTANDING, GREATEST_NUMBER}
+use Rattle.address.specs.declared.limits.TheConstants.{OUTSTANDING, GREATEST_NUMBER}
 use Rattle.trace_props.specs.declared.event.Numbered.{Numbered}
 
 -- the messages whose payloads stand in slots, each with its slot's number, where the first slot's is the one after `before`

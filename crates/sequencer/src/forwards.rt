@@ -1,12 +1,12 @@
 ghost use Rattle.std.specs.Prelude.{◌≡◌, ◌+◌, ◌≤◌, ◌++◌, None, Some, drop, length, IfOk, OnOk, MatchResult};
 ghost use Rattle.std.specs.Vec.{vec_capacity};
-ghost use Rattle.limits.specs.declared.TheConstants.{PAYLOAD};
+ghost use Rattle.address.specs.declared.limits.TheConstants.{PAYLOAD};
 ghost use Rattle.sequencer.specs.Forwards.{ForwardsModel, no_forwards, pushed, delivered_to, one_delivered, push_refusal, IsForwards, AreShort};
 
 use crate::Forward;
-use limits::{GREATEST_NUMBER, OUTSTANDING, Refusal};
+use address::Bytes;
+use address::limits::{GREATEST_NUMBER, OUTSTANDING, Refusal};
 use nak_stream::OwnedPayload;
-use owned_bytes::Bytes;
 use std::alloc::{AllocError, Global};
 use std::marker::Model;
 use trace_props::{HandedBack, Numbered};
@@ -23,7 +23,7 @@ pub struct Forwards {
 impl Model for Forwards {
     ghost use Rattle.std.specs.Prelude.{◌≤◌};
     ghost use Rattle.std.specs.Vec.{vec_capacity};
-    ghost use Rattle.limits.specs.declared.TheConstants.{OUTSTANDING};
+    ghost use Rattle.address.specs.declared.limits.TheConstants.{OUTSTANDING};
     ghost use Rattle.sequencer.specs.Forwards.{ForwardsModel, IsForwards};
 
     ghost Value = { ForwardsModel };

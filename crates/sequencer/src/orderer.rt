@@ -5,7 +5,7 @@ ghost use Rattle.sequencer.specs.Queues.{OrdererModel, idle, has_next, is_from, 
 
 use crate::queue::Queue;
 use address::Address;
-use limits::{GREATEST_NUMBER, WINDOW};
+use address::limits::{GREATEST_NUMBER, WINDOW};
 use nak_stream::Entry;
 use std::alloc::{AllocError, Global};
 use std::marker::Model;
@@ -23,7 +23,7 @@ pub struct Orderer {
 
 impl Model for Orderer {
     ghost use Rattle.std.specs.Prelude.{◌≤◌};
-    ghost use Rattle.limits.specs.declared.TheConstants.{GREATEST_NUMBER};
+    ghost use Rattle.address.specs.declared.limits.TheConstants.{GREATEST_NUMBER};
     ghost use Rattle.sequencer.specs.Queues.{OrdererModel};
 
     ghost Value = { OrdererModel };

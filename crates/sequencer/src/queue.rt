@@ -5,8 +5,8 @@ ghost use Rattle.sequencer.specs.Queues.{idle, takes, offered, has_next, next_of
 ghost use Rattle.sequencer.specs.Slots.{numbered, IsFull, is_first};
 
 use address::Address;
+use address::limits::OUTSTANDING;
 use circular_buffer::HeapCircularBuffer;
-use limits::OUTSTANDING;
 use nak_stream::{Entry, OwnedPayload};
 use std::alloc::{AllocError, Global};
 use std::marker::Model;

@@ -13,12 +13,12 @@ use Rattle.law_agreement.proofs.KeepBySteps
 use Rattle.membership.specs.declared.member_state.MemberState.{MemberState}
 use Rattle.world_model.specs.Packets.{world_group}
 use Rattle.world_step.specs.Worlds.{WorldModel}
-use Rattle.world_plays.specs.Plays.{lacks_memory, Breaks, BreaksPast}
+use Rattle.world_step.specs.Plays.{lacks_memory, Breaks, BreaksPast}
 use Rattle.law_processes.proofs.PostsAreSpelled.{EachSound}
-use Rattle.world_plays.proofs.Deliveries.{breaks-none, breaks-next}
-use Rattle.world_plays.proofs.PoolPackets.{AreNext}
-use Rattle.world_plays.proofs.Standing
-use Rattle.world_plays.proofs.Standing.{Stands}
+use Rattle.world_step.proofs.Deliveries.{breaks-none, breaks-next}
+use Rattle.world_step.proofs.PoolPackets.{AreNext}
+use Rattle.world_step.proofs.Standing
+use Rattle.world_step.proofs.Standing.{Stands}
 use Rattle.settling.specs.Settles.{EndsSettling}
 use Rattle.settling.specs.LostInstalls.{awaited_at, BringsInShort, BringsShort}
 use Rattle.settling.specs.LostInstalls.BringsInShort.{AtTick, AtReport, AtInstall}

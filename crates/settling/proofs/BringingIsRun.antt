@@ -8,8 +8,8 @@ use Rattle.view.specs.Members.{View}
 use Rattle.state_transfer.specs.Meanings.{Meaning}
 use Rattle.world_step.specs.Worlds.{WorldModel, IsLonger}
 use Rattle.world_model.specs.declared.WorldEvent.TheVariants.{Deliver, Tick}
-use Rattle.world_plays.specs.Plays.{Plays, Fails, DeliversPast, BreaksPast}
-use Rattle.world_plays.proofs.PlaysRun.{Ran, none-yet, stepped, failed, delivered, broken, ran-longer}
+use Rattle.world_step.specs.Plays.{Plays, Fails, DeliversPast, BreaksPast}
+use Rattle.world_step.proofs.PlaysRun.{Ran, none-yet, stepped, failed, delivered, broken, ran-longer}
 use Rattle.settling.specs.LostInstalls.{awaits_install, BringsIn, BringsAll, BringsInShort, BringsShort}
 use Rattle.settling.specs.LostInstalls.BringsAll.{Nobody, Next}
 use Rattle.settling.specs.LostInstalls.BringsInShort.{AtTick, AtReport, AtInstall}

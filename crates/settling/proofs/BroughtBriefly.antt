@@ -2,7 +2,7 @@
 use Rattle.std.proofs.Common.{◌≡◌, ◌≤◌, ℕ, ◌+◌, ◌-◌, Bool, true, false, cond, not, Some, List, [], ◌∷◌, ◌++◌, filter, length, refl, ap, ◌∙◌, subst, arith, length-append}
 use Rattle.std.specs.Prelude.{◌*◌, None, MatchBool}
 use Rattle.std.proofs.lemmas.List.Elements.{filter-append}
-use Rattle.limits.specs.declared.TheConstants.{MEMBERS}
+use Rattle.address.specs.declared.limits.TheConstants.{MEMBERS}
 use Rattle.address.specs.Ids.{Address, same_address}
 use Rattle.address.proofs.SameIds.{same_address-refl}
 use Rattle.view.specs.Members.{View, stands_in}
@@ -17,7 +17,7 @@ use Rattle.membership.specs.declared.member_state.MemberState.{MemberState}
 use Rattle.world_model.specs.declared.WorldEvent.TheVariants.{Deliver, Tick}
 use Rattle.world_step.specs.Worlds.{WorldModel}
 use Rattle.world_step.proofs.MembersAsSystem.{system_of}
-use Rattle.world_plays.proofs.Standing
+use Rattle.world_step.proofs.Standing
 use Rattle.settling.specs.LostInstalls.{awaits_install, awaited_at, BringsIn, BringsAll}
 use Rattle.settling.specs.LostInstalls.BringsAll.{Nobody, Next}
 use Rattle.settling.proofs.WhoAwaits

@@ -13,7 +13,7 @@ use Rattle.law_acts.specs.Histories.{Posted}
 use Rattle.law_acts.specs.Acts.{packet}
 use Rattle.world_model.specs.Packets.{world_group}
 use Rattle.world_step.specs.Pools.{is_destined}
-use Rattle.world_plays.proofs.PoolPackets.{bytes_as, goes-to}
+use Rattle.world_step.proofs.PoolPackets.{bytes_as, goes-to}
 use Rattle.law_processes.proofs.PostsAreSpelled.{EachSound, bytes_for}
 
 pub record FirstFor (q : Address) (m : Posted) (start : ℕ) (posted : List Posted) : Type 0 where

@@ -27,11 +27,11 @@ use Rattle.world_step.specs.declared.node_state.NodeState.TheVariants.{Vacant, E
 use Rattle.world_step.specs.Turns.{OthersStand}
 use Rattle.world_step.specs.Worlds.{WorldModel}
 use Rattle.world_step.proofs.MembersAsSystem.{system_of}
-use Rattle.world_plays.specs.Plays.{Plays, Delivers, DeliversPast}
-use Rattle.world_plays.proofs.PoolPackets.{AreNext, next-first}
-use Rattle.world_plays.proofs.Deliveries.{delivers-none, delivers-next}
-use Rattle.world_plays.proofs.Standing
-use Rattle.world_plays.proofs.Standing.{Stands}
+use Rattle.world_step.specs.Plays.{Plays, Delivers, DeliversPast}
+use Rattle.world_step.proofs.PoolPackets.{AreNext, next-first}
+use Rattle.world_step.proofs.Deliveries.{delivers-none, delivers-next}
+use Rattle.world_step.proofs.Standing
+use Rattle.world_step.proofs.Standing.{Stands}
 use Rattle.settling.specs.Settles.{would_follow, IsSettled}
 use Rattle.settling.specs.LostInstalls.{view_at, keeps_install, awaits_install, is_inside, awaited, awaited_at, BringsIn, BringsAll}
 use Rattle.settling.specs.LostInstalls.BringsAll.{Nobody, Next}

@@ -10,7 +10,7 @@ use Rattle.std.proofs.lemmas.Bool.Decides.{nat_tests}
 use Rattle.std.proofs.lemmas.Option.{none-some, same_Some}
 use Rattle.address.specs.Ids.{Address, same_address}
 use Rattle.address.proofs.SameIds.{same_address-refl, same_address-sym}
-use Rattle.limits.specs.declared.TheConstants.{GREATEST_NUMBER, MEMBERS}
+use Rattle.address.specs.declared.limits.TheConstants.{GREATEST_NUMBER, MEMBERS}
 use Rattle.view.specs.Members.{View, stands_in}
 use Rattle.suspicion.specs.Suspicion.{leads}
 use Rattle.next_view.specs.ViewNotes.{NotesModel}
@@ -23,7 +23,7 @@ use Rattle.flush.specs.Flushes.{FlushModel}
 use Rattle.view_install.specs.Promises.{PromiseModel, offered, is_accept}
 use Rattle.law_acts.specs.Cores.{Core}
 use Rattle.law_acts.specs.Acts.{packet, proposed}
-use Rattle.law_choices.specs.Decisions.{due_proposal, due_at, regroups_in, is_due, proposal_after, next_proposal, promised_counter}
+use Rattle.law_acts.specs.Decisions.{due_proposal, due_at, regroups_in, is_due, proposal_after, next_proposal, promised_counter}
 use Rattle.law_agreement.proofs.KeepBySteps
 use Rattle.step_output.specs.declared.output.Output.{Output}
 use Rattle.step_output.specs.Outputs.{Grows}
@@ -44,10 +44,10 @@ use Rattle.world_step.proofs.MembersAtNodes
 use Rattle.world_step.proofs.InputsTaken.{when-true, when-false}
 use Rattle.world_step.proofs.KeepOfWorlds
 use Rattle.law_processes.proofs.PostsAreSpelled.{bytes_for}
-use Rattle.world_plays.specs.Plays.{lacks_memory}
-use Rattle.world_plays.proofs.PoolPackets.{AreNext, put-next, next-first, put-out}
-use Rattle.world_plays.proofs.Standing
-use Rattle.world_plays.proofs.Standing.{Stands}
+use Rattle.world_step.specs.Plays.{lacks_memory}
+use Rattle.world_step.proofs.PoolPackets.{AreNext, put-next, next-first, put-out}
+use Rattle.world_step.proofs.Standing
+use Rattle.world_step.proofs.Standing.{Stands}
 use Rattle.settling.specs.Settles.{would_follow, followed, settling_in, settling_at, Settles, IsSettled}
 use Rattle.settling.specs.Meets.{StandsAlone, NotesNobody, counter_in, HintsAndDelivers}
 use Rattle.settling.proofs.StageOfFlushes.{Keeps, sure}

@@ -7,8 +7,8 @@ use Rattle.state_transfer.specs.Meanings.{Meaning}
 use Rattle.world_model.specs.declared.WorldEvent.TheVariants.{Deliver, Tick}
 use Rattle.world_step.specs.Pools.{first_for}
 use Rattle.world_step.specs.Worlds.{WorldModel, IsLonger}
-use Rattle.world_plays.specs.Plays.{Plays, Fails}
-use Rattle.world_plays.proofs.PlaysRun.{Ran, none-yet, stepped, failed, ran-longer}
+use Rattle.world_step.specs.Plays.{Plays, Fails}
+use Rattle.world_step.proofs.PlaysRun.{Ran, none-yet, stepped, failed, ran-longer}
 use Rattle.settling.specs.LowProposals.{asked_at, Raises, RaisesShort, RaisesTwice, RaisesTwiceShort, Overtakes, OvertakesAndSettles, OvertakesShort}
 use Rattle.settling.specs.LowProposals.RaisesTwiceShort.{InSecond}
 use Rattle.settling.specs.LowProposals.RaisesShort.{AtTick, AtFlush, AtBehind}

@@ -16,8 +16,8 @@ use Rattle.law_agreement.proofs.KeepBySteps
 use Rattle.world_model.specs.declared.WorldEvent.TheVariants.{Deliver, Tick}
 use Rattle.world_step.specs.Pools.{first_for}
 use Rattle.world_step.specs.Worlds.{WorldModel}
-use Rattle.world_plays.specs.Plays.{lacks_memory, Plays, Fails}
-use Rattle.world_plays.proofs.Standing
+use Rattle.world_step.specs.Plays.{lacks_memory, Plays, Fails}
+use Rattle.world_step.proofs.Standing
 use Rattle.settling.specs.Settles.{would_follow, EndsSettling}
 use Rattle.settling.specs.LowProposals.{RaisesShort}
 use Rattle.settling.specs.LowProposals.RaisesShort.{AtTick, AtFlush, AtBehind}

@@ -13,7 +13,7 @@ use Rattle.std.proofs.lemmas.Option.{none-some, same_Some, cond_some, option_and
 use Rattle.std.proofs.Math.Seq.{drop-append_seam}
 use Rattle.address.specs.Ids.{Address, ViewId, same_address, view_id_cmp}
 use Rattle.address.proofs.SameIds.{same_address-refl, same_address-sym, same_address-true}
-use Rattle.limits.specs.declared.TheConstants.{GREATEST_NUMBER}
+use Rattle.address.specs.declared.limits.TheConstants.{GREATEST_NUMBER}
 use Rattle.view.specs.Members.{View, stands_in}
 use Rattle.view.proofs.MembersListed.{all-by}
 use Rattle.next_view.specs.ViewNotes.{having_heard}
@@ -25,7 +25,7 @@ use Rattle.flush.specs.Flushes.{FlushModel, has_reported, is_awaited}
 use Rattle.view_install.specs.Promises.{PromiseModel, answer_past, offered, is_accept, promising}
 use Rattle.view_install.specs.declared.promise.OfferAnswer.TheVariants.{Accept, Ignore}
 use Rattle.law_acts.specs.Acts.{packet, proposed}
-use Rattle.law_choices.specs.Decisions.{proposal_after, promised_counter}
+use Rattle.law_acts.specs.Decisions.{proposal_after, promised_counter}
 use Rattle.law_agreement.proofs.KeepBySteps
 use Rattle.step_output.specs.Outputs.{Grows}
 use Rattle.step_output.specs.Steps.{who}
@@ -46,10 +46,10 @@ use Rattle.world_step.proofs.MembersAtNodes
 use Rattle.world_step.proofs.InputsTaken.{when-false}
 use Rattle.world_step.proofs.KeepOfWorlds
 use Rattle.law_processes.proofs.PostsAreSpelled.{bytes_for}
-use Rattle.world_plays.specs.Plays.{lacks_memory, Plays}
-use Rattle.world_plays.proofs.PoolPackets.{bytes_as, IsSound, put-out, put-next, next-first}
-use Rattle.world_plays.proofs.Standing
-use Rattle.world_plays.proofs.Standing.{Stands}
+use Rattle.world_step.specs.Plays.{lacks_memory, Plays}
+use Rattle.world_step.proofs.PoolPackets.{bytes_as, IsSound, put-out, put-next, next-first}
+use Rattle.world_step.proofs.Standing
+use Rattle.world_step.proofs.Standing.{Stands}
 use Rattle.settling.specs.Settles.{would_follow}
 use Rattle.settling.specs.LowProposals.{told, past_in, promised_past, anew_with, raised, raised_in, raised_at, Raises, flush_in, IsRaised}
 use Rattle.settling.proofs.ReportsMissing.{awaited_by}

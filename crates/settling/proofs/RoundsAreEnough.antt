@@ -11,7 +11,7 @@ use Rattle.std.proofs.lemmas.Bool.Decides.{nat_tests}
 use Rattle.std.proofs.lemmas.Option.{none-some, same_Some}
 use Rattle.address.specs.Ids.{Address, ViewId, same_address, view_id_cmp}
 use Rattle.address.proofs.SameIds.{same_address-true, same_address-refl, same_address-sym}
-use Rattle.limits.specs.declared.TheConstants.{GREATEST_NUMBER}
+use Rattle.address.specs.declared.limits.TheConstants.{GREATEST_NUMBER}
 use Rattle.view.specs.Members.{View, stands_in}
 use Rattle.view.proofs.MembersListed.{all-by}
 use Rattle.view_install.specs.Promises.{PromiseModel, answer_past, offered, is_accept}
@@ -28,8 +28,8 @@ use Rattle.member.specs.Members.{MemberModel}
 use Rattle.world_step.specs.declared.node_state.NodeState.{NodeState}
 use Rattle.world_step.specs.declared.node_state.NodeState.TheVariants.{Vacant, Ended, Running}
 use Rattle.world_step.specs.Worlds.{WorldModel}
-use Rattle.world_plays.proofs.Standing
-use Rattle.world_plays.proofs.Standing.{Stands}
+use Rattle.world_step.proofs.Standing
+use Rattle.world_step.proofs.Standing.{Stands}
 use Rattle.settling.specs.Settles.{would_follow}
 use Rattle.settling.specs.LowProposals.{told, past_in, promised_past, raised_at, asked_at, further, furthest, beyond, beyond_all, followed_by_all, overtaking_at, is_present, CanOvertake}
 use Rattle.settling.proofs.WhoFollows

@@ -6,12 +6,12 @@ use Rattle.std.proofs.lemmas.Bool.{cond-true}
 use Rattle.std.proofs.lemmas.Bool.Decides.{nat_tests}
 use Rattle.std.proofs.lemmas.Option.{none-some, same_Some}
 use Rattle.address.specs.Ids.{Address}
-use Rattle.limits.specs.declared.TheConstants.{GREATEST_NUMBER}
+use Rattle.address.specs.declared.limits.TheConstants.{GREATEST_NUMBER}
 use Rattle.view.specs.Members.{View, stands_in}
 use Rattle.next_view.specs.Candidates.{candidates}
 use Rattle.flush.specs.Flushes.{FlushModel, is_awaited}
 use Rattle.law_acts.specs.Acts.{proposed}
-use Rattle.law_choices.specs.Decisions.{promised_counter}
+use Rattle.law_acts.specs.Decisions.{promised_counter}
 use Rattle.membership.specs.declared.member_state.MemberState.{MemberState}
 use Rattle.membership.specs.MemberStates.{view_in, anew_past}
 use Rattle.member.specs.Members.{MemberModel}

@@ -25,14 +25,14 @@ use Rattle.world_step.specs.Turns.{OthersStand}
 use Rattle.world_step.specs.Worlds.{WorldModel}
 use Rattle.world_step.proofs.MembersAtNodes
 use Rattle.law_processes.proofs.PostsAreSpelled.{EachSound}
-use Rattle.world_plays.specs.Plays.{lacks_memory, Fails, Delivers, Breaks}
-use Rattle.world_plays.specs.Plays.Delivers.{Still, Next}
-use Rattle.world_plays.specs.Plays.Breaks.{Here, Later}
-use Rattle.world_plays.proofs.Deliveries.{breaks-none, breaks-next, BreaksLater}
-use Rattle.world_plays.proofs.PlayedEvents
-use Rattle.world_plays.proofs.PoolPackets.{AreNext}
-use Rattle.world_plays.proofs.Standing
-use Rattle.world_plays.proofs.Standing.{Stands}
+use Rattle.world_step.specs.Plays.{lacks_memory, Fails, Delivers, Breaks}
+use Rattle.world_step.specs.Plays.Delivers.{Still, Next}
+use Rattle.world_step.specs.Plays.Breaks.{Here, Later}
+use Rattle.world_step.proofs.Deliveries.{breaks-none, breaks-next, BreaksLater}
+use Rattle.world_step.proofs.PlayedEvents
+use Rattle.world_step.proofs.PoolPackets.{AreNext}
+use Rattle.world_step.proofs.Standing
+use Rattle.world_step.proofs.Standing.{Stands}
 use Rattle.settling.specs.Settles.{settling_at, SettlesShort, EndsSettling}
 use Rattle.settling.specs.Settles.SettlesShort.{AtTick, AtFlush, AtReport, AtInstall}
 use Rattle.settling.proofs.ChunksInOrder.{chunks_from}

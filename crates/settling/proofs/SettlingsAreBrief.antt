@@ -3,7 +3,7 @@ use Rattle.std.proofs.Common.{◌≡◌, ◌≤◌, ◌+◌, ℕ, Bool, true, fa
 use Rattle.std.specs.Prelude.{IfSome, ◌||◌, unwrap_or}
 use Rattle.std.proofs.lemmas.Bool.Decides.{nat_tests}
 use Rattle.std.proofs.lemmas.Option.{none-some}
-use Rattle.limits.specs.declared.TheConstants.{MEMBERS, STATE, WHOLE_STATE}
+use Rattle.address.specs.declared.limits.TheConstants.{MEMBERS, STATE, WHOLE_STATE}
 use Rattle.address.specs.Ids.{Address, ViewId, same_address}
 use Rattle.address.proofs.SameIds.{same_address-true}
 use Rattle.view.specs.Members.{stands_in}
@@ -12,7 +12,7 @@ use Rattle.view.specs.declared.ViewError.TheVariants as errors
 use Rattle.view.specs.Members.{is_distinct}
 use Rattle.wire_values.specs.Chunks.{IsTotal}
 use Rattle.wire_values.specs.declared.values.state.GivenState.TheVariants as forms
-use Rattle.law_choices.specs.Decisions.{form_of, kept_of}
+use Rattle.law_acts.specs.Decisions.{form_of, kept_of}
 use Rattle.settling.proofs.StageOfInstalls.{chunks_said}
 
 -- a list without one of its elements is shorter

@@ -13,7 +13,7 @@ use Rattle.view.specs.Members.{View, stands_in, is_distinct}
 use Rattle.view.specs.View.{view_refusal, begins_with}
 use Rattle.view.specs.declared.ViewError.TheVariants as errors
 use Rattle.view.proofs.MembersListed.{all-by, filter-within, coordinator-in}
-use Rattle.limits.specs.declared.TheConstants.{MEMBERS}
+use Rattle.address.specs.declared.limits.TheConstants.{MEMBERS}
 use Rattle.wire_values.specs.Values.{Report}
 use Rattle.wire_values.specs.declared.packet.Body.TheVariants as bodies
 use Rattle.state_transfer.specs.Meanings.{Meaning}
@@ -23,7 +23,7 @@ use Rattle.view_install.specs.Promises.{PromiseModel, offered, is_accept}
 use Rattle.law_acts.specs.Histories.{Posted}
 use Rattle.law_acts.specs.Cores.{id_of}
 use Rattle.law_acts.specs.Acts.{packet, proposed, others_of, chunk_packets}
-use Rattle.law_choices.specs.Decisions.{promise_of, kept_of}
+use Rattle.law_acts.specs.Decisions.{promise_of, kept_of}
 use Rattle.wire_values.specs.Chunks.{IsTotal}
 use Rattle.law_agreement.proofs.KeepBySteps
 use Rattle.law_agreement.proofs.FinishedFlushes.{report-recorded}
@@ -44,19 +44,19 @@ use Rattle.world_step.specs.NodeStates.{bytes_of}
 use Rattle.world_step.proofs.MembersAsSystem.{system_of}
 use Rattle.world_step.specs.Invariant.{IsNodeStateOf}
 use Rattle.world_step.specs.Worlds.{WorldModel}
-use Rattle.world_plays.specs.Plays.{lacks_memory, Plays, Delivers, DeliversPast}
-use Rattle.world_plays.specs.Plays.Delivers.{Still, Next}
+use Rattle.world_step.specs.Plays.{lacks_memory, Plays, Delivers, DeliversPast}
+use Rattle.world_step.specs.Plays.Delivers.{Still, Next}
 use Rattle.law_processes.proofs.PostsAreSpelled.{EachSound, bytes_for}
 use Rattle.world_step.proofs.InputsTaken.{when-false}
 use Rattle.world_step.proofs.MembersAtNodes
 use Rattle.world_step.proofs.KeepOfWorlds
-use Rattle.world_plays.proofs.PoolPackets.{AreNext, put-next}
+use Rattle.world_step.proofs.PoolPackets.{AreNext, put-next}
 use Rattle.settling.specs.Settles.{would_follow, followed, settling_in, settling_at, begun_in, Settles, IsSettled}
 use Rattle.settling.proofs.SettlingsAreBrief.{shorter, members-few, chunks-few}
 use Rattle.settling.proofs.WhoFollows
 use Rattle.settling.proofs.ReportsMissing.{unreported, awaited_by, complete-at-last}
-use Rattle.world_plays.proofs.Standing
-use Rattle.world_plays.proofs.Standing.{Stands}
+use Rattle.world_step.proofs.Standing
+use Rattle.world_step.proofs.Standing.{Stands}
 use Rattle.settling.proofs.StageOfFlushes
 use Rattle.settling.proofs.StageOfFlushes.{Keeps, Accepts, Awaits, AreOthers, report_packets, flush_packets, sure}
 use Rattle.settling.proofs.StageOfReports

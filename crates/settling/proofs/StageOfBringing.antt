@@ -9,7 +9,7 @@ use Rattle.address.specs.Ids.{Address, ViewId, same_address, same_view_id}
 use Rattle.address.proofs.SameIds.{same_view_id-refl}
 use Rattle.address.proofs.Plain.{found}
 use Rattle.view.specs.Members.{View}
-use Rattle.limits.specs.declared.TheConstants.{STATE}
+use Rattle.address.specs.declared.limits.TheConstants.{STATE}
 use Rattle.wire_values.specs.Chunks.{IsTotal}
 use Rattle.wire_values.specs.Values as wire
 use Rattle.wire_values.specs.Values.{Chunk}
@@ -22,7 +22,7 @@ use Rattle.law_acts.specs.Histories.{Posted, report_of}
 use Rattle.law_acts.specs.Given.{Tells, chunk_at, chunks_of}
 use Rattle.law_acts.specs.Acts.{packet}
 use Rattle.trace_props.specs.State.{entry_state}
-use Rattle.law_choices.specs.Decisions.{is_entry}
+use Rattle.law_acts.specs.Decisions.{is_entry}
 use Rattle.law_agreement.specs.Packets.{IsInstruction}
 use Rattle.law_agreement.proofs.KeepBySteps
 use Rattle.step_output.specs.declared.output.Output.{Output}
@@ -46,11 +46,11 @@ use Rattle.world_step.specs.Worlds.{WorldModel}
 use Rattle.world_step.proofs.MembersAsSystem.{system_of}
 use Rattle.world_step.proofs.InputsTaken.{when-true, when-false}
 use Rattle.world_step.proofs.KeepOfWorlds
-use Rattle.world_plays.specs.Plays.{lacks_memory, Plays, Delivers}
-use Rattle.world_plays.proofs.PoolPackets.{bytes_as, put-out, put-next, AreNext, next-first, next-rest}
-use Rattle.world_plays.proofs.Deliveries.{delivers-none, delivers-next}
-use Rattle.world_plays.proofs.Standing
-use Rattle.world_plays.proofs.Standing.{Stands}
+use Rattle.world_step.specs.Plays.{lacks_memory, Plays, Delivers}
+use Rattle.world_step.proofs.PoolPackets.{bytes_as, put-out, put-next, AreNext, next-first, next-rest}
+use Rattle.world_step.proofs.Deliveries.{delivers-none, delivers-next}
+use Rattle.world_step.proofs.Standing
+use Rattle.world_step.proofs.Standing.{Stands}
 use Rattle.law_processes.proofs.PostsAreSpelled.{EachSound, bytes_for}
 use Rattle.settling.proofs.WhoAwaits
 use Rattle.settling.proofs.WhoAwaits.{Made, KeepsFor, Awaits, HasPromised}

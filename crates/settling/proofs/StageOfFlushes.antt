@@ -30,15 +30,15 @@ use Rattle.world_model.specs.Packets.{world_group}
 use Rattle.world_step.specs.Turns.{OthersStand}
 use Rattle.world_step.specs.Invariant.{IsWorld}
 use Rattle.world_step.specs.Worlds.{WorldModel}
-use Rattle.world_plays.specs.Plays.{lacks_memory, Plays, Delivers}
+use Rattle.world_step.specs.Plays.{lacks_memory, Plays, Delivers}
 use Rattle.law_processes.proofs.PostsAreSpelled.{EachSound, bytes_for}
 use Rattle.world_step.proofs.InputsTaken.{when-true, when-false}
 use Rattle.world_step.proofs.KeepOfWorlds
-use Rattle.world_plays.proofs.PoolPackets.{put-out, AreNext, next-first, next-rest}
-use Rattle.world_plays.proofs.Deliveries.{delivers-none, delivers-next}
+use Rattle.world_step.proofs.PoolPackets.{put-out, AreNext, next-first, next-rest}
+use Rattle.world_step.proofs.Deliveries.{delivers-none, delivers-next}
 use Rattle.settling.proofs.RulesByPacket
-use Rattle.world_plays.proofs.Standing
-use Rattle.world_plays.proofs.Standing.{Stands}
+use Rattle.world_step.proofs.Standing
+use Rattle.world_step.proofs.Standing.{Stands}
 
 -- what was put out by one who reported
 abbrev pub report_packet : Address → ViewId → Address × Report → Posted

@@ -6,7 +6,7 @@ use Rattle.std.specs.Option.{option_eq}
 use Rattle.std.proofs.lemmas.List.{append-nil}
 use Rattle.std.proofs.lemmas.Bool.{and_from, and_parts, not-true}
 use Rattle.std.proofs.lemmas.Option.{none-some}
-use Rattle.limits.specs.declared.TheConstants.{WHOLE_STATE}
+use Rattle.address.specs.declared.limits.TheConstants.{WHOLE_STATE}
 use Rattle.address.specs.Ids.{Address, ViewId, same_address, same_view_id}
 use Rattle.address.proofs.SameIds.{same_address-true, same_address-from, same_address-sym, same_view_id-refl}
 use Rattle.view.specs.Members.{View, stands_in, is_distinct}
@@ -20,7 +20,7 @@ use Rattle.law_acts.specs.Histories.{Posted}
 use Rattle.law_acts.specs.Cores.{id_of}
 use Rattle.law_acts.specs.Given.{chunk_at, chunks_of}
 use Rattle.law_acts.specs.Acts.{packet, proposed, chunk_packets}
-use Rattle.law_choices.specs.Decisions.{form_of, is_entry}
+use Rattle.law_acts.specs.Decisions.{form_of, is_entry}
 use Rattle.law_agreement.specs.Packets.{IsInstruction}
 use Rattle.law_agreement.proofs.KeepBySteps
 use Rattle.step_output.specs.declared.output.Output.{Output}
@@ -38,17 +38,17 @@ use Rattle.world_step.specs.NodeStates.{bytes_of}
 use Rattle.world_step.proofs.MembersAsSystem.{system_of}
 use Rattle.world_step.specs.Turns.{OthersStand}
 use Rattle.world_step.specs.Worlds.{WorldModel}
-use Rattle.world_plays.specs.Plays.{lacks_memory, Plays, Delivers}
-use Rattle.world_plays.specs.Plays.Delivers.{Still, Next}
+use Rattle.world_step.specs.Plays.{lacks_memory, Plays, Delivers}
+use Rattle.world_step.specs.Plays.Delivers.{Still, Next}
 use Rattle.law_processes.proofs.PostsAreSpelled.{EachSound}
 use Rattle.world_step.proofs.KeepOfWorlds
-use Rattle.world_plays.proofs.PoolPackets.{put-out, AreNext, next-first, next-rest}
-use Rattle.world_plays.proofs.Deliveries.{delivers-none, delivers-next}
+use Rattle.world_step.proofs.PoolPackets.{put-out, AreNext, next-first, next-rest}
+use Rattle.world_step.proofs.Deliveries.{delivers-none, delivers-next}
 use Rattle.settling.proofs.ChunksInOrder.{chunks_from, next-is-new, all-there, one-further}
 use Rattle.settling.proofs.PromisedGoIn
 use Rattle.settling.proofs.RulesByPacket
-use Rattle.world_plays.proofs.Standing
-use Rattle.world_plays.proofs.Standing.{Stands}
+use Rattle.world_step.proofs.Standing
+use Rattle.world_step.proofs.Standing.{Stands}
 use Rattle.settling.proofs.StageOfFlushes
 use Rattle.settling.proofs.StageOfFlushes.{Keeps, sure}
 use Rattle.settling.proofs.StageOfReports

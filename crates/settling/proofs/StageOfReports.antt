@@ -29,7 +29,7 @@ use Rattle.step_output.proofs.GrowthAdds.{grows-nothing, grows-then}
 use Rattle.traffic.specs.declared.view_state.ViewState.{ViewState}
 use Rattle.traffic.proofs.NewViewTraffic.{fresh-view}
 use Rattle.wire_values.specs.Chunks.{IsTotal}
-use Rattle.law_choices.specs.Decisions.{due_proposal, kept_of}
+use Rattle.law_acts.specs.Decisions.{due_proposal, kept_of}
 use Rattle.membership.specs.InSteps.{InStep, in_step}
 use Rattle.membership.specs.declared.member_state.MemberState.{MemberState}
 use Rattle.membership.specs.MemberStates.{core_of as core_at, view_in, view_core_in, is_complete}
@@ -42,17 +42,17 @@ use Rattle.world_step.specs.NodeStates.{bytes_of}
 use Rattle.world_step.proofs.MembersAsSystem.{system_of}
 use Rattle.world_step.specs.Turns.{OthersStand}
 use Rattle.world_step.specs.Worlds.{WorldModel}
-use Rattle.world_plays.specs.Plays.{lacks_memory, Plays, Delivers}
+use Rattle.world_step.specs.Plays.{lacks_memory, Plays, Delivers}
 use Rattle.law_processes.proofs.PostsAreSpelled.{EachSound, bytes_for}
 use Rattle.world_step.proofs.InputsTaken.{when-false}
 use Rattle.world_step.proofs.KeepOfWorlds
-use Rattle.world_plays.proofs.PoolPackets.{put-out, AreNext, next-first, next-rest}
-use Rattle.world_plays.proofs.Deliveries.{delivers-none, delivers-next}
+use Rattle.world_step.proofs.PoolPackets.{put-out, AreNext, next-first, next-rest}
+use Rattle.world_step.proofs.Deliveries.{delivers-none, delivers-next}
 use Rattle.settling.proofs.WhoFollows
 use Rattle.settling.proofs.ReportsMissing.{awaited_by, complete-at-last, waits-on, next-report, first-awaited}
 use Rattle.settling.proofs.RulesByPacket
-use Rattle.world_plays.proofs.Standing
-use Rattle.world_plays.proofs.Standing.{Stands}
+use Rattle.world_step.proofs.Standing
+use Rattle.world_step.proofs.Standing.{Stands}
 use Rattle.settling.proofs.StageOfFlushes.{report_packet, report_packets, Keeps, Awaits, awaits-still, sure}
 
 -- how many FLUSHes a member puts out for its own flush, where it begins one

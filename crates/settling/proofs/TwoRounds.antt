@@ -10,7 +10,7 @@ use Rattle.std.proofs.lemmas.Bool.Decides.{nat_tests}
 use Rattle.std.proofs.lemmas.Option.{none-some, same_Some, cond_some, option_and_then_some}
 use Rattle.address.specs.Ids.{Address, same_address}
 use Rattle.address.proofs.SameIds.{same_address-refl, same_address-sym, same_address-true}
-use Rattle.limits.specs.declared.TheConstants.{GREATEST_NUMBER}
+use Rattle.address.specs.declared.limits.TheConstants.{GREATEST_NUMBER}
 use Rattle.view.specs.Members.{View, stands_in}
 use Rattle.view.proofs.MembersListed.{all-by}
 use Rattle.next_view.specs.ViewNotes.{NotesModel, having_heard}
@@ -19,7 +19,7 @@ use Rattle.state_transfer.specs.Meanings.{Meaning}
 use Rattle.flush.specs.Flushes.{FlushModel, has_reported, is_awaited}
 use Rattle.view_install.specs.Promises.{PromiseModel, offered, is_accept}
 use Rattle.law_acts.specs.Acts.{proposed}
-use Rattle.law_choices.specs.Decisions.{proposal_after, promised_counter}
+use Rattle.law_acts.specs.Decisions.{proposal_after, promised_counter}
 use Rattle.law_agreement.proofs.KeepBySteps
 use Rattle.traffic.specs.declared.view_state.ViewState.{ViewState}
 use Rattle.membership.specs.declared.member_state.MemberState.{MemberState}
@@ -31,9 +31,9 @@ use Rattle.world_step.specs.declared.node_state.NodeState.TheVariants.{Running}
 use Rattle.world_step.specs.Pools.{first_for}
 use Rattle.world_step.specs.Turns.{OthersStand}
 use Rattle.world_step.specs.Worlds.{WorldModel}
-use Rattle.world_plays.specs.Plays.{Plays}
-use Rattle.world_plays.proofs.Standing
-use Rattle.world_plays.proofs.Standing.{Stands}
+use Rattle.world_step.specs.Plays.{Plays}
+use Rattle.world_step.proofs.Standing
+use Rattle.world_step.proofs.Standing.{Stands}
 use Rattle.settling.specs.Settles.{would_follow, followed, settling_in, settling_at, Settles, IsSettled}
 use Rattle.settling.specs.LowProposals.{told, past_in, promised_past, raised_at, Raises, further, furthest, asked_of, asked_in, asked_at, beyond, beyond_all, followed_by_all, overtaking_at, Overtakes}
 use Rattle.settling.proofs.SettlingsSettle

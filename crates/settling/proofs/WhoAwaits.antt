@@ -22,7 +22,7 @@ use Rattle.law_acts.specs.Histories.{flush_of, report_of}
 use Rattle.law_acts.specs.Cores.{install_sent_to}
 use Rattle.law_acts.specs.Given.{chunk_at}
 use Rattle.law_acts.specs.Acts.{proposed}
-use Rattle.law_choices.specs.Decisions.{promise_of}
+use Rattle.law_acts.specs.Decisions.{promise_of}
 use Rattle.law_agreement.specs.Invariant.{KeepsGiven}
 use Rattle.law_agreement.specs.Packets.{IsInstruction}
 use Rattle.law_agreement.proofs.KeepBySteps
@@ -36,8 +36,8 @@ use Rattle.member_views.specs.Views.{expects}
 use Rattle.world_model.specs.Packets.{world_group}
 use Rattle.world_step.proofs.MembersAsSystem.{system_of}
 use Rattle.world_step.specs.Worlds.{WorldModel}
-use Rattle.world_plays.proofs.Standing
-use Rattle.world_plays.proofs.Standing.{Stands}
+use Rattle.world_step.proofs.Standing
+use Rattle.world_step.proofs.Standing.{Stands}
 use Rattle.settling.proofs.WhoFollows
 use Rattle.settling.proofs.ChunksAreHeld.{are_of, are-all-of, finds}
 use Rattle.settling.proofs.StageOfFlushes.{Keeps}

@@ -22,7 +22,7 @@ use Rattle.law_acts.specs.Cores.{Core, id_of}
 use Rattle.law_acts.specs.Given.{chunk_at}
 use Rattle.trace_props.specs.State.{entry_state}
 use Rattle.law_acts.specs.Acts.{proposed}
-use Rattle.law_choices.specs.Decisions.{promise_of}
+use Rattle.law_acts.specs.Decisions.{promise_of}
 use Rattle.law_agreement.specs.Steps.{System}
 use Rattle.law_agreement.specs.Members.{IsNotPast}
 use Rattle.law_agreement.specs.Invariant.{Invariant, ChunkFact}

@@ -11,7 +11,7 @@ use Rattle.world_model.specs.declared.WorldEvent.TheVariants.{Deliver, Tick}
 use Rattle.world_step.specs.declared.node_state.NodeState.{NodeState}
 use Rattle.world_step.specs.declared.node_state.NodeState.TheVariants.{Vacant, Ended, Running}
 use Rattle.world_step.specs.Worlds.{WorldModel}
-use Rattle.world_plays.specs.Plays.{Plays, Fails, DeliversPast, BreaksPast}
+use Rattle.world_step.specs.Plays.{Plays, Fails, DeliversPast, BreaksPast}
 use Rattle.settling.specs.Settles.{would_follow}
 
 -- ---- whom it is about

@@ -4,7 +4,7 @@ use Rattle.std.specs.List.{list_all}
 use Rattle.std.specs.Option.{ForSome, IsSomeAnd, option_map, option_map_or, option_and_then}
 use Rattle.address.specs.Ids.{Address, same_address}
 use Rattle.view.specs.Members.{View, stands_in}
-use Rattle.limits.specs.declared.TheConstants.{GREATEST_NUMBER}
+use Rattle.address.specs.declared.limits.TheConstants.{GREATEST_NUMBER}
 use Rattle.state_transfer.specs.Meanings.{Meaning}
 use Rattle.next_view.specs.Candidates.{candidates}
 use Rattle.flush.specs.Flushes.{FlushModel, has_reported, is_awaited}
@@ -18,7 +18,7 @@ use Rattle.world_step.specs.declared.node_state.NodeState.TheVariants.{Vacant, E
 use Rattle.world_step.specs.Pools.{first_for}
 use Rattle.world_step.specs.Turns.{OthersStand}
 use Rattle.world_step.specs.Worlds.{WorldModel, IsReached}
-use Rattle.world_plays.specs.Plays.{Plays, Fails}
+use Rattle.world_step.specs.Plays.{Plays, Fails}
 use Rattle.settling.specs.declared.rounds.Round.{Round}
 use Rattle.settling.specs.Settles.{would_follow, settling_at, Settles, SettlesShort, IsSettled, EndsSettling}
 

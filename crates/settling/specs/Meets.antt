@@ -3,7 +3,7 @@ use Rattle.std.specs.Prelude.{◌≡◌, ℕ, ◌+◌, ◌<◌, max, true, [], �
 use Rattle.std.specs.Option.{IsSomeAnd, option_map, option_map_or}
 use Rattle.address.specs.Ids.{Address}
 use Rattle.view.specs.Members.{View}
-use Rattle.limits.specs.declared.TheConstants.{GREATEST_NUMBER}
+use Rattle.address.specs.declared.limits.TheConstants.{GREATEST_NUMBER}
 use Rattle.state_transfer.specs.Meanings.{Meaning}
 use Rattle.next_view.specs.ViewNotes.{NotesModel}
 use Rattle.membership.specs.declared.member_state.MemberState.{MemberState}
@@ -13,7 +13,7 @@ use Rattle.member_views.specs.Views.{is_less}
 use Rattle.world_model.specs.declared.WorldEvent.TheVariants.{MergeHint, Deliver}
 use Rattle.world_step.specs.declared.node_state.NodeState.TheVariants.{Running}
 use Rattle.world_step.specs.Worlds.{WorldModel, IsReached}
-use Rattle.world_plays.specs.Plays.{Plays}
+use Rattle.world_step.specs.Plays.{Plays}
 use Rattle.settling.specs.Settles.{settling_at, Settles, IsSettled}
 
 -- the member of an address runs, alone in its view, and is not blocked

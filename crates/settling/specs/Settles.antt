@@ -17,7 +17,7 @@ use Rattle.world_model.specs.Histories.{running}
 use Rattle.world_step.specs.declared.node_state.NodeState.{NodeState}
 use Rattle.world_step.specs.declared.node_state.NodeState.TheVariants.{Vacant, Ended, Running}
 use Rattle.world_step.specs.Worlds.{WorldModel, IsReached}
-use Rattle.world_plays.specs.Plays.{Plays, Fails, Delivers, DeliversPast, Breaks, BreaksPast}
+use Rattle.world_step.specs.Plays.{Plays, Fails, Delivers, DeliversPast, Breaks, BreaksPast}
 
 -- ---- whom it is about
 

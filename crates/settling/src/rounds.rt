@@ -10,8 +10,8 @@ ghost use Rattle.world_step.specs.declared.node_state.NodeState.TheVariants.{Run
 ghost use Rattle.settling.specs.LowProposals.{promised_past, furthest, asked_at, round_in, round_at, asked_past, beyond, beyond_all, followed_by_all, overtaking_at};
 
 use crate::followers::all_follow;
+use address::limits::GREATEST_NUMBER;
 use address::{Address, Node, ViewId};
-use limits::GREATEST_NUMBER;
 use member::Member;
 use state_transfer::Receiver;
 use std::alloc::AllocError;

@@ -9,7 +9,7 @@ use Rattle.std.proofs.lemmas.Option.{none-some, same_Some, slice_get-map}
 use Rattle.std.specs.Option.{option_map}
 use Rattle.trace_props.proofs.KeepFourRules.{Contains-at}
 use Rattle.address.specs.Ids.{ViewId}
-use Rattle.limits.specs.declared.TheConstants.{CHUNK}
+use Rattle.address.specs.declared.limits.TheConstants.{CHUNK}
 use Rattle.wire_values.specs.Values.{Chunk}
 use Rattle.wire_values.specs.Chunks.{chunk_len}
 use Rattle.wire_values.specs.Lists.{IsChunk}

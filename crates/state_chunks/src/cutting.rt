@@ -1,10 +1,10 @@
 ghost use Rattle.std.specs.Prelude.{◌≡◌, ◌≤◌, ◌<◌, ◌+◌, ◌*◌, length};
-ghost use Rattle.limits.specs.declared.TheConstants.{STATE, CHUNK};
+ghost use Rattle.address.specs.declared.limits.TheConstants.{STATE, CHUNK};
 ghost use Rattle.wire_values.specs.Chunks.{IsTotal, IsPlace, IsCut, chunk_of};
 ghost use Rattle.law_acts.specs.Given.{chunk_at};
 ghost use Rattle.state_chunks.specs.HeldChunks.{chunk_count};
 
-use limits::{CHUNK, STATE};
+use address::limits::{CHUNK, STATE};
 use wire_values::{Chunk, Total};
 
 /// How many chunks a state of so many bytes has, at most `STATE` of them: 1 to 32, and 0 for none.

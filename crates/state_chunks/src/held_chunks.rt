@@ -2,11 +2,11 @@ ghost use Rattle.std.specs.Prelude.{◌≡◌, ◌≤◌, ◌+◌, ◌++◌, ◌
 ghost use Rattle.std.specs.Option.{option_copied};
 ghost use Rattle.wire_values.specs.Lists.{IsChunk};
 ghost use Rattle.std.specs.List.{AllByRecursion, list_all, list_any, flat_map, range_with_len};
-ghost use Rattle.limits.specs.declared.TheConstants.{STATE};
+ghost use Rattle.address.specs.declared.limits.TheConstants.{STATE};
 ghost use Rattle.state_chunks.specs.HeldChunks.{is_new, is_at, has_all, bytes_at, joined_of, is_there, given_in};
 
 use crate::chunk_count;
-use owned_bytes::Bytes;
+use address::Bytes;
 use std::alloc::{AllocError, Global};
 use std::marker::Model;
 use wire_values::{Chunk, GivenState, Total};

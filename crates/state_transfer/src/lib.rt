@@ -4,7 +4,7 @@
 ghost use Rattle.std.specs.Prelude.{◌≡◌, ◌≤◌, ◌++◌, length, List, ℕ, Some, true, false, IfOk, OnOk, MatchOption};
 ghost use Rattle.address.specs.Ids.{Address, IsAddress};
 ghost use Rattle.state_transfer.specs.Meanings.{Meaning};
-ghost use Rattle.limits.specs.declared.TheConstants.{PAYLOAD, STATE};
+ghost use Rattle.address.specs.declared.limits.TheConstants.{PAYLOAD, STATE};
 
 use address::Address;
 use std::alloc::{AllocError, Global};

@@ -5,8 +5,7 @@ ghost use Rattle.law_acts.specs.Acts.{packet};
 ghost use Rattle.step_output.specs.Outputs.{Grows, packet_in, spelled, is_for};
 
 use crate::{Outgoing, Output, OwnedName};
-use address::Address;
-use owned_bytes::Bytes;
+use address::{Address, Bytes};
 use std::alloc::{AllocError, Global};
 use trace_props::Event;
 use wire::encode;

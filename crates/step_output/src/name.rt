@@ -1,7 +1,7 @@
 ghost use Rattle.std.specs.Prelude.{◌≡◌};
 ghost use Rattle.step_output.specs.Names.{same_name};
 
-use limits::GROUP_NAME;
+use address::limits::GROUP_NAME;
 use std::marker::Model;
 use wire_values::GroupName;
 
@@ -14,7 +14,7 @@ pub struct OwnedName {
 
 impl Model for OwnedName {
     ghost use Rattle.std.specs.Prelude.{List, ℕ, take, ◌≡◌, ◌≤◌, true};
-    ghost use Rattle.limits.specs.declared.TheConstants.{GROUP_NAME};
+    ghost use Rattle.address.specs.declared.limits.TheConstants.{GROUP_NAME};
     ghost use Rattle.wire_values.specs.Names.{is_group_name};
 
     ghost Value = { List ℕ };

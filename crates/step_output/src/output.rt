@@ -1,8 +1,7 @@
 ghost use Rattle.std.specs.Prelude.{[]};
 ghost use Rattle.step_output.specs.Outputs.{Puts};
 
-use address::Address;
-use owned_bytes::Bytes;
+use address::{Address, Bytes};
 use std::alloc::Global;
 use trace_props::Event;
 

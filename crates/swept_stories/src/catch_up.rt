@@ -1,8 +1,7 @@
 //! Brings a member level that lost two messages, and answers a number of what came of it.
 
-use address::{Address, Node};
+use address::{Address, Bytes, Node};
 use chat_log::ChatLog;
-use owned_bytes::Bytes;
 use std::alloc::{AllocError, Global};
 use trace_props::Event;
 use world::World;

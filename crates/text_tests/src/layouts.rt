@@ -1,7 +1,7 @@
 //! Where the events of worked traces stand.
 
+use address::limits::Refusal;
 use address::{Address, Node};
-use limits::Refusal;
 use std::alloc::Global;
 use std::process::Abort;
 use trace_drawing::{Aside, AsideKind, AsideRow, Layout, Line, Row, lay_out};

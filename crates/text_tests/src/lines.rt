@@ -1,6 +1,5 @@
 use crate::fixtures::address;
-use address::ViewId;
-use owned_bytes::Bytes;
+use address::{Bytes, ViewId};
 use std::alloc::{AllocError, Global};
 use trace_props::{BoxedInstall, Delivery, Event, HandedBack, Install, Message, Numbered, Sending};
 use view::{Addresses, View};

@@ -1,5 +1,5 @@
 use crate::fixtures::is;
-use owned_bytes::Bytes;
+use address::Bytes;
 use std::alloc::{AllocError, Global};
 use vsync_text::{append_packet, append_packets, put_decimal};
 

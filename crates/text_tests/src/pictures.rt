@@ -1,8 +1,7 @@
 //! The pictures of worked traces, spelled out by hand.
 
-use address::Node;
-use limits::Refusal;
-use owned_bytes::Bytes;
+use address::limits::Refusal;
+use address::{Bytes, Node};
 use std::alloc::Global;
 use std::process::Abort;
 use trace_drawing::{Aside, AsideKind, draw};

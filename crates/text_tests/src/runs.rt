@@ -1,4 +1,4 @@
-use limits::Refusal;
+use address::limits::Refusal;
 use std::alloc::Global;
 use std::io;
 use std::io::Write;

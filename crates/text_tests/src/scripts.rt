@@ -3,7 +3,7 @@ use script_reader::{Script, read_script};
 use std::process::Abort;
 use world_model::WorldEvent;
 
-// What other scripts say, and which are refused, stands as text in the files of the crate `scenarios`.
+// What other scripts say, and which are refused, stands as text in the files of `tests/data`.
 
 const EACH: &[u8] =
     b"start 1\n\n# a comment\ncreate 2\njoin 65535 65535.4294967295\nsend 7  \xff# 1\n#\ndeliver 4611686018427387904\ntick 9\nleave 65534\ncrash 10";

@@ -1,6 +1,6 @@
 use crate::fixtures::{address, with_copies};
+use address::limits::TRACE_LINE;
 use chat_log::ChatLog;
-use limits::TRACE_LINE;
 use script_reader::Unread;
 use std::alloc::Global;
 use std::process::Abort;
@@ -41,7 +41,7 @@ fn first_unlike<'a>(alloc: Global, texts: &[&'a str]) -> Option<&'a str> {
     None
 }
 
-// Lines that are refused stand as text in the files `faults-check-*.txt` of the crate `scenarios`.
+// Lines that are refused stand as text in the files `tests/data/faults-check-*.txt`.
 const WHOLE: [&str; 12] = [
     "",
     "started 1.1\n",
@@ -242,7 +242,7 @@ fn verdict_on(alloc: Global, text: &[u8]) -> Option<Verdict> {
     check::<ChatLog>(alloc, &trace).ok()
 }
 
-// What each rule refuses and what it lets pass stands as text in the files `check-*.txt` of the crate `scenarios`.
+// What each rule refuses and what it lets pass stands as text in the files `tests/data/check-*.txt`.
 #[test]
 fn a_trace_that_keeps_the_rules_holds(rt: HostRuntime) {
     assert!(rt; verdict_on(rt.alloc(), b"started 1.1\nleft 1.1\n") == Some(Verdict::Holds));

@@ -4,7 +4,7 @@ use Rattle.std.specs.Option.{option_or}
 use Rattle.std.specs.List.{list_any}
 use Rattle.std.proofs.lemmas.List.Folds.{list_any-append}
 use Rattle.std.proofs.lemmas.Option.{none-some, same_Some}
-use Rattle.limits.specs.declared.refusal.Refusal.{Refusal}
+use Rattle.address.specs.declared.refusal.Refusal.{Refusal}
 use Rattle.trace_drawing.specs.declared.aside.AsideKind.{AsideKind}
 use Rattle.trace_drawing.specs.declared.aside.AsideKind.TheVariants.{Refused, PutOut, HandedOver}
 use Rattle.trace_drawing.specs.declared.aside.AsideRow.{AsideRow}

@@ -1,8 +1,8 @@
 -- The marks of what was refused: where it was, and the script's line.
 use Rattle.std.specs.Prelude.{ℕ, ◌+◌, ◌-◌, List, ◌++◌, codes}
-use Rattle.limits.specs.declared.refusal.Refusal.{Refusal}
-use Rattle.limits.specs.declared.refusal.Refusal.TheVariants.{NotConnected, Blocked, Busy, TooLong, AlreadyConnected, Closed, Memory, Exhausted, BadName}
-use Rattle.limits.specs.Refusals.{number_of}
+use Rattle.address.specs.declared.refusal.Refusal.{Refusal}
+use Rattle.address.specs.declared.refusal.Refusal.TheVariants.{NotConnected, Blocked, Busy, TooLong, AlreadyConnected, Closed, Memory, Exhausted, BadName}
+use Rattle.address.specs.Refusals.{number_of}
 use Rattle.vsync_text.specs.Runs.{refusal_line}
 use Rattle.trace_drawing.specs.declared.aside.AsideRow.{AsideRow}
 use Rattle.trace_drawing.specs.Marks.{x_in, y_of}

@@ -1,5 +1,5 @@
 use address::Node;
-use limits::Refusal;
+use address::limits::Refusal;
 
 /// What stands between a trace's events: something that was refused, or a packet on its way.
 #[derive(Clone, Copy, Debug, PartialEq, Eq)]

@@ -8,7 +8,7 @@ use crate::aside::{AsideKind, AsideRow};
 use crate::packets::{bytes_numbered, put_handed_group, put_packet_group};
 use crate::refusals::put_refused_group;
 use crate::ways::Ways;
-use owned_bytes::Bytes;
+use address::Bytes;
 use std::alloc::{AllocError, Global};
 use vsync_text::put;
 

@@ -4,7 +4,7 @@ ghost use Rattle.std.specs.Prelude.{◌≡◌, ℕ, None, Some, nat_eq, if◌the
 ghost use Rattle.trace_drawing.specs.Packets.{row_in};
 
 use crate::known::put_row;
-use owned_bytes::Bytes;
+use address::Bytes;
 use std::alloc::{AllocError, Global};
 use std::collections::HashMap;
 

@@ -11,7 +11,7 @@ use crate::aside::AsideRow;
 use crate::marks::{Mark, Place, aside_place, x_in, y_of};
 use crate::spelling::{put_mark, put_over, put_some_mark, put_text_start};
 use crate::ways::Ways;
-use owned_bytes::Bytes;
+use address::Bytes;
 use std::alloc::AllocError;
 use vsync_text::{append_packet, put};
 

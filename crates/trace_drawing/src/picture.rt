@@ -17,7 +17,7 @@ use crate::marks::{
 use crate::row::{Line, Row};
 use crate::spelling::{put_mark, put_number, put_over, put_some_mark};
 use crate::texts::{put_line_title, put_name_above, put_row_number, put_texts};
-use owned_bytes::Bytes;
+use address::Bytes;
 use std::alloc::{AllocError, Global};
 use trace_props::{Event, Verdict};
 use vsync_text::{append_event, put};

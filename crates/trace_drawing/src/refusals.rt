@@ -6,7 +6,7 @@ ghost use Rattle.trace_drawing.specs.Refused.{reason_of, refused_place, refused_
 use crate::aside::AsideRow;
 use crate::marks::{x_in, y_of};
 use crate::spelling::put_number;
-use limits::Refusal;
+use address::limits::Refusal;
 use std::alloc::AllocError;
 use vsync_text::{append_refusal, put};
 

@@ -9,7 +9,7 @@ ghost use Rattle.trace_drawing.specs.Packets.{towards, in_the_air, lost_way, way
 use crate::aside::{AsideKind, AsideRow};
 use crate::marks::{Mark, Place, aside_place, x_in, y_of};
 use crate::packet_rows::PacketRows;
-use owned_bytes::Bytes;
+use address::Bytes;
 use std::alloc::{AllocError, Global};
 
 /// In which row each packet is put out last, and in which it is handed over last, if it is.

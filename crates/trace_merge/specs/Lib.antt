@@ -1,3 +1,4 @@
 pub mod Facts
 pub mod Merges
 pub mod Outcomes
+pub mod Apart

@@ -3,7 +3,7 @@
 ghost use Rattle.std.specs.Prelude.{◌≡◌, IfOk, map};
 ghost use Rattle.trace_props.specs.Recorded.{IsShort};
 
-use owned_bytes::Bytes;
+use address::Bytes;
 use std::alloc::{AllocError, Global};
 use trace_props::{BoxedInstall, Delivery, Event, HandedBack, Install, Message, Numbered, Sending};
 use view::View;

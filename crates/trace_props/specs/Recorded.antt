@@ -1,6 +1,6 @@
 -- A trace as contracts see it, and what every trace keeps.
 use Rattle.std.specs.Prelude.{◌≡◌, ℕ, ◌≤◌, List, length, slice_get, Some}
-use Rattle.limits.specs.declared.TheConstants.{PAYLOAD}
+use Rattle.address.specs.declared.limits.TheConstants.{PAYLOAD}
 use Rattle.trace_props.specs.declared.event.Event.{Event}
 use Rattle.trace_props.specs.declared.event.Event.TheVariants.{Started, Sent, Delivered, Blocked, Installed, Left, Crashed}
 use Rattle.trace_props.specs.declared.event.Numbered.{Numbered}

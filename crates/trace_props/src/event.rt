@@ -1,7 +1,6 @@
 ghost use Rattle.std.specs.Prelude.{◌≡◌, [], IfOk};
 
-use address::{Address, ViewId};
-use owned_bytes::Bytes;
+use address::{Address, Bytes, ViewId};
 use std::alloc::{AllocError, Global};
 use std::marker::Model;
 use view::{Addresses, View};

@@ -8,7 +8,7 @@ use Rattle.std.specs.Option.{ForSome}
 use Rattle.std.specs.Str.{bytes_eq}
 use Rattle.std.specs.Fmt.{decimal}
 use Rattle.address.specs.Ids.{Address, ViewId, IsAddress, text_of_address, text_of_view_id}
-use Rattle.limits.specs.declared.TheConstants.{GREATEST_NUMBER, PAYLOAD, GREATEST_INCARNATION, GREATEST_NODE}
+use Rattle.address.specs.declared.limits.TheConstants.{GREATEST_NUMBER, PAYLOAD, GREATEST_INCARNATION, GREATEST_NODE}
 use Rattle.view.specs.Members.{View, is_distinct}
 use Rattle.view.specs.View.{view_refusal}
 use Rattle.trace_props.specs.declared.event.Numbered.{Numbered}

@@ -6,7 +6,7 @@ use Rattle.std.specs.Char.{is_ascii_digit}
 use Rattle.std.specs.List.{list_all, position_or_len}
 use Rattle.std.specs.Prelude.{option_and_then, unwrap_or}
 use Rattle.address.specs.Ids.{Address, ViewId}
-use Rattle.limits.specs.declared.TheConstants.{GREATEST_NUMBER, GREATEST_INCARNATION, GREATEST_NODE}
+use Rattle.address.specs.declared.limits.TheConstants.{GREATEST_NUMBER, GREATEST_INCARNATION, GREATEST_NODE}
 use Rattle.script_reader.specs.AddressText.{address_of_text, address_from}
 use Rattle.script_reader.specs.Fields.{spelled_at, field_at, and_rest}
 use Rattle.script_reader.specs.Lines.{before_byte, behind_byte, field_of, behind_field}

@@ -1,4 +1,6 @@
 pub mod TracesRead
+pub mod WholeLines
+pub mod PiecesRead
 pub mod ListsAreRead
 pub mod TextsCut
 pub mod Numerals

@@ -15,7 +15,7 @@ use Rattle.script_reader.specs.AddressText.{address_of_text}
 use Rattle.vsync_text.specs.TraceText.{text_of_payload, text_of_previous, text_of_addresses, text_of_handed_back, text_of_given, event_word, fields_of, field, sending_fields, delivery_fields, install_view, install_rest}
 use Rattle.trace_reader.specs.declared.line.Word.{Word}
 use Rattle.trace_reader.specs.declared.line.Word.TheVariants.{Started, Sent, Delivered, Blocked, Installed, Left, Crashed}
-use Rattle.limits.specs.declared.TheConstants.{TRACE_LINE}
+use Rattle.address.specs.declared.limits.TheConstants.{TRACE_LINE}
 use Rattle.trace_reader.specs.Spelling.{number_of_text, view_id_of_text, previous_of_text, payload_of_text, view_of_text, together_of_text, handed_back_of_text, given_of_text}
 use Rattle.script_reader.specs.Fields.{field_at, spelled_at, end_at, last}
 use Rattle.trace_reader.specs.Fields.{sending_at, delivery_at, view_at, install_at, stable_at}

@@ -2,7 +2,7 @@
 use Rattle.std.proofs.Common.{◌≡◌, ℕ, ◌+◌, ◌<◌, Bool, true, false, List, [], ◌∷◌, ◌++◌, Option, None, Some, length, nat_eq, take, drop, not, cond, refl, sym, ◌∙◌, ap, subst, append_assoc, append-nil, zero, suc, arith, ◌≤◌}
 use Rattle.std.specs.List.{onto_first, position_or_len}
 use Rattle.std.specs.Prelude.{IfSome}
-use Rattle.limits.specs.declared.TheConstants.{PAYLOAD}
+use Rattle.address.specs.declared.limits.TheConstants.{PAYLOAD}
 use Rattle.trace_props.specs.declared.event.Numbered.{Numbered}
 use Rattle.script_reader.specs.Lines.{before_byte, behind_byte, behind}
 use Rattle.trace_reader.specs.Spelling.{AreShort}

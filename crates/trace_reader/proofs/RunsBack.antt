@@ -10,10 +10,10 @@ use Rattle.std.specs.Fmt.{decimal}
 use Rattle.trace_props.specs.declared.event.Event.{Event}
 use Rattle.world_model.specs.declared.Answer.{Answer}
 use Rattle.world_model.specs.declared.Answer.TheVariants.{Done, Sent, Refused}
-use Rattle.limits.specs.declared.refusal.Refusal.{Refusal}
-use Rattle.limits.specs.declared.refusal.Refusal.TheVariants.{Memory}
+use Rattle.address.specs.declared.refusal.Refusal.{Refusal}
+use Rattle.address.specs.declared.refusal.Refusal.TheVariants.{Memory}
 use Rattle.world_model.specs.declared.Reply.{Reply}
-use Rattle.limits.specs.Refusals.{number_of}
+use Rattle.address.specs.Refusals.{number_of}
 use Rattle.world_model.specs.Histories.{History}
 use Rattle.world_model.specs.Faithful.{IsFaithful}
 use Rattle.world_model.specs.Faithful.IsFaithful.{Nothing as Began, Next}

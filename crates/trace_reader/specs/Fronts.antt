@@ -2,7 +2,7 @@
 use Rattle.std.specs.Prelude.{ℕ, List, [], ◌∷◌, Option, None, Some, nat_eq, if◌then◌else◌}
 use Rattle.std.specs.Char.{is_ascii_digit}
 use Rattle.address.specs.Ids.{Address, ViewId}
-use Rattle.limits.specs.declared.TheConstants.{GREATEST_NUMBER, GREATEST_INCARNATION, GREATEST_NODE}
+use Rattle.address.specs.declared.limits.TheConstants.{GREATEST_NUMBER, GREATEST_INCARNATION, GREATEST_NODE}
 use Rattle.script_reader.specs.Numbers.{number_in}
 use Rattle.trace_reader.specs.Forms.{◌>>=◌}
 

@@ -5,3 +5,4 @@ pub mod Fields
 pub mod Traces
 pub mod Spellable
 pub mod Laws
+pub mod Pieces

@@ -4,7 +4,7 @@ use Rattle.std.specs.List.{list_any}
 use Rattle.std.specs.Option.{ForSome}
 use Rattle.std.specs.Fmt.{decimal}
 use Rattle.address.specs.Ids.{Address, ViewId, IsAddress, text_of_address, text_of_view_id}
-use Rattle.limits.specs.declared.TheConstants.{GREATEST_NUMBER, PAYLOAD, TRACE_LINE}
+use Rattle.address.specs.declared.limits.TheConstants.{GREATEST_NUMBER, PAYLOAD, TRACE_LINE}
 use Rattle.view.specs.Members.{is_distinct}
 use Rattle.view.specs.View.{view_refusal}
 use Rattle.trace_props.specs.declared.event.Event.{Event}

@@ -2,7 +2,7 @@
 use Rattle.std.specs.Prelude.{◌≡◌, ℕ, ◌≤◌, slice_get, List, [], ◌∷◌, Option, None, Some, length, nat_eq, nat_le, if◌then◌else◌}
 use Rattle.std.specs.Str.{bytes_eq}
 use Rattle.address.specs.Ids.{Address, ViewId}
-use Rattle.limits.specs.declared.TheConstants.{GREATEST_NUMBER, PAYLOAD}
+use Rattle.address.specs.declared.limits.TheConstants.{GREATEST_NUMBER, PAYLOAD}
 use Rattle.view.specs.Members.{View, is_distinct}
 use Rattle.view.specs.View.{view_refusal}
 use Rattle.view.specs.declared.ViewError.{ViewError}

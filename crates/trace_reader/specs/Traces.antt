@@ -12,7 +12,7 @@ use Rattle.script_reader.specs.Texts.{FaultAt, said_by}
 use Rattle.script_reader.specs.AddressText.{address_of_text}
 use Rattle.trace_reader.specs.declared.line.Word.{Word}
 use Rattle.trace_reader.specs.declared.line.Word.TheVariants.{Started, Sent, Delivered, Blocked, Installed, Left, Crashed}
-use Rattle.limits.specs.declared.TheConstants.{TRACE_LINE}
+use Rattle.address.specs.declared.limits.TheConstants.{TRACE_LINE}
 use Rattle.trace_reader.specs.Fields.{sending_at, delivery_at, install_at, stable_at}
 
 abbrev pub word_of : List ℕ → Option Word

@@ -2,7 +2,7 @@
 
 ghost use Rattle.std.specs.Prelude.{◌≡◌, ◌≤◌, length, Some, IfOk};
 ghost use Rattle.std.specs.Option.{option_copied};
-ghost use Rattle.limits.specs.declared.TheConstants.{PAYLOAD};
+ghost use Rattle.address.specs.declared.limits.TheConstants.{PAYLOAD};
 ghost use Rattle.script_reader.specs.AddressText.{address_of_text};
 ghost use Rattle.trace_reader.specs.Spelling.{number_of_text, view_id_of_text, previous_of_text, payload_of_text, view_of_text, together_of_text, handed_back_of_text, given_of_text, AreShort};
 ghost use Rattle.script_reader.specs.Fields.{field_at, spelled_at, end_at};
@@ -10,9 +10,8 @@ ghost use Rattle.script_reader.specs.Texts.{IsReadUnlessRefused};
 
 use crate::fronts::{address_in_front, left_behind, number_in_front, view_id_in_front};
 use crate::spelling::{given_in, handed_back_in, payload_in, previous_in, together_in, view_in};
-use address::{Address, ViewId};
-use limits::GREATEST_NUMBER;
-use owned_bytes::Bytes;
+use address::limits::GREATEST_NUMBER;
+use address::{Address, Bytes, ViewId};
 use script_reader::{Fault, Unheard, first_field};
 use std::alloc::Global;
 use std::marker::Model;

@@ -2,11 +2,11 @@
 
 ghost use Rattle.std.specs.Prelude.{◌≡◌, ◌<◌, ◌≤◌, ◌+◌, ◌∷◌, [], None, Some, length, IfSome, MatchOption};
 ghost use Rattle.std.specs.Option.{option_copied, option_map};
-ghost use Rattle.limits.specs.declared.TheConstants.{GREATEST_NUMBER};
+ghost use Rattle.address.specs.declared.limits.TheConstants.{GREATEST_NUMBER};
 ghost use Rattle.trace_reader.specs.Fronts.{digits_of, behind_digits, behind_mark, number_in_front, address_in_front, view_id_in_front, left_behind};
 
+use address::limits::{GREATEST_INCARNATION, GREATEST_NODE, GREATEST_NUMBER};
 use address::{Address, Node, ViewId};
-use limits::{GREATEST_INCARNATION, GREATEST_NODE, GREATEST_NUMBER};
 
 // No number goes on behind a greater one: it would be above `GREATEST_NUMBER`.
 const FULL: u64 = 1_000_000_000_000_000_000;

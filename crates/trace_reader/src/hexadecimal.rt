@@ -3,7 +3,7 @@
 ghost use Rattle.std.specs.Prelude.{◌≡◌, ◌<◌, IfOk, MatchOption};
 ghost use Rattle.trace_reader.specs.Forms.{hex_value, hex_byte, bytes_of_hex};
 
-use owned_bytes::Bytes;
+use address::Bytes;
 use std::alloc::{AllocError, Global};
 
 // The value of each byte as a digit, a point where it is none.

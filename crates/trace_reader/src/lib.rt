@@ -8,9 +8,11 @@ mod hexadecimal;
 mod law;
 mod line;
 mod lines;
+mod pieces;
 mod spelling;
 mod text;
 
 pub use law::reads_what_is_written;
+pub use pieces::{Untold, read_trace_from};
 pub use spelling::{view_id_in, view_in};
 pub use text::read_trace;

@@ -1,7 +1,7 @@
 //! A line of a trace as an event.
 
 ghost use Rattle.std.specs.Prelude.{◌≡◌, ◌≤◌, length, None, Some, Ok, IfOk, IfSome};
-ghost use Rattle.limits.specs.declared.TheConstants.{PAYLOAD};
+ghost use Rattle.address.specs.declared.limits.TheConstants.{PAYLOAD};
 ghost use Rattle.trace_props.specs.Recorded.{IsShort};
 ghost use Rattle.script_reader.specs.Texts.{IsReadUnlessRefused};
 ghost use Rattle.script_reader.specs.Fields.{spelled_at, last};
@@ -12,7 +12,7 @@ ghost use Rattle.trace_reader.specs.Traces.{word_of, event_of, said_in_line};
 
 use crate::fields::Fields;
 use address::Address;
-use limits::TRACE_LINE;
+use address::limits::TRACE_LINE;
 use script_reader::{Fault, Unheard, first_field};
 use std::alloc::Global;
 use trace_props::{BoxedInstall, Delivery, Event, Install, Message, Numbered, Sending};

@@ -1,6 +1,6 @@
 //! The lines of a text.
 
-ghost use Rattle.std.specs.Prelude.{◌≡◌, ◌<◌, ◌≤◌, ◌∷◌, length, nat_eq};
+ghost use Rattle.std.specs.Prelude.{◌≡◌, ◌<◌, ◌≤◌, ◌∷◌, ◌++◌, ℕ, List, length, nat_eq, IfSome};
 ghost use Rattle.std.specs.List.{position_or_len};
 ghost use Rattle.script_reader.specs.Lines.{lines_of};
 
@@ -29,5 +29,17 @@ pub(crate) fn line_in_front(text: &[u8]) -> (&[u8], &[u8])
     match rest.split_first() {
         None => (line, rest),
         Some((_, behind)) => (line, behind),
+    }
+}
+
+/// The first line of a text, without its line feed, and what stands behind that; `None` where no line ends in the text.
+pub(crate) fn whole_line_in_front(text: &[u8]) -> Option<(&[u8], &[u8])>
+    ensures lines { IfSome result (λ r. (more : List ℕ) → lines_of (text.now ++ more) ≡ r.0.now ∷ lines_of (r.1.now ++ more)) }
+    ensures shorter { IfSome result (λ r. length r.1.now < length text.now) }
+{
+    let (line, rest) = text.split_at(line_length(text));
+    match rest.split_first() {
+        None => None,
+        Some((_, behind)) => Some((line, behind)),
     }
 }

@@ -6,9 +6,8 @@ ghost use Rattle.trace_reader.specs.Spelling.{number_of_text, view_id_of_text, p
 
 use crate::forms::{addresses_in, next_part};
 use crate::hexadecimal::bytes_in;
-use address::{Address, ViewId};
-use limits::{GREATEST_NUMBER, PAYLOAD};
-use owned_bytes::Bytes;
+use address::limits::{GREATEST_NUMBER, PAYLOAD};
+use address::{Address, Bytes, ViewId};
 use script_reader::{address_in, number_in, split_at_first};
 use std::alloc::{AllocError, Global};
 use std::collections::BTreeSet;

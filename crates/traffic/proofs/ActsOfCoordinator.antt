@@ -6,7 +6,7 @@ use Rattle.std.proofs.lemmas.Bool.Decides.{nat_tests}
 use Rattle.std.proofs.lemmas.Bool.{cond-true, cond-false}
 use Rattle.std.proofs.lemmas.Option.{none-some}
 use Rattle.std.proofs.Math.Nat.{max-eq_right}
-use Rattle.limits.specs.declared.TheConstants.{MEMBERS, WINDOW, GREATEST_NUMBER}
+use Rattle.address.specs.declared.limits.TheConstants.{MEMBERS, WINDOW, GREATEST_NUMBER}
 use mathlib.Core.Path.{fun_ext}
 use Rattle.address.specs.Ids.{Address, same_address}
 use Rattle.view.specs.Members.{View, stands_in, is_distinct}

@@ -4,7 +4,7 @@ use Rattle.std.specs.Prelude.{nat_lt, nat_le, MatchOption}
 use Rattle.std.proofs.lemmas.Bool.Decides.{nat_tests}
 use Rattle.std.proofs.lemmas.Bool.{cond-true, cond-false, and_parts}
 use Rattle.std.proofs.Math.Nat.{max-eq_right}
-use Rattle.limits.specs.declared.TheConstants.{WINDOW, GREATEST_NUMBER}
+use Rattle.address.specs.declared.limits.TheConstants.{WINDOW, GREATEST_NUMBER}
 use Rattle.address.specs.Ids.{Address, same_address}
 use Rattle.view.specs.Members.{View}
 use Rattle.wire_values.specs.Values.{Entry, held_at}

@@ -6,7 +6,7 @@ use Rattle.std.specs.Option.{option_map}
 use Rattle.std.proofs.lemmas.Bool.Decides.{nat_tests}
 use Rattle.std.proofs.lemmas.Bool.{cond-true, cond-false}
 use Rattle.std.proofs.lemmas.Option.{none-some, same_Some, slice_get_within}
-use Rattle.limits.specs.declared.TheConstants.{OUTSTANDING, GREATEST_NUMBER, WINDOW}
+use Rattle.address.specs.declared.limits.TheConstants.{OUTSTANDING, GREATEST_NUMBER, WINDOW}
 use Rattle.address.specs.Ids.{Address, same_address}
 use Rattle.view.specs.Members.{stands_in}
 use Rattle.wire_values.specs.Values.{Entry}
@@ -15,7 +15,7 @@ use Rattle.trace_props.specs.declared.event.Numbered.{Numbered}
 use Rattle.trace_props.specs.declared.event.Event.{Event}
 use Rattle.address.proofs.SameIds.{same_address-true, turned-about}
 use Rattle.sequencer.specs.Forwards.{ForwardsModel, IsForwards, pushed, push_refusal}
-use Rattle.limits.specs.declared.refusal.Refusal.TheVariants.{Busy, Exhausted}
+use Rattle.address.specs.declared.refusal.Refusal.TheVariants.{Busy, Exhausted}
 use Rattle.sequencer.specs.Queues.{Queue, change_first, follows, has_next, next_of, entry_with, first_next, next_ordered, may_order, is_from, takes, offered, waiting_with}
 use Rattle.stability.specs.Counts.{count_of, noted, stable_count}
 use Rattle.stability.proofs.Counts.{count-noted-le, stable-le-count, members-noted}

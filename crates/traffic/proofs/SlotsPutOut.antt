@@ -1,7 +1,7 @@
 -- What is put out of a window's slots, one slot after another.
 use Rattle.std.proofs.Common.{◌≡◌, ℕ, suc, ◌+◌, ◌≤◌, List, ◌∷◌, ◌++◌, Option, None, Some, length, sym, ap, ◌∙◌, subst, arith, append_assoc}
 use Rattle.std.specs.List.{flat_map, AllByRecursion}
-use Rattle.limits.specs.declared.TheConstants.{WINDOW, GREATEST_NUMBER}
+use Rattle.address.specs.declared.limits.TheConstants.{WINDOW, GREATEST_NUMBER}
 use Rattle.wire_values.specs.Values.{Entry}
 use Rattle.wire_values.specs.Fields.{IsNumber, IsPlaced, placed_bytes}
 use Rattle.nak_stream.specs.Windows.{WindowModel, IsWindow}

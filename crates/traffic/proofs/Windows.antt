@@ -3,7 +3,7 @@ use Rattle.std.proofs.Common.{◌≡◌, ℕ, ◌+◌, ◌<◌, ◌≤◌, Bool,
 use Rattle.std.specs.Prelude.{nat_lt, nat_le}
 use Rattle.std.proofs.lemmas.Bool.Decides.{nat_tests}
 use Rattle.std.proofs.lemmas.Bool.{cond-true}
-use Rattle.limits.specs.declared.TheConstants.{WINDOW, GREATEST_NUMBER}
+use Rattle.address.specs.declared.limits.TheConstants.{WINDOW, GREATEST_NUMBER}
 use Rattle.wire_values.specs.Values.{Entry, held_at}
 use Rattle.nak_stream.specs.Windows.{WindowModel, held_with, held_above, offers, taken, delivering}
 use Rattle.nak_stream.proofs.Windows.{held_at-with, held_at-above}

@@ -1,7 +1,7 @@
 -- What another member of a view must do, and has done, on an ORDER.
 use Rattle.std.specs.Prelude.{◌≡◌, ℕ, ◌+◌, ◌-◌, ◌<◌, ◌≤◌, Bool, List, [], ◌∷◌, ◌++◌, map, Option, None, Some, IsSome, MatchBool, nat_lt, ◌⊎◌, zero, suc}
 use Rattle.std.specs.Option.{option_map_or}
-use Rattle.limits.specs.declared.TheConstants.{WINDOW}
+use Rattle.address.specs.declared.limits.TheConstants.{WINDOW}
 use Rattle.trace_props.specs.declared.event.Numbered.{Numbered}
 use Rattle.address.specs.Ids.{Address}
 use Rattle.view.specs.Members.{View}

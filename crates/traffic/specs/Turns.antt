@@ -5,7 +5,7 @@ use Rattle.view.specs.Members.{View}
 use Rattle.wire_values.specs.Values.{Entry}
 use Rattle.wire_values.specs.declared.packet.Body.TheVariants as bodies
 use Rattle.std.specs.List.{find}
-use Rattle.limits.specs.declared.TheConstants.{WINDOW}
+use Rattle.address.specs.declared.limits.TheConstants.{WINDOW}
 use Rattle.state_transfer.specs.Meanings.{Meaning}
 use Rattle.stability.specs.Counts.{count_of, stable_count}
 use Rattle.sequencer.specs.Forwards.{ForwardsModel}

@@ -8,7 +8,7 @@ ghost use Rattle.traffic.specs.Takes.{orders_held, progress_of};
 
 use crate::Coordinator;
 use address::Address;
-use limits::WINDOW;
+use address::limits::WINDOW;
 use std::alloc::AllocError;
 use step_output::{Identity, Output};
 use wire_values::{Body, Count, Missing, Number, Progress};

@@ -5,9 +5,8 @@ ghost use Rattle.law_acts.specs.Acts.{delivery};
 ghost use Rattle.step_output.specs.Outputs.{Grows};
 ghost use Rattle.traffic.specs.ViewStates.{after_delivery};
 
-use address::ViewId;
+use address::{Bytes, ViewId};
 use nak_stream::Entry;
-use owned_bytes::Bytes;
 use sequencer::Forwards;
 use state_transfer::Receiver;
 use std::alloc::AllocError;

@@ -1,6 +1,6 @@
 ghost use Rattle.std.specs.Prelude.{◌≡◌, ◌++◌, true, drop, length, Some, IfOk, OnOk};
 ghost use Rattle.std.specs.List.{flat_map, AllByRecursion};
-ghost use Rattle.limits.specs.declared.TheConstants.{WINDOW};
+ghost use Rattle.address.specs.declared.limits.TheConstants.{WINDOW};
 ghost use Rattle.wire_values.specs.Fields.{IsNumber, IsPlaced, placed_bytes};
 ghost use Rattle.wire_values.specs.Lists.{is_report};
 ghost use Rattle.law_acts.specs.Cores.{report_with};

@@ -6,7 +6,7 @@ use Rattle.std.proofs.lemmas.List.{append-nil}
 use Rattle.std.proofs.lemmas.Bool.{eq-eqb}
 use Rattle.byteorder.specs.Endian.{big_bytes}
 use Rattle.address.specs.Ids.{ViewId}
-use Rattle.limits.specs.declared.TheConstants.{GROUP_NAME, MEMBERS}
+use Rattle.address.specs.declared.limits.TheConstants.{GROUP_NAME, MEMBERS}
 use Rattle.wire_values.specs.declared.error.WireError.TheVariants.{NotOurs, Version, Value}
 use Rattle.wire_values.specs.Fields.{address_bytes, number_bytes, view_id_bytes}
 use Rattle.wire_values.specs.Texts.{group_bytes}

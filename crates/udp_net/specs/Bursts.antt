@@ -17,6 +17,7 @@ use Rattle.udp_net.specs.declared.node_ports.NodePort.{NodePort}
 use Rattle.udp_net.specs.declared.under_way.ChunkName.{ChunkName}
 use Rattle.udp_net.specs.declared.under_way.GoneChunk.{GoneChunk}
 use Rattle.udp_net.specs.declared.TheConstants.{BURST, OFFERS, PATIENCE, HELD_BACK, REMEMBERED, SHORT, UNDER_WAY}
+use Rattle.udp_net.specs.Acks.{is_ack}
 use Rattle.udp_net.specs.Logs.{one_more}
 
 -- how many bytes datagrams have
@@ -90,7 +91,7 @@ noted (Some name) turn gone = keep_last REMEMBERED (gone ++ record { name = name
 -- ---- the way to a node
 
 -- the node and its port, its host, how many bytes may be sent and be offered yet in this turn, for how many turns of the net the node is waited for, what is held back,
--- which of the node's turns this is, and the chunks that went there last
+-- which of the node's turns this is, the chunks that went there last, and the ACK that waits for a flush (empty: none)
 pub record LaneModel : Type 0 where
   pub port : NodePort
   pub host : IpAddr
@@ -100,10 +101,11 @@ pub record LaneModel : Type 0 where
   pub held : List (List ℕ)
   pub turn : ℕ
   pub gone : List GoneChunk
+  pub ack : List ℕ
 
 -- the way to a node at a host, on which nothing went
 abbrev pub opened : NodePort → IpAddr → LaneModel
-opened port host = record { port = port; host = host; to_send = BURST; to_offer = OFFERS; patience = 0; held = []; turn = 0; gone = [] }
+opened port host = record { port = port; host = host; to_send = BURST; to_offer = OFFERS; patience = 0; held = []; turn = 0; gone = []; ack = [] }
 
 -- a datagram that is offered goes at once: nothing is held back, and some of the bytes that may be sent are left
 abbrev pub passes : LaneModel → Bool
@@ -139,6 +141,18 @@ after_offer datagram l = if is_passed_over datagram l then l else if passes l th
 -- a turn of the net is over: the node's next one begins, unless it has to be waited for
 abbrev pub begun : LaneModel → LaneModel
 begun l = if nat_eq l.patience 0 then record l { to_send = BURST; to_offer = OFFERS; patience = PATIENCE; turn = one_more l.turn } else record l { to_offer = OFFERS; patience = l.patience - 1 }
+
+-- an ACK waits until the next flush, in place of one that waits
+abbrev pub postponed : List ℕ → LaneModel → LaneModel
+postponed datagram l = if is_ack datagram then record l { ack = datagram } else l
+
+-- what becomes of the ACK that waits
+abbrev pub ack_passage : LaneModel → Passage
+ack_passage l = if passes l then Goes else if may_wait l.ack l.held then Waits else Lost
+
+-- it goes at once, or is held back
+abbrev pub after_ack : LaneModel → LaneModel
+after_ack l = if passes l then record l { to_send = l.to_send - length l.ack } else record l { held = held_after l.ack l.held }
 
 -- the next of those that are held back goes, where some of the bytes that may be sent are left
 abbrev pub GoesOn : LaneModel → Option (List ℕ) → LaneModel → Type 0

@@ -1,3 +1,4 @@
+pub mod Acks
 pub mod Bursts
 pub mod Either
 pub mod Errors

@@ -3,7 +3,7 @@ ghost use Rattle.udp_net.specs.declared.error.SettingsError.TheVariants as setti
 ghost use Rattle.udp_net.specs.declared.error.BindError.TheVariants as bind;
 ghost use Rattle.udp_net.specs.Errors.{settings_number, bind_number};
 
-use limits::Refusal;
+use address::limits::Refusal;
 use std::alloc::AllocError;
 
 /// Why a text gives no settings.

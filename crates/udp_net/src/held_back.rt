@@ -2,7 +2,7 @@ ghost use Rattle.std.specs.Prelude.{◌≡◌, [], OnOk, OnErr, IfOk, length};
 ghost use Rattle.udp_net.specs.Bursts.{is_held, fits, may_wait, held_after, TakesFirst};
 
 use crate::HELD_BACK;
-use owned_bytes::Bytes;
+use address::Bytes;
 use std::alloc::{AllocError, Global};
 use std::collections::VecDeque;
 use std::marker::Model;

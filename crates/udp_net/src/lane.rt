@@ -1,14 +1,15 @@
-ghost use Rattle.std.specs.Prelude.{◌≡◌, OnErr, IfOk, OnOk, IsTrue, length, map, nat_eq};
-ghost use Rattle.udp_net.specs.Bursts.{opened, passes, has_just_gone, going, passage, offered, after_offer, begun, GoesOn};
+ghost use Rattle.std.specs.Prelude.{◌≡◌, [], OnErr, IfOk, OnOk, IsTrue, length, map, nat_eq};
+ghost use Rattle.udp_net.specs.Acks.{is_ack};
+ghost use Rattle.udp_net.specs.Bursts.{ack_passage, after_ack, opened, passes, postponed, has_just_gone, going, passage, offered, after_offer, begun, GoesOn};
 ghost use Rattle.udp_net.specs.Hosts.{IsSameHost, host_of};
 ghost use Rattle.udp_net.specs.Strangers.{IsFrom, IsPlainlyFrom};
 ghost use Rattle.std.specs.Net.Socket.{socket_ip, socket_port};
 
+use crate::acks::{LatestAck, is_ack};
 use crate::held_back::HeldBack;
 use crate::under_way::{GoneChunks, chunk_in};
 use crate::{BURST, Hosts, NodePort, OFFERS, PATIENCE, SHORT};
-use address::Node;
-use owned_bytes::Bytes;
+use address::{Bytes, Node};
 use std::alloc::{AllocError, Global};
 use std::marker::Model;
 use std::net::{IpAddr, SocketAddr};
@@ -38,6 +39,7 @@ pub(crate) struct Lane {
     held: HeldBack,
     turn: u64,
     gone: GoneChunks,
+    ack: LatestAck,
 }
 
 impl Model for Lane {
@@ -45,7 +47,7 @@ impl Model for Lane {
 
     ghost Value = { LaneModel };
 
-    ghost view = { λ l. record { port = l.port; host = l.host; to_send = l.to_send; to_offer = l.to_offer; patience = l.patience; held = l.held; turn = l.turn; gone = l.gone } };
+    ghost view = { λ l. record { port = l.port; host = l.host; to_send = l.to_send; to_offer = l.to_offer; patience = l.patience; held = l.held; turn = l.turn; gone = l.gone; ack = l.ack } };
 }
 
 // Whether two addresses name the same host: an IPv4 address and its form in IPv6 do.
@@ -86,6 +88,7 @@ impl Lane {
             held: HeldBack::new(alloc),
             turn: 0,
             gone: GoneChunks::new(alloc)?,
+            ack: LatestAck::new(alloc)?,
         })
     }
 
@@ -109,7 +112,7 @@ impl Lane {
         ensures same { (socket_ip from ≡ self.now.host) → (socket_port from ≡ self.now.port.port) → IsTrue result }
         ensures only { IsTrue result → IsSameHost (socket_ip from) self.now.host × (socket_port from ≡ self.now.port.port) }
     {
-        is_same_host(from.ip(), self.host) && from.port() == self.port.port
+        from.port() == self.port.port && is_same_host(from.ip(), self.host)
     }
 
     // Whether it leads to a node, and a datagram that names the node is from it: it comes from there, or may come from anywhere.
@@ -175,6 +178,50 @@ impl Lane {
             return Ok(Passage::Lost);
         }
         Ok(Passage::Waits)
+    }
+
+    // An ACK waits until the next flush, in place of one that waits. Answers whether the datagram is one.
+    pub(crate) fn postpone(&mut self, datagram: &[u8]) -> bool
+        ensures is { result ≡ is_ack datagram.now }
+        ensures after { self.new ≡ postponed datagram.now self.old }
+    {
+        if !is_ack(datagram) {
+            return false;
+        }
+        self.ack.put(datagram);
+        true
+    }
+
+    // The ACK that waits for the flush; empty, if none does.
+    pub(crate) fn ack(&self) -> &[u8]
+        ensures { result.now ≡ self.now.ack }
+    {
+        self.ack.as_slice()
+    }
+
+    // What becomes of the ACK that waits, now that it is offered; an error for want of memory drops it.
+    pub(crate) fn offer_ack(&mut self) -> Result<Passage, AllocError>
+        ensures ok { IfOk result (λ p. p ≡ ack_passage self.old) }
+        ensures after { OnOk result (self.new ≡ after_ack (offered (length self.old.ack) self.old)) }
+        ensures err { OnErr result (self.new ≡ offered (length self.old.ack) self.old) }
+    {
+        let length = self.ack.as_slice().len();
+        self.to_offer = self.to_offer.saturating_sub(length);
+        if self.passes() {
+            self.to_send = self.to_send.saturating_sub(length);
+            return Ok(Passage::Goes);
+        }
+        if !self.held.hold(self.ack.as_slice())? {
+            return Ok(Passage::Lost);
+        }
+        Ok(Passage::Waits)
+    }
+
+    // The ACK that waited is offered.
+    pub(crate) fn clear_ack(&mut self)
+        ensures { self.new ≡ record self.old { ack = [] } }
+    {
+        self.ack.clear();
     }
 
     // Whether so much was offered in this turn that it ends.

@@ -2,10 +2,12 @@
 //! (docs/CLI.md, "Settings"); and the hosts at which they are reached.
 #![tactic(auto)]
 
+mod acks;
 mod asker;
 mod document;
 mod either_net;
 mod error;
+mod four;
 mod gate;
 mod held_back;
 mod hosts;
@@ -20,11 +22,13 @@ mod socket;
 mod socket_net;
 mod under_way;
 mod waiter;
+mod wires;
 mod word;
 
 pub use document::settings;
 pub use either_net::EitherNet;
 pub use error::{BindError, Fault, SettingsError};
+pub use four::{FOUR, settings_of};
 pub use held_back::HeldBack;
 pub use hosts::Hosts;
 pub use memory_net::{Listed, MemoryNet, Offered};
@@ -32,6 +36,7 @@ pub use net::{Net, Received};
 pub use node_ports::{MOST_NODES, MOST_SILENT, NodePort, Settings};
 pub use sieved_net::SievedNet;
 pub use socket_net::SocketNet;
+pub use wires::{Failing, Wire, Wires};
 pub use word::{Echo, Neighbour, Place, Word};
 
 /// How many bytes a socket's net sends to a node in one turn, in bytes; the datagram that goes over them is sent too. The buffer of a socket has 212,992 bytes
@@ -47,7 +52,7 @@ pub const PATIENCE: u32 = 100;
 /// The most receives of a turn.
 pub const TURN: u32 = 64;
 
-/// The most bytes of datagrams that a socket's net holds back for a node, in bytes: a state of `limits::STATE` bytes, and almost as much again.
+/// The most bytes of datagrams that a socket's net holds back for a node, in bytes: a state of `address::limits::STATE` bytes, and almost as much again.
 pub const HELD_BACK: usize = 2_097_152;
 
 /// How long a socket's net waits at most where it holds something back, in milliseconds.
@@ -61,6 +66,9 @@ pub const REMEMBERED: usize = 64;
 
 /// The most bytes of a datagram of which it is not asked whether it is a chunk of a state, in bytes: as many as a frame has (docs/WIRE.md, "Frames").
 pub const SHORT: usize = 1_400;
+
+/// The most bytes of an ACK: 17 of its head, 32 of the group's name, 22 of its body (docs/WIRE.md, "The header").
+pub const ACK: usize = 71;
 
 /// The most bytes of a word: 36 at most of its head, 14 of who says it and when, 15 of what it answers, 16 of the view (docs/WIRE.md, "Words").
 pub const WORD: usize = 81;

@@ -6,8 +6,7 @@ ghost use Rattle.udp_net.specs.declared.memory_net.Listed.TheVariants as listed;
 ghost use Rattle.udp_net.specs.Logs.{MemoryModel, event_of, offered_in, log_of, Lists, listing, offering, receiving, answer_of, one_more, failures_after, unsent_after, fails_next, GivesFirst};
 
 use crate::{Fault, Net, Received};
-use address::Node;
-use owned_bytes::Bytes;
+use address::{Bytes, Node};
 use std::alloc::{AllocError, Global};
 use std::collections::VecDeque;
 use std::marker::Model;

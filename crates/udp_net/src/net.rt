@@ -2,8 +2,7 @@ ghost use Rattle.std.specs.Prelude.{◌≡◌, ◌≤◌, ℕ, Option, length, I
 ghost use Rattle.udp_net.specs.Logs.{Log, Lists, offering, receiving, answer_of, failures_after};
 
 use crate::{Fault, Neighbour, Word};
-use address::{Address, Node, ViewId};
-use owned_bytes::Bytes;
+use address::{Address, Bytes, Node, ViewId};
 use std::time::Duration;
 
 /// What a receive answered.

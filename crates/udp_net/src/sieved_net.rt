@@ -1,4 +1,4 @@
-ghost use Rattle.std.specs.Prelude.{◌≡◌, ◌≢◌, ◌≤◌, true, length, IfOk, IfSome};
+ghost use Rattle.std.specs.Prelude.{◌≡◌, ◌≢◌, ◌≤◌, true, length, Ok, IfOk, IfSome, OnErr};
 ghost use Rattle.udp_net.specs.Logs.{failures_after};
 ghost use Rattle.udp_net.specs.Sieve.{lets_through, IsOrdinary};
 ghost use Rattle.udp_net.specs.Strangers.{is_listed};
@@ -46,23 +46,53 @@ fn go_on<N: Net>(net: &mut N, lane: &mut Lane)
     }
 }
 
+// What was offered for a node is sent, if it goes at once; answers whether it is lost.
+fn pass_on<N: Net>(
+    net: &mut N,
+    node: Node,
+    offered: Result<Passage, AllocError>,
+    datagram: &[u8],
+) -> bool
+    ensures failed { N.failed net.new ≡ N.failed net.old }
+    ensures unsent { N.unsent net.old ≤ N.unsent net.new }
+    ensures lost { offered ≡ Ok Lost → result ≡ true }
+    ensures memory { OnErr offered (result ≡ true) }
+{
+    match offered {
+        Ok(Passage::Goes) => {
+            net.send(node, datagram);
+            false
+        }
+        Ok(Passage::Waits | Passage::UnderWay) => false,
+        Ok(Passage::Lost) | Err(_) => true,
+    }
+}
+
 // Sends a datagram to a node, or holds it back; answers whether it is lost.
 fn send_on<N: Net>(net: &mut N, lane: &mut Lane, datagram: &[u8]) -> bool
     ensures failed { N.failed net.new ≡ N.failed net.old }
     ensures unsent { N.unsent net.old ≤ N.unsent net.new }
     ensures lost { passage datagram.now lane.old ≡ Lost → result ≡ true }
 {
-    let is_lost = match lane.offer(datagram) {
-        Ok(Passage::Goes) => {
-            net.send(lane.node(), datagram);
-            false
-        }
-        Ok(Passage::Waits | Passage::UnderWay) => false,
-        Ok(Passage::Lost) | Err(_) => true,
-    };
+    let offered = lane.offer(datagram);
+    let is_lost = pass_on(net, lane.node(), offered, datagram);
     if lane.is_over() {
         go_on(net, lane);
     }
+    is_lost
+}
+
+// Sends the ACK that waits for a node, or holds it back; answers whether it is lost.
+fn flush_on<N: Net>(net: &mut N, lane: &mut Lane) -> bool
+    ensures failed { N.failed net.new ≡ N.failed net.old }
+    ensures unsent { N.unsent net.old ≤ N.unsent net.new }
+{
+    if lane.ack().is_empty() {
+        return false;
+    }
+    let offered = lane.offer_ack();
+    let is_lost = pass_on(net, lane.node(), offered, lane.ack());
+    lane.clear_ack();
     is_lost
 }
 
@@ -228,15 +258,24 @@ impl<N: Net> Net for SievedNet<N> {
         let net = &mut self.inner;
         let mut lost = 0u64;
         for lane in self.lanes.as_mut_slice() {
-            if lane.node() == node && send_on(net, lane, bytes) {
+            if lane.node() == node && !lane.postpone(bytes) && send_on(net, lane, bytes) {
                 lost = lost.saturating_add(1);
             }
         }
         self.lost = self.lost.saturating_add(lost);
     }
 
+    /// Also the latest ACK for each node goes then, or is held back.
     fn flush(&mut self) {
-        self.inner.flush();
+        let net = &mut self.inner;
+        let mut lost = 0u64;
+        for lane in self.lanes.as_mut_slice() {
+            if flush_on(net, lane) {
+                lost = lost.saturating_add(1);
+            }
+        }
+        self.lost = self.lost.saturating_add(lost);
+        net.flush();
     }
 
     fn receive(&mut self, buffer: &mut [u8]) -> Result<Option<usize>, Fault> {

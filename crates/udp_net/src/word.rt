@@ -9,13 +9,13 @@ ghost use Rattle.udp_net.specs.declared.word.Word.{Word as WordValue};
 ghost use Rattle.udp_net.specs.Words.{IsWord, echo_bytes, place_flag, held_place_bytes, place_bytes, word_bytes, word_head, said_bytes, echo_at, place_at, word_front_at, said_at, word_at, word_of, begins_as_word};
 
 use crate::WORD;
+use address::limits::MEMBERS;
 use address::{Address, Node, ViewId};
 use big_endian::{put, put_address, put_u8, put_u16, put_u64};
-use limits::MEMBERS;
 use std::alloc::AllocError;
 use wire_values::{GroupName, Reader, WireError, group_at};
 
-// The first two bytes of a word, `VF`, as a number. A packet begins with others (`limits::MAGIC`).
+// The first two bytes of a word, `VF`, as a number. A packet begins with others (`address::limits::MAGIC`).
 pub(crate) const WORD_MAGIC: u16 = 22_086;
 
 // The version of the format of words.
@@ -51,7 +51,7 @@ pub struct Echo {
 pub struct Place {
     /// The view's id.
     pub view: ViewId,
-    /// How many nodes are in it, 1 to `limits::MEMBERS`: the one that says so, and those whose fresh words say that they are.
+    /// How many nodes are in it, 1 to `address::limits::MEMBERS`: the one that says so, and those whose fresh words say that they are.
     pub members: u8,
     /// Whether the one that says so is the view's coordinator, and wants to go to no other view.
     pub stays: bool,

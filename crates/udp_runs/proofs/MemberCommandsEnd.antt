@@ -15,7 +15,7 @@ use Rattle.udp_net.specs.declared.error.BindError.{BindError}
 use Rattle.udp_net.specs.declared.error.BindError.TheVariants as bind
 use Rattle.udp_member.specs.Turns.{Driven}
 use Rattle.law_processes.specs.Said.{AreSaid}
-use Rattle.law_channels.specs.Plays.{IsReady, crash_of}
+use Rattle.law_runners.specs.Plays.{IsReady, crash_of}
 use Rattle.channel.specs.Channels.{ChannelModel, receiver_in}
 use Rattle.law_runners.specs.Known.{KnowsAmong, RunnersKnow}
 use Rattle.law_runners.specs.Merged.{own_items}

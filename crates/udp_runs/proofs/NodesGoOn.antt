@@ -13,7 +13,7 @@ use Rattle.trace_props.specs.declared.event.Event.TheVariants.{Started, Crashed}
 use Rattle.trace_props.specs.Observed.{has_started, is_start, member_of}
 use Rattle.udp_net.specs.Logs.{Log, NetEvent, Lists}
 use Rattle.udp_member.specs.Turns.{Driven}
-use Rattle.law_channels.specs.Plays.{crash_of}
+use Rattle.law_runners.specs.Plays.{crash_of}
 use Rattle.law_runners.specs.Runs.{new_channel}
 use Rattle.law_runners.specs.Items.{net_events}
 use Rattle.law_runners.specs.Systems.{Gone, Played, PlayedOver, Nothing, PlayedTellNoStart, with_runner, has_ended}

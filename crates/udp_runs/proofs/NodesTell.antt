@@ -17,7 +17,7 @@ use Rattle.udp_net.specs.Logs.{Log}
 use Rattle.udp_member.specs.Turns.{Driven}
 use Rattle.member.specs.declared.input.Input.TheVariants as calls_input
 use Rattle.udp_runs.specs.Carrying.{MakesCall}
-use Rattle.law_channels.specs.Plays.{falls}
+use Rattle.law_runners.specs.Plays.{falls}
 use Rattle.law_runners.specs.Runs.{Makes, is_offer, Hand, with_channel, Wait, SaysOnly, MakesNoOffer, DrivesWithoutOffer, Still}
 use Rattle.law_runners.proofs.SendsAreSaid.{says-more}
 use Rattle.udp_runs.specs.declared.ends.Cut.{Cut as Why}

@@ -17,7 +17,7 @@ use Rattle.channel.specs.Channels.{ChannelModel, left_by}
 use Rattle.channel.specs.Errors.{is_end}
 use Rattle.udp_net.specs.Logs.{Log}
 use Rattle.udp_member.specs.Turns.{Driven}
-use Rattle.law_channels.specs.Plays.{LeftBy, falls, crash_of}
+use Rattle.law_runners.specs.Plays.{LeftBy, falls, crash_of}
 use Rattle.law_runners.specs.Runs.{Makes, Offer, Take, Drives, Begun, Further, with_channel}
 use Rattle.law_runners.specs.Systems.{has_ended}
 use Rattle.udp_runs.specs.declared.process.Process.{Process}

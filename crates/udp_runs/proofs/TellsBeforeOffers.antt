@@ -18,7 +18,7 @@ use Rattle.view.specs.Members.{View}
 use Rattle.channel.specs.Calls.{Calls, CallsLent}
 use Rattle.udp_net.specs.Logs.{Log}
 use Rattle.udp_member.specs.Turns.{Driven}
-use Rattle.law_channels.specs.Plays.{LeftBy, falls}
+use Rattle.law_runners.specs.Plays.{LeftBy, falls}
 use Rattle.law_runners.specs.Runs.{Create, Join, Send, Hand, Offer, Take, MakesNoOffer, Drives, Begun, Further, DrivesWithoutOffer, Still, Called, with_channel}
 use Rattle.udp_runs.specs.Nodes.{all_told}
 use Rattle.udp_runs.specs.OwnLines.{OwnLine, Happened, Knows, InState, IsPlain, IsOwn, Says, event_in, events_in}

@@ -20,7 +20,7 @@ use Rattle.udp_net.specs.declared.node_ports.NodePort.{NodePort}
 use Rattle.udp_net.specs.Logs.{Log, NetEvent, Lists}
 use Rattle.udp_member.specs.Turns.{Driven}
 use Rattle.udp_member.specs.Rounds.{Rounds as HasRound}
-use Rattle.law_channels.specs.Plays.{LeftBy}
+use Rattle.law_runners.specs.Plays.{LeftBy}
 use Rattle.law_runners.specs.Runs.{with_channel}
 use Rattle.udp_runs.specs.declared.calls.Asked.{Asked}
 use Rattle.udp_runs.specs.declared.calls.Asked.TheVariants as asked

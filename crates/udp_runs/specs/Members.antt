@@ -12,7 +12,7 @@ use Rattle.udp_net.specs.declared.error.BindError.{BindError}
 use Rattle.udp_net.specs.declared.error.BindError.TheVariants.{Config}
 use Rattle.udp_member.specs.Turns.{Driven}
 use Rattle.law_processes.specs.Said.{AreSaid}
-use Rattle.law_channels.specs.Plays.{crash_of}
+use Rattle.law_runners.specs.Plays.{crash_of}
 use Rattle.channel.specs.Channels.{receiver_in}
 use Rattle.law_runners.specs.Runs.{new_channel}
 use Rattle.law_runners.specs.Known.{KnowsAmong}

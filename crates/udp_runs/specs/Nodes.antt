@@ -8,7 +8,7 @@ use Rattle.trace_props.specs.Observed.{has_started}
 use Rattle.channel.specs.Channels.{ChannelModel}
 use Rattle.udp_net.specs.Logs.{Log, NetEvent}
 use Rattle.udp_member.specs.Turns.{Driven}
-use Rattle.law_channels.specs.Plays.{crash_of}
+use Rattle.law_runners.specs.Plays.{crash_of}
 use Rattle.law_runners.specs.Runs.{Drives}
 use Rattle.law_runners.specs.Systems.{Gone, Played, PlayedOver, PlayedTellNoStart, has_ended}
 use Rattle.udp_runs.specs.declared.process.Process.{Process}

@@ -1,7 +1,7 @@
 -- What a node that runs by itself says.
 use Rattle.std.specs.Prelude.{◌≡◌, ◌⊎◌, ◌≤◌, ℕ, Bool, true, false, List, Option, Some, Result, Ok}
 use Rattle.address.specs.Ids.{ViewId, IsAddress}
-use Rattle.limits.specs.declared.TheConstants.{GREATEST_NUMBER}
+use Rattle.address.specs.declared.limits.TheConstants.{GREATEST_NUMBER}
 use Rattle.view.specs.Members.{View}
 use Rattle.node_lines.specs.Outboxes.{OutboxModel}
 use Rattle.node_lines.specs.Unsaid.{UnsaidModel}

@@ -10,7 +10,7 @@ use Rattle.udp_net.specs.Logs.{Log, Lists}
 use Rattle.udp_member.specs.Offers.{Offers}
 use Rattle.udp_member.specs.Turns.{Driven}
 use Rattle.channel.specs.Channels.{ChannelModel, receiver_in}
-use Rattle.law_channels.specs.Plays.{falls}
+use Rattle.law_runners.specs.Plays.{falls}
 use Rattle.law_runners.specs.Runs.{DrivesWithoutOffer}
 use Rattle.udp_runs.specs.declared.calls.Call.{Call}
 use Rattle.udp_runs.specs.declared.calls.Call.TheVariants as call

@@ -8,10 +8,9 @@ ghost use Rattle.law_runners.specs.Runs.{MakesNoOffer};
 ghost use Rattle.udp_runs.specs.Carrying.{IsAsked, IsCall, MakesCall};
 ghost use Rattle.udp_runs.specs.Said.{IsThat, SaidBy, says_nothing};
 
-use address::{Address, Node};
+use address::{Address, Bytes, Node};
 use application::Application;
 use channel::Error;
-use owned_bytes::Bytes;
 use std::alloc::{AllocError, Global};
 use udp_member::Runner;
 use udp_net::Net;

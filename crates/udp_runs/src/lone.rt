@@ -13,10 +13,10 @@ use crate::finding::{Finder, milliseconds};
 use crate::telling::Teller;
 use crate::watch::Watch;
 use crate::{Lines, NodeMachine, NodeManner, Tally};
+use address::limits::Refusal;
 use address::{Address, ViewId};
 use application::Application;
 use channel::Error;
-use limits::Refusal;
 use node_lines::Outbox;
 use script_reader::MemberPlan;
 use std::alloc::Global;
@@ -50,6 +50,8 @@ pub(crate) struct LoneNode<'a, N: Net, C: Application> {
     pub(crate) round: u64,
     // The time when it looked last.
     pub(crate) time: Duration,
+    // When its last round was due.
+    due: Duration,
     pub(crate) watch: Watch,
 }
 
@@ -90,6 +92,7 @@ impl<'a, N: Net, C: Application> LoneNode<'a, N, C> {
             gives_up: false,
             round: 0,
             time: Duration::ZERO,
+            due: Duration::ZERO,
             watch: Watch::new(),
         }
     }
@@ -363,6 +366,22 @@ impl<'a, N: Net, C: Application> LoneNode<'a, N, C> {
         Ok(())
     }
 
+    // When the next round is due: a tick after the last one was, or after now, if that is half a tick or more ago.
+    fn next_due(&mut self, now: Duration) -> Duration
+        ensures member { self.new.member ≡ self.old.member }
+        ensures voice { self.new.teller.voice ≡ self.old.teller.voice }
+        ensures texts { AreSame self.old.once self.old.outbox self.old.teller.unsaid self.new.once self.new.outbox self.new.teller.unsaid }
+    {
+        let late = now.saturating_sub(self.due);
+        let last = if late.saturating_add(late) < self.manner.tick {
+            self.due
+        } else {
+            now
+        };
+        self.due = last.saturating_add(self.manner.tick);
+        self.due
+    }
+
     // Handles datagrams as they come between a round and the one before, if there was one.
     fn rest<L: Lines, M: NodeMachine, W: Write>(
         &mut self,
@@ -381,7 +400,7 @@ impl<'a, N: Net, C: Application> LoneNode<'a, N, C> {
         if round == 0 {
             return Ok(());
         }
-        let due = machine.now().saturating_add(self.manner.tick);
+        let due = self.next_due(machine.now());
         self.listen_until(due, lines, machine, writer)
     }
 

@@ -138,7 +138,7 @@ fn run_listed<C: Application, L: Lines, M: NodeMachine, W: Write>(
 /// It tells first: before its net is offered what its channel put out, all that had happened until then is written. Where that cannot be written, nothing more is offered; so
 /// however it ends, unless it speaks, its text has the line of each thing that had happened when its net was offered something last.
 ///
-/// Where the lines can be read no more, one is too long, or one says no payload, it ends at once with status 5, and the machine is told why. Where the settings do not list the node it writes `fault 0 50` alone, status 3; where the node can have no socket `fault 0 51` alone, status 5. Where memory is
+/// Where the lines can be read no more it ends at once with status 5, and the machine is told why; a line that is too long, or says no payload, is left out. Where the settings do not list the node it writes `fault 0 50` alone, status 3; where the node can have no socket `fault 0 51` alone, status 5. Where memory is
 /// refused, it writes the text so far and `# memory`.
 pub fn run_member<C: Application, L: Lines, M: NodeMachine, W: Write>(
     alloc: Global,

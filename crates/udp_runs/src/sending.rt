@@ -12,10 +12,9 @@ use crate::calls::send;
 use crate::ends::Cut;
 use crate::lone::{LoneNode, unless_memory};
 use crate::{LineTrouble, Lines, LinesError, Notice};
-use address::ViewId;
+use address::{Bytes, ViewId};
 use application::Application;
 use node_lines::{OutboxError, Sent};
-use owned_bytes::Bytes;
 use script_reader::{Fault, Unheard};
 use udp_net::Net;
 

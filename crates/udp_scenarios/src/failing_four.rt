@@ -3,11 +3,11 @@
 use address::{Address, Node};
 use channel::Channel;
 use chat_log::ChatLog;
-use memory_net::{Failing, Wire, Wires};
 use state_transfer::Receiver;
 use std::alloc::{AllocError, Global};
 use std::cell::RefCell;
 use udp_member::Runner;
+use udp_net::{Failing, Wire, Wires};
 use vsync_text::append_event;
 
 /// One of the four.

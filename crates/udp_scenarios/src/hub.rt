@@ -1,10 +1,9 @@
 ghost use Rattle.std.specs.Prelude.{None};
 
 use address::{Address, Node};
-use memory_net::{Wire, Wires};
 use std::cell::RefCell;
 use std::time::Duration;
-use udp_net::BindError;
+use udp_net::{BindError, Wire, Wires};
 use udp_runs::{NodeMachine, Tally};
 
 /// How much later it is each time that the machine is asked for the time, in milliseconds.

@@ -1,8 +1,8 @@
 //! Members over nets in memory, and what carries their datagrams.
 
 use crate::channels::{apart, first_at};
+use address::Bytes;
 use chat_log::ChatLog;
-use owned_bytes::Bytes;
 use std::alloc::{AllocError, Global};
 use udp_member::{Error, Runner};
 use udp_net::{Listed, MemoryNet, Net, Offered};

@@ -3,9 +3,8 @@
 use crate::lines::put_number;
 use crate::shelf::Shelf;
 use chat_log::ChatLog;
-use memory_net::{FOUR, settings_of};
 use std::alloc::{AllocError, Global};
-use udp_net::{Listed, MemoryNet};
+use udp_net::{FOUR, Listed, MemoryNet, settings_of};
 use udp_runs::run_udp;
 
 /// Two nodes; the second joins the first in vain, for the nets carry nothing.

@@ -2,7 +2,7 @@
 
 use crate::lan::Lan;
 use crate::lines::{put_number, put_truth};
-use owned_bytes::Bytes;
+use address::Bytes;
 use std::alloc::{AllocError, Global};
 
 /// Four in one view, of which 4.1 has no more rounds: the last of its datagrams has been handed in.

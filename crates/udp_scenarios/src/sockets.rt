@@ -7,10 +7,9 @@ use address::Node;
 use application::Application;
 use chat_log::ChatLog;
 use endings::Status;
-use memory_net::settings_of;
 use std::alloc::{AllocError, Global};
 use std::time::Duration;
-use udp_net::{BindError, Hosts, Net, Settings, SocketNet};
+use udp_net::{BindError, Hosts, Net, Settings, SocketNet, settings_of};
 use udp_runs::{Loopback, run_udp};
 
 /// At how many places of ports it is tried, since others may have taken some.

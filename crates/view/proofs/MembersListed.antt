@@ -5,7 +5,7 @@ use Rattle.std.specs.List.{list_all}
 use Rattle.std.proofs.lemmas.Bool.{and_parts, and_from, or_parts, or_left, or_right, or_cases, not-true}
 use Rattle.std.proofs.lemmas.Option.{none-some}
 use Rattle.std.proofs.lemmas.List.Folds.{list_any-append}
-use Rattle.limits.specs.declared.TheConstants.{MEMBERS}
+use Rattle.address.specs.declared.limits.TheConstants.{MEMBERS}
 use Rattle.address.specs.Ids.{Address, ViewId, same_address}
 use Rattle.address.proofs.SameIds.{same_address-true, same_address-sym}
 use Rattle.view.specs.Members.{stands_in, is_distinct}

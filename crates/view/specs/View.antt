@@ -5,7 +5,7 @@ use Rattle.address.specs.Ids.{Address, ViewId, same_address}
 use Rattle.view.specs.Members.{is_distinct}
 use Rattle.view.specs.declared.ViewError.{ViewError}
 use Rattle.view.specs.declared.ViewError.TheVariants.{Empty, TooMany, Repeated, NotFirst}
-use Rattle.limits.specs.declared.TheConstants.{MEMBERS}
+use Rattle.address.specs.declared.limits.TheConstants.{MEMBERS}
 use Rattle.std.specs.Prelude.{false}
 
 -- whether a list begins with an address

@@ -7,9 +7,9 @@ ghost use Rattle.view.specs.View.{view_refusal, error_number};
 
 mod addresses;
 
+use address::limits::MEMBERS;
 use address::{Address, ViewId};
 pub use addresses::Addresses;
-use limits::MEMBERS;
 use std::alloc::{AllocError, Global};
 use std::marker::Model;
 

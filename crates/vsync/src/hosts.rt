@@ -4,7 +4,7 @@ ghost use Rattle.std.specs.Prelude.{◌≡◌};
 ghost use Rattle.vsync.specs.declared.hosts.PeersError.TheVariants as peers;
 
 use address::Node;
-use limits::GREATEST_NODE;
+use address::limits::GREATEST_NODE;
 use script_reader::number_in;
 use std::alloc::{AllocError, Global};
 

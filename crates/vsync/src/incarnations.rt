@@ -3,8 +3,8 @@
 ghost use Rattle.std.specs.Prelude.{◌≡◌, ◌≤◌, ◌<◌, IfOk, IfSome};
 
 use address::Address;
+use address::limits::GREATEST_INCARNATION;
 use endings::{Unreadable, read_all};
-use limits::GREATEST_INCARNATION;
 use script_reader::number_in;
 use std::alloc::Global;
 use std::fs::{self, OpenFile};

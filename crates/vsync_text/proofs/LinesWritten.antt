@@ -7,8 +7,8 @@ use Rattle.vsync_text.specs.declared.buffered.Unwritten.{Unwritten}
 use Rattle.vsync_text.specs.declared.buffered.Unwritten.TheVariants.{Memory, Failed}
 use Rattle.trace_props.specs.declared.event.Event.{Event}
 use Rattle.world_model.specs.declared.Reply.{Reply}
-use Rattle.limits.specs.declared.refusal.Refusal.{Refusal}
-use Rattle.limits.specs.Refusals.{number_of}
+use Rattle.address.specs.declared.refusal.Refusal.{Refusal}
+use Rattle.address.specs.Refusals.{number_of}
 use Rattle.vsync_text.specs.Runs.{lines_from, reply_lines, refusal_line, refused_lines}
 use Rattle.vsync_text.specs.Writing.{Went, TookBeginning, TookLines, Writes}
 

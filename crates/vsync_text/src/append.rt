@@ -7,9 +7,8 @@ ghost use Rattle.std.specs.Fmt.{decimal};
 ghost use Rattle.address.specs.Ids.{text_of_address, text_of_view_id};
 ghost use Rattle.vsync_text.specs.TraceText.{GoesOnFrom, hex_digit, hex_of, text_of_payload, text_of_previous, text_of_addresses, text_of_numbered, text_of_handed_back, text_of_given};
 
-use address::{Address, ViewId};
+use address::{Address, Bytes, ViewId};
 use itoa::Buffer;
-use owned_bytes::Bytes;
 use std::alloc::AllocError;
 use trace_props::Numbered;
 

@@ -7,7 +7,7 @@ ghost use Rattle.vsync_text.specs.TraceText.{GoesOnFrom, field, hex_of};
 ghost use Rattle.vsync_text.specs.PacketText.{kind_name, kind_in, packet_fields, packet_line, packet_lines};
 
 use crate::{put, put_address, put_decimal, put_hex};
-use owned_bytes::Bytes;
+use address::Bytes;
 use std::alloc::AllocError;
 use wire::decode;
 use wire_values::{Body, Packet};

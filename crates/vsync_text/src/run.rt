@@ -4,7 +4,7 @@ ghost use Rattle.vsync_text.specs.Runs.{stretch, refused_lines, answer_lines, re
 ghost use Rattle.vsync_text.specs.Writing.{Writes, Prints};
 
 use crate::buffered::{PIECE, Unwritten, settle, write_event, write_refusal};
-use limits::Refusal;
+use address::limits::Refusal;
 use std::alloc::Global;
 use std::io::Write;
 use trace_props::Event;

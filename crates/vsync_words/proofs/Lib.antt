@@ -6,3 +6,5 @@ pub mod OnePath
 pub mod PlainWords
 pub mod SeveralPaths
 pub mod TwoPaths
+pub mod Codes
+pub mod EachIsFound

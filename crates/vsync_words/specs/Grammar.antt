@@ -9,7 +9,7 @@ use Rattle.clap.specs.declared.builder.value_parser.ValueParser.TheVariants.{Uns
 use Rattle.clap.specs.declared.builder.action.ArgAction.TheVariants.{Append, SetTrue}
 use Rattle.script_reader.specs.declared.udp_script.TheConstants.{ROUNDS}
 use Rattle.vsync_words.specs.declared.member_options.TheConstants.{MOST_TICK, MOST_MERGE, MOST_QUORUM}
-use Rattle.limits.specs.declared.TheConstants.{GREATEST_INCARNATION, GREATEST_NODE}
+use Rattle.address.specs.declared.limits.TheConstants.{GREATEST_INCARNATION, GREATEST_NODE}
 
 -- an argument that is required; one that may stand there more than once; one that is a number in a range; and an option with a value
 abbrev pub required_rule : Text → Rule

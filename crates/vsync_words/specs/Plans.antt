@@ -2,7 +2,7 @@
 use Rattle.std.specs.Prelude.{◌≡◌, ℕ, List, Option, None, Some, Result, Ok, Err, length, nat_lt, option_map, is_ok, true, false, Bool, if◌then◌else◌}
 use Rattle.std.specs.Borrow.{Bor}
 use Rattle.address.specs.Ids.{Address}
-use Rattle.limits.specs.declared.TheConstants.{PAYLOAD}
+use Rattle.address.specs.declared.limits.TheConstants.{PAYLOAD}
 use Rattle.script_reader.specs.AddressText.{address_of_text}
 use Rattle.script_reader.specs.declared.member_plan.MemberPlan.{MemberPlan}
 use Rattle.vsync_words.specs.Kept.{flags_keep_two}

@@ -9,7 +9,7 @@ use Rattle.clap.specs.Words.{IsUnsignedIn, Kinds, Row, Text, all_of, fault_of, f
 use Rattle.clap.specs.declared.error.Error.{Error}
 use Rattle.clap.specs.declared.error.kind.ErrorKind.TheVariants.{OutOfMemory, UnknownArgument}
 use Rattle.script_reader.specs.declared.udp_script.TheConstants.{ROUNDS}
-use Rattle.limits.specs.declared.TheConstants.{GREATEST_INCARNATION, GREATEST_NODE}
+use Rattle.address.specs.declared.limits.TheConstants.{GREATEST_INCARNATION, GREATEST_NODE}
 use Rattle.vsync_words.specs.declared.check_words.ProcessesWords.{ProcessesWords}
 use Rattle.vsync_words.specs.declared.udp_words.UdpWords.{UdpWords}
 use Rattle.vsync_words.specs.declared.udp_words.MemberWords.{MemberWords}

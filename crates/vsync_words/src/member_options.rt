@@ -7,9 +7,9 @@ ghost use Rattle.vsync_words.specs.Words.{AreMemberOptions, IsOptionalIn};
 
 use crate::kept_words::{KeptFlags, flag, kept_flags, stands};
 use crate::udp_words::option;
+use address::limits::MEMBERS;
 use clap::builder::ValueParser;
 use clap::{Arg, ArgAction, ArgMatches};
-use limits::MEMBERS;
 use std::alloc::{AllocError, Global};
 
 /// The longest time between two rounds, in milliseconds.

@@ -6,13 +6,13 @@ ghost use Rattle.script_reader.specs.declared.udp_script.TheConstants.{ROUNDS};
 ghost use Rattle.vsync_words.specs.Grammar.{required_rule, number_rule, option_rule, udp_app, member_numbers_app, member_talk_app, member_app, IsArg, IsCommand};
 ghost use Rattle.vsync_words.specs.Words.{AreUdpWords, AreMemberWords, IsNumberIn};
 ghost use Rattle.vsync_words.specs.Plans.{contact_of, payload_of, text_of, IsMistaken, IsPlan};
-ghost use Rattle.limits.specs.declared.TheConstants.{GREATEST_NODE, GREATEST_INCARNATION};
+ghost use Rattle.address.specs.declared.limits.TheConstants.{GREATEST_NODE, GREATEST_INCARNATION};
 
 use crate::member_options::{MemberOptions, member_options, with_options};
+use address::limits::{GREATEST_INCARNATION, GREATEST_NODE, PAYLOAD};
 use address::{Address, Node};
 use clap::builder::ValueParser;
 use clap::{Arg, ArgMatches};
-use limits::{GREATEST_INCARNATION, GREATEST_NODE, PAYLOAD};
 use script_reader::{MemberPlan, ROUNDS, address_in};
 use std::alloc::{AllocError, Global};
 use thiserror::Error;

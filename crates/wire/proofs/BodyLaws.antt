@@ -2,7 +2,7 @@
 use Rattle.std.proofs.Common.{◌≡◌, ℕ, ◌+◌, ◌-◌, ◌≤◌, Bool, true, false, cond, eqb, List, ◌++◌, length, Result, Ok, Err, refl, sym, ap, ◌∙◌, append_assoc, arith}
 use Rattle.std.proofs.lemmas.Bool.{eqb-true, eq-eqb, cond-true}
 use Rattle.std.proofs.lemmas.Bool.Decides.{nat_tests}
-use Rattle.limits.specs.declared.TheConstants.{GREATEST_NUMBER, WINDOW, PAYLOAD}
+use Rattle.address.specs.declared.limits.TheConstants.{GREATEST_NUMBER, WINDOW, PAYLOAD}
 use Rattle.wire_values.specs.declared.error.WireError.{WireError}
 use Rattle.wire_values.specs.declared.error.WireError.TheVariants.{Kind, Value}
 use Rattle.wire_values.specs.declared.packet.Body.{Body}

@@ -3,7 +3,7 @@ use Rattle.std.proofs.Common.{◌≡◌, ℕ, ◌+◌, ◌≤◌, ◌<◌, Bool,
 use Rattle.std.specs.Prelude.{nat_lt}
 use Rattle.std.proofs.lemmas.Bool.{eqb-true, ltb-true, lt-ltb}
 use Rattle.byteorder.specs.Endian.{big_bytes}
-use Rattle.limits.specs.declared.TheConstants.{STATE, WHOLE_STATE, CHUNK}
+use Rattle.address.specs.declared.limits.TheConstants.{STATE, WHOLE_STATE, CHUNK}
 use Rattle.wire_values.specs.declared.error.WireError.{WireError}
 use Rattle.wire_values.specs.declared.error.WireError.TheVariants.{Length, Value}
 use Rattle.wire_values.specs.declared.values.state.GivenState.{GivenState}

@@ -5,7 +5,7 @@ use Rattle.std.specs.List.{list_all}
 use Rattle.std.proofs.lemmas.Bool.{leb-true, and_parts}
 use Rattle.byteorder.specs.Endian.{big_bytes}
 use Rattle.address.specs.Ids.{Address}
-use Rattle.limits.specs.declared.TheConstants.{GROUP_NAME, MAGIC, VERSION, KINDS}
+use Rattle.address.specs.declared.limits.TheConstants.{GROUP_NAME, MAGIC, VERSION, KINDS}
 use Rattle.wire_values.specs.declared.error.WireError.TheVariants.{NotOurs, Version, Kind, Length, Value}
 use Rattle.wire_values.specs.declared.packet.Body.{Body}
 use Rattle.wire_values.specs.declared.packet.Body.TheVariants as bodies

@@ -5,7 +5,7 @@ use Rattle.std.specs.List.{flat_map, AllByRecursion}
 use Rattle.std.proofs.lemmas.Bool.{leb-true, le-leb, and_parts}
 use Rattle.byteorder.specs.Endian.{big_bytes}
 use Rattle.address.specs.Ids.{ViewId}
-use Rattle.limits.specs.declared.TheConstants.{GREATEST_NUMBER, WINDOW}
+use Rattle.address.specs.declared.limits.TheConstants.{GREATEST_NUMBER, WINDOW}
 use Rattle.wire_values.specs.declared.error.WireError.TheVariants.{Length, Value}
 use Rattle.wire_values.specs.Values.{Entry, Report}
 use Rattle.wire_values.specs.Reading.{◌>>=◌, number_at}

@@ -6,7 +6,7 @@ use Rattle.std.proofs.lemmas.List.{length-append}
 use Rattle.byteorder.specs.Endian.{big_bytes}
 use Rattle.address.specs.Ids.{Address, ViewId}
 use Rattle.view.specs.Members.{View}
-use Rattle.limits.specs.declared.TheConstants.{MEMBERS, PAYLOAD, WINDOW, WHOLE_STATE, CHUNK, GROUP_NAME, DATAGRAM}
+use Rattle.address.specs.declared.limits.TheConstants.{MEMBERS, PAYLOAD, WINDOW, WHOLE_STATE, CHUNK, GROUP_NAME, DATAGRAM}
 use Rattle.wire_values.specs.declared.packet.Body.{Body}
 use Rattle.wire_values.specs.declared.packet.Body.TheVariants as bodies
 use Rattle.wire_values.specs.declared.packet.Packet.{Packet}

@@ -3,7 +3,7 @@ use Rattle.std.specs.Prelude.{◌≡◌, ◌≤◌, ◌+◌, ◌-◌, ℕ, true,
 use Rattle.std.specs.Option.{option_map_or}
 use Rattle.byteorder.specs.Endian.{big_bytes}
 use Rattle.wire_values.specs.Values.{Entry}
-use Rattle.limits.specs.declared.TheConstants.{GREATEST_NUMBER, PAYLOAD, WINDOW, DATAGRAM, VERSION, MAGIC, KINDS}
+use Rattle.address.specs.declared.limits.TheConstants.{GREATEST_NUMBER, PAYLOAD, WINDOW, DATAGRAM, VERSION, MAGIC, KINDS}
 use Rattle.wire_values.specs.declared.error.WireError.{WireError}
 use Rattle.wire_values.specs.declared.error.WireError.TheVariants.{NotOurs, Version, Kind, Length, Value, Trailing}
 use Rattle.wire_values.specs.declared.packet.Body.{Body}

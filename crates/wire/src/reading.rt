@@ -5,7 +5,7 @@ ghost use Rattle.wire_values.specs.Reading.{IsRead};
 ghost use Rattle.wire_values.specs.declared.packet.Packet.{Packet as PacketValue};
 ghost use Rattle.wire.specs.Packets.{redirect_at, forward_at, order_at, nak_at, ack_at, status_at, flush_at, behind_at, reported_at, installed_at, merge_at, sent_state_at, body_at, front_at, packet_at, packet_of, Spells, wire_refusal};
 
-use limits::{DATAGRAM, GREATEST_NUMBER, KINDS, MAGIC, VERSION, WINDOW};
+use address::limits::{DATAGRAM, GREATEST_NUMBER, KINDS, MAGIC, VERSION, WINDOW};
 use wire_values::{
     Body, Missing, Packet, Progress, Reader, WireError, chunk_at, count_at, entry_at, group_at,
     install_at, number_at, payload_at, report_at, view_at,

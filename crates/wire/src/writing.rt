@@ -8,13 +8,13 @@ ghost use Rattle.wire_values.specs.Lists.{IsView, IsReport, IsInstall, addresses
 ghost use Rattle.wire_values.specs.Chunks.{IsTotal};
 ghost use Rattle.wire_values.specs.Names.{is_group_name};
 ghost use Rattle.wire_values.specs.Texts.{group_bytes};
-ghost use Rattle.limits.specs.declared.TheConstants.{MEMBERS, PAYLOAD, WHOLE_STATE};
+ghost use Rattle.address.specs.declared.limits.TheConstants.{MEMBERS, PAYLOAD, WHOLE_STATE};
 ghost use Rattle.wire.specs.Packets.{IsBody, Spells, front_bytes, header_bytes, body_bytes, spelling, listed_bytes};
 
+use address::limits::{MAGIC, VERSION};
 use address::{Address, ViewId};
 use big_endian::{put, put_address, put_u8, put_u16, put_u32, put_u64};
 use byteorder::{BigEndian, ByteOrder};
-use limits::{MAGIC, VERSION};
 use std::alloc::AllocError;
 use wire_values::{
     Body, Chunk, Entry, GivenState, GroupName, Held, Install, Items, Number, Packet, Payload,

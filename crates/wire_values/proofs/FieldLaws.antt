@@ -4,7 +4,7 @@ use Rattle.std.proofs.lemmas.Bool.{ltb-false, le-ltb, leb-true, le-leb, and_part
 use Rattle.std.proofs.lemmas.List.{take_at, drop_at, take-append-drop, length-append, length-take, length-drop}
 use Rattle.byteorder.specs.Endian.{big_bytes, big_number}
 use Rattle.address.specs.Ids.{Address, ViewId}
-use Rattle.limits.specs.declared.TheConstants.{GREATEST_NUMBER, PAYLOAD}
+use Rattle.address.specs.declared.limits.TheConstants.{GREATEST_NUMBER, PAYLOAD}
 use Rattle.wire_values.specs.declared.error.WireError.{WireError}
 use Rattle.wire_values.specs.declared.error.WireError.TheVariants.{Short, Length, Value}
 use Rattle.wire_values.specs.Values.{Entry}

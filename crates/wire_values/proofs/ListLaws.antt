@@ -3,7 +3,7 @@ use Rattle.std.proofs.Common.{◌≡◌, ℕ, zero, suc, ◌+◌, ◌≤◌, Boo
 use Rattle.std.specs.Prelude.{min}
 use Rattle.std.specs.List.{flat_map, AllByRecursion}
 use Rattle.std.proofs.lemmas.Bool.{ltb-true, leb-true, le-leb, and_parts}
-use Rattle.limits.specs.declared.TheConstants.{GREATEST_NUMBER, WINDOW}
+use Rattle.address.specs.declared.limits.TheConstants.{GREATEST_NUMBER, WINDOW}
 use Rattle.wire_values.specs.declared.error.WireError.TheVariants.{Value}
 use Rattle.wire_values.specs.Values.{Entry}
 use Rattle.wire_values.specs.Reading.{Read, ◌>>=◌, number_at, list_at}

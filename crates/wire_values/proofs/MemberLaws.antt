@@ -12,7 +12,7 @@ use Rattle.byteorder.specs.Endian.{big_bytes}
 use Rattle.address.specs.Ids.{Address, ViewId, same_address}
 use Rattle.view.specs.Members.{View, stands_in, is_distinct}
 use Rattle.view.specs.View.{view_refusal, begins_with}
-use Rattle.limits.specs.declared.TheConstants.{MEMBERS}
+use Rattle.address.specs.declared.limits.TheConstants.{MEMBERS}
 use Rattle.view.specs.declared.ViewError.TheVariants.{Empty, TooMany, Repeated, NotFirst}
 use Rattle.wire_values.specs.declared.error.WireError.{WireError}
 use Rattle.wire_values.specs.declared.error.WireError.TheVariants.{Length, Value}

@@ -2,7 +2,7 @@
 use Rattle.std.proofs.Common.{◌≡◌, ◌≤◌, ℕ, true, List, length}
 use Rattle.std.specs.List.{list_all}
 use Rattle.std.proofs.lemmas.Bool.{le-leb}
-use Rattle.limits.specs.declared.TheConstants.{GROUP_NAME}
+use Rattle.address.specs.declared.limits.TheConstants.{GROUP_NAME}
 use Rattle.wire_values.specs.Names.{is_name_byte, is_group_name}
 
 -- a name of a length that was tested

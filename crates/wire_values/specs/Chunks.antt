@@ -1,6 +1,6 @@
 -- The chunks of a state: how many bytes it may have, which chunks it has, and how long each is.
 use Rattle.std.specs.Prelude.{◌≡◌, ◌≤◌, ◌<◌, ◌+◌, ◌-◌, ◌*◌, ℕ, List, length, take, drop, min}
-use Rattle.limits.specs.declared.TheConstants.{WHOLE_STATE, STATE, CHUNK}
+use Rattle.address.specs.declared.limits.TheConstants.{WHOLE_STATE, STATE, CHUNK}
 
 -- how many bytes a state has that goes in chunks
 abbrev pub IsTotal : ℕ → Type 0

@@ -4,7 +4,7 @@ use Rattle.byteorder.specs.Endian.{big_bytes, big_number}
 use Rattle.address.specs.Ids.{Address, ViewId}
 pub use Rattle.address.specs.Ids.{IsAddress}
 pub use Rattle.big_endian.specs.Spelled.{address_bytes}
-use Rattle.limits.specs.declared.TheConstants.{GREATEST_NUMBER, PAYLOAD}
+use Rattle.address.specs.declared.limits.TheConstants.{GREATEST_NUMBER, PAYLOAD}
 use Rattle.wire_values.specs.declared.error.WireError.TheVariants.{Length, Value}
 use Rattle.wire_values.specs.Values.{Entry}
 use Rattle.wire_values.specs.Reading.{Read, ◌>>=◌, bytes_at, number_at}

@@ -1,7 +1,7 @@
 -- The name of a group: letters, digits, '-' and '_', as many as a name may have.
 use Rattle.std.specs.Prelude.{ℕ, Bool, List, length, nat_le, ◌==◌, ◌&&◌, ◌||◌}
 use Rattle.std.specs.List.{list_all}
-use Rattle.limits.specs.declared.TheConstants.{GROUP_NAME}
+use Rattle.address.specs.declared.limits.TheConstants.{GROUP_NAME}
 
 -- letters, digits, '-' and '_'
 abbrev pub is_name_byte : ℕ → Bool

@@ -2,7 +2,7 @@
 use Rattle.std.specs.Prelude.{ℕ, List, ◌++◌, length, Ok, Err, if◌then◌else◌}
 use Rattle.std.specs.List.{list_all}
 use Rattle.byteorder.specs.Endian.{big_bytes}
-use Rattle.limits.specs.declared.TheConstants.{GROUP_NAME}
+use Rattle.address.specs.declared.limits.TheConstants.{GROUP_NAME}
 use Rattle.wire_values.specs.Names.{is_name_byte}
 use Rattle.wire_values.specs.declared.error.WireError.TheVariants.{Length, Value}
 use Rattle.wire_values.specs.Reading.{Read, ◌>>=◌, bytes_at, number_at}

@@ -11,7 +11,7 @@ use crate::fields::Reader;
 use crate::numbers::number_at;
 use crate::text::payload_at;
 use crate::{Entry, Number};
-use limits::{GREATEST_NUMBER, WINDOW};
+use address::limits::{GREATEST_NUMBER, WINDOW};
 use std::marker::Model;
 
 /// Reads an entry: its sender, its number and its payload. An error is that of the first field that fails.

@@ -5,9 +5,9 @@ ghost use Rattle.wire_values.specs.Reading.{IsRead, bytes_at, number_at};
 ghost use Rattle.wire_values.specs.Fields.{address_at, view_id_at};
 
 use crate::error::WireError;
+use address::limits::GREATEST_NUMBER;
 use address::{Address, Node, ViewId};
 use byteorder::{BigEndian, ByteOrder};
-use limits::GREATEST_NUMBER;
 use std::marker::Model;
 
 /// What is left of some bytes. Each call takes a field off the front, or answers why it fails.

@@ -11,7 +11,7 @@ use crate::numbers::count_at;
 use crate::state::state_at;
 use crate::{Count, GivenState};
 use address::Address;
-use limits::{GREATEST_NUMBER, MEMBERS, WINDOW};
+use address::limits::{GREATEST_NUMBER, MEMBERS, WINDOW};
 use std::marker::Model;
 
 /// A view to be installed: who of its members come from the same view, the messages of that one from the

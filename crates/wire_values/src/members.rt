@@ -7,8 +7,8 @@ ghost use Rattle.wire_values.specs.Lists.{may_follow, members_at, view_at, rest_
 
 use crate::error::WireError;
 use crate::fields::Reader;
+use address::limits::MEMBERS;
 use address::{Address, ViewId};
-use limits::MEMBERS;
 use std::marker::Model;
 
 /// At most `MEMBERS` addresses, which lie in the value itself. Contracts see them as a list.
@@ -21,7 +21,7 @@ pub struct Members {
 impl Model for Members {
     ghost use Rattle.std.specs.Prelude.{List, take, ◌≤◌};
     ghost use Rattle.address.specs.Ids.{Address};
-    ghost use Rattle.limits.specs.declared.TheConstants.{MEMBERS};
+    ghost use Rattle.address.specs.declared.limits.TheConstants.{MEMBERS};
 
     ghost Value = { List Address };
 

@@ -5,7 +5,7 @@ ghost use Rattle.wire_values.specs.Reading.{IsRead, number_at as value_at};
 use crate::error::WireError;
 use crate::fields::Reader;
 use crate::{Count, Number};
-use limits::GREATEST_NUMBER;
+use address::limits::GREATEST_NUMBER;
 
 /// Reads a number of eight bytes from `low` to `high`, 1 to 2^62: 20 where bytes are missing, 25 where it is another.
 pub fn number_at(low: u64, high: u64, from: &mut Reader<'_>) -> Result<Number, WireError>

@@ -10,7 +10,7 @@ use crate::error::WireError;
 use crate::fields::Reader;
 use crate::numbers::count_at;
 use address::ViewId;
-use limits::{GREATEST_NUMBER, WINDOW};
+use address::limits::{GREATEST_NUMBER, WINDOW};
 use std::marker::Model;
 
 /// What a member reports of the view that it comes from: its id, how far it has the view's order, and the

@@ -1,7 +1,7 @@
 //! States and their chunks, read from the front of some bytes.
 
 ghost use Rattle.std.specs.Prelude.{◌≤◌, ◌<◌, IfOk};
-ghost use Rattle.limits.specs.declared.TheConstants.{STATE};
+ghost use Rattle.address.specs.declared.limits.TheConstants.{STATE};
 ghost use Rattle.wire_values.specs.Reading.{IsRead};
 ghost use Rattle.wire_values.specs.Chunks.{before_chunk};
 ghost use Rattle.wire_values.specs.Lists.{total_at, whole_at, chunked_at, state_at, index_at, chunk_at};
@@ -10,7 +10,7 @@ use crate::error::WireError;
 use crate::fields::Reader;
 use crate::values::chunk_len;
 use crate::{Chunk, GivenState, State, Total};
-use limits::{CHUNK, STATE, WHOLE_STATE};
+use address::limits::{CHUNK, STATE, WHOLE_STATE};
 
 #[tactic(auto, unfolding(crate::specs::Lists::total_at))]
 fn total_at(from: &mut Reader<'_>) -> Result<Total, WireError>

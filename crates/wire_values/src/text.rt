@@ -6,7 +6,7 @@ ghost use Rattle.wire_values.specs.Texts.{group_at};
 use crate::error::WireError;
 use crate::fields::Reader;
 use crate::{GroupName, Payload};
-use limits::{GROUP_NAME, PAYLOAD};
+use address::limits::{GROUP_NAME, PAYLOAD};
 
 /// Reads the name of a group: its length, 1 to `GROUP_NAME`, and its bytes, letters, digits, `-` and `_`: 20, 24 for the length, 25 for a byte.
 #[tactic(auto, using(crate::proofs::Names::name_is), unfolding(crate::specs::Texts::group_at))]

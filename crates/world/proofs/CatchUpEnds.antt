@@ -32,12 +32,12 @@ use Rattle.world_step.proofs.MembersAsSystem.{system_of}
 use Rattle.world_step.specs.Invariant.{IsWorld, IsNodeStateOf}
 use Rattle.world_step.specs.Worlds.{WorldModel}
 use Rattle.world_step.specs.Pools.{first_for}
-use Rattle.world_plays.specs.Plays.{lacks_memory, Plays}
+use Rattle.world_step.specs.Plays.{lacks_memory, Plays}
 use Rattle.world.specs.Gaps.{open_view, is_open_in, pair_of, pair_in, pair_at, Hands, CatchesUp, IsLevel}
 use Rattle.world.proofs.PairsCompared
 use Rattle.world_step.proofs.KeepOfWorlds
 use Rattle.world.proofs.RepliesPlayed
-use Rattle.world_plays.proofs.Standing
+use Rattle.world_step.proofs.Standing
 use Rattle.world.proofs.CatchUpLevels
 
 -- ---- one that is open in a view

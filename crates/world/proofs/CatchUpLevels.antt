@@ -5,7 +5,7 @@ use Rattle.std.specs.Option.{option_map_or}
 use Rattle.std.proofs.lemmas.Bool.Decides.{nat_tests}
 use Rattle.std.proofs.lemmas.List.{append-nil, length-append, length-map}
 use Rattle.std.proofs.Math.Seq.{drop-append_seam}
-use Rattle.limits.specs.declared.TheConstants.{WINDOW}
+use Rattle.address.specs.declared.limits.TheConstants.{WINDOW}
 use Rattle.address.specs.Ids.{Address, ViewId, same_address}
 use Rattle.view.specs.Members.{View, stands_in}
 use Rattle.wire_values.specs.Values.{Entry, Missing, held_at}
@@ -39,7 +39,7 @@ use Rattle.world_step.specs.Turns.{OthersStand}
 use Rattle.world_step.specs.Invariant.{IsWorld}
 use Rattle.world_step.specs.Worlds.{WorldModel}
 use Rattle.world_step.specs.Pools.{is_destined, first_for}
-use Rattle.world_plays.specs.Plays.{lacks_memory, Delivers, DeliversPast}
+use Rattle.world_step.specs.Plays.{lacks_memory, Delivers, DeliversPast}
 use Rattle.world.proofs.WindowFills.{MissesWithin, asked-within, nothing-missing, filled}
 use Rattle.world.proofs.PairsCompared
 use Rattle.world_step.proofs.MembersAtNodes
@@ -48,10 +48,10 @@ use Rattle.law_processes.proofs.PostsAreSpelled.{EachSound, bytes_for}
 use Rattle.world_step.proofs.KeepOfWorlds
 use Rattle.world.proofs.RepliesPlayed
 use Rattle.settling.proofs.FirstPackets.{first-found, each-at}
-use Rattle.world_plays.proofs.Standing
+use Rattle.world_step.proofs.Standing
 use Rattle.step_output.specs.Steps.{who}
-use Rattle.world_plays.proofs.PoolPackets.{IsSound, put-out, AreNext, put-next, next-rest, next-first}
-use Rattle.world_plays.proofs.Deliveries.{delivers-none, delivers-next}
+use Rattle.world_step.proofs.PoolPackets.{IsSound, put-out, AreNext, put-next, next-rest, next-first}
+use Rattle.world_step.proofs.Deliveries.{delivers-none, delivers-next}
 
 -- ---- the two
 

@@ -25,19 +25,19 @@ use Rattle.world_step.specs.declared.node_state.NodeState.TheVariants.{Running}
 use Rattle.world_step.specs.Invariant.{IsWorld}
 use Rattle.world_step.specs.Worlds.{WorldModel}
 use Rattle.world_step.specs.Pools.{first_for}
-use Rattle.world_plays.specs.Plays.{lacks_memory, Plays, Fails, Breaks, BreaksPast, DeliversPast}
+use Rattle.world_step.specs.Plays.{lacks_memory, Plays, Fails, Breaks, BreaksPast, DeliversPast}
 use Rattle.world.specs.Gaps.{open_view, is_open_in, pair_at, Hands, Stops, BothRun, EndsSo}
 use Rattle.world.specs.Gaps.Stops.{AtTick, AtStatus, AtRequest, AtAnswer}
 use Rattle.world.proofs.WindowFills.{MissesWithin}
 use Rattle.law_processes.proofs.PostsAreSpelled.{EachSound}
 use Rattle.world_step.proofs.KeepOfWorlds
 use Rattle.world.proofs.RepliesPlayed
-use Rattle.world_plays.proofs.Standing
+use Rattle.world_step.proofs.Standing
 use Rattle.world.proofs.CatchUpLevels
 use Rattle.world.proofs.CatchUpEnds
 use Rattle.step_output.specs.Steps.{who}
-use Rattle.world_plays.proofs.PoolPackets.{AreNext, next-rest, next-first}
-use Rattle.world_plays.proofs.Deliveries.{breaks-none, breaks-next}
+use Rattle.world_step.proofs.PoolPackets.{AreNext, next-rest, next-first}
+use Rattle.world_step.proofs.Deliveries.{breaks-none, breaks-next}
 
 module _ {S : Type 0} (meaning : Meaning S) where
   -- who runs in a view is open there

@@ -2,7 +2,7 @@
 use Rattle.std.proofs.Common.{◌≡◌, ℕ, ◌+◌, ◌-◌, true, false, Option, Some, None, List, [], ◌++◌, map, is_some, nat_eq, nat_lt, inl, inr, refl, ap, ◌∙◌, subst}
 use Rattle.std.specs.Prelude.{◌⊎◌}
 use Rattle.std.proofs.lemmas.List.{append-nil}
-use Rattle.limits.specs.declared.TheConstants.{WINDOW}
+use Rattle.address.specs.declared.limits.TheConstants.{WINDOW}
 use Rattle.address.specs.Ids.{Address, same_address}
 use Rattle.view.specs.Members.{stands_in}
 use Rattle.wire_values.specs.Values.{Entry, Missing, Progress}
@@ -29,16 +29,16 @@ use Rattle.world_model.specs.Packets.{world_group}
 use Rattle.world_step.specs.NodeStates.{bytes_of}
 use Rattle.world_step.specs.Turns.{OthersStand}
 use Rattle.world_step.specs.Worlds.{WorldModel, WorldStep}
-use Rattle.world_plays.specs.Plays.{lacks_memory}
+use Rattle.world_step.specs.Plays.{lacks_memory}
 use Rattle.law_processes.proofs.PostsAreSpelled.{EachSound, bytes_for}
 use Rattle.world_step.proofs.InputsTaken.{when-true}
-use Rattle.world_plays.proofs.PlayedEvents
-use Rattle.world_plays.proofs.Standing
-use Rattle.world_plays.proofs.Standing.{Stands}
+use Rattle.world_step.proofs.PlayedEvents
+use Rattle.world_step.proofs.Standing
+use Rattle.world_step.proofs.Standing.{Stands}
 use Rattle.step_output.specs.Steps.{who}
 use Rattle.traffic.specs.InViews.{in_view}
 use Rattle.membership.specs.InSteps.{in_step}
-use Rattle.world_plays.proofs.PoolPackets.{put-out, happens}
+use Rattle.world_step.proofs.PoolPackets.{put-out, happens}
 
 module _ {S : Type 0} (meaning : Meaning S) where
   -- the member of an address runs, in a view, and is not blocked

@@ -3,7 +3,7 @@ use Rattle.std.proofs.Common.{◌≡◌, ℕ, ◌+◌, ◌-◌, ◌<◌, ◌≤�
 use Rattle.std.specs.Prelude.{nat_le, IsSome, ◌⊎◌}
 use Rattle.std.proofs.lemmas.Bool.{cond-true, eqb-true}
 use Rattle.std.proofs.lemmas.Bool.Decides.{nat_tests}
-use Rattle.limits.specs.declared.TheConstants.{WINDOW, GREATEST_NUMBER}
+use Rattle.address.specs.declared.limits.TheConstants.{WINDOW, GREATEST_NUMBER}
 use Rattle.address.specs.Ids.{Address}
 use Rattle.wire_values.specs.Values.{Entry, held_at}
 use Rattle.nak_stream.specs.Windows.{WindowModel, held_above, held_with, offers, taken, collected, IsLeastGap, IsGreatestGap}

@@ -16,7 +16,7 @@ use Rattle.world_step.specs.declared.node_state.NodeState.{NodeState}
 use Rattle.world_step.specs.declared.node_state.NodeState.TheVariants.{Vacant, Ended, Running}
 use Rattle.world_step.specs.Worlds.{WorldModel}
 use Rattle.world_step.specs.Pools.{first_for}
-use Rattle.world_plays.specs.Plays.{Plays, Fails, DeliversPast, BreaksPast}
+use Rattle.world_step.specs.Plays.{Plays, Fails, DeliversPast, BreaksPast}
 
 -- ---- whom it is about
 

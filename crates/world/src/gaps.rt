@@ -14,7 +14,7 @@ ghost use Rattle.world_model.specs.Packets.{world_group};
 ghost use Rattle.world_step.specs.NodeStates.{deployment_of, node_states_in};
 ghost use Rattle.world_step.specs.Worlds.{shown, IsLonger};
 ghost use Rattle.world.specs.Known.{MembersKnow};
-ghost use Rattle.world_plays.specs.Plays.{Fails};
+ghost use Rattle.world_step.specs.Plays.{Fails};
 ghost use Rattle.world.specs.Gaps.{open_view, is_open_in, pair_of, pair_at, has_open_pair, Hands, CatchesUp, Stops, EndsSo, IsLevel};
 
 use crate::World;

@@ -21,10 +21,9 @@ mod gaps;
 mod plays;
 mod settle;
 
-use address::{Address, Node};
+use address::limits::{Refusal, STEP_EVENTS};
+use address::{Address, Bytes, Node};
 use law_processes::deployments_are_synchronous;
-use limits::{Refusal, STEP_EVENTS};
-use owned_bytes::Bytes;
 use state_transfer::Receiver;
 use std::alloc::{AllocError, Global};
 use std::collections::BTreeMap;

@@ -2,13 +2,13 @@
 
 ghost use Rattle.std.specs.Prelude.{◌-◌, OnOk, OnErr};
 ghost use Rattle.world_step.specs.Worlds.{shown};
-ghost use Rattle.world_plays.specs.Plays.{Plays, Fails, Delivers, DeliversPast, Breaks, BreaksPast};
+ghost use Rattle.world_step.specs.Plays.{Plays, Fails, Delivers, DeliversPast, Breaks, BreaksPast};
 
 use crate::World;
 use state_transfer::Receiver;
 use std::alloc::AllocError;
 use world_model::WorldEvent;
-use world_plays::lacks_memory;
+use world_step::lacks_memory;
 
 impl<R: Receiver> World<R> {
     /// Carries out one event; an error where the step is not begun, and where memory is refused to the member in it, which has then crashed.

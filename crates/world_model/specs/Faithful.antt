@@ -3,7 +3,7 @@ use Rattle.std.specs.Prelude.{◌≡◌, ℕ, ◌+◌, ◌-◌, ◌<◌, ◌^◌
 use Rattle.std.specs.Option.{option_map_or, ForSome}
 use Rattle.std.specs.List.{list_all, Contains}
 use Rattle.address.specs.Ids.{Address, ViewId, same_address}
-use Rattle.limits.specs.declared.TheConstants.{PAYLOAD, OUTSTANDING, WINDOW, GREATEST_NUMBER}
+use Rattle.address.specs.declared.limits.TheConstants.{PAYLOAD, OUTSTANDING, WINDOW, GREATEST_NUMBER}
 use Rattle.trace_props.specs.declared.event.Event.{Event}
 use Rattle.trace_props.specs.declared.event.Event.TheVariants.{Started, Sent, Delivered, Blocked, Installed, Left, Crashed}
 use Rattle.trace_props.specs.declared.event.Install.{Install}
@@ -13,9 +13,9 @@ use Rattle.world_model.specs.declared.WorldEvent.TheVariants.{Start, Create, Joi
 use Rattle.world_model.specs.declared.Answer.{Answer}
 use Rattle.world_model.specs.declared.Answer.TheVariants.{Done, Refused}
 use Rattle.world_model.specs.declared.Answer.TheVariants as answer
-use Rattle.limits.specs.declared.refusal.Refusal.{Refusal}
-use Rattle.limits.specs.declared.refusal.Refusal.TheVariants.{NotConnected, Busy, TooLong, AlreadyConnected, Closed, Memory, Exhausted}
-use Rattle.limits.specs.declared.refusal.Refusal.TheVariants as refusal
+use Rattle.address.specs.declared.refusal.Refusal.{Refusal}
+use Rattle.address.specs.declared.refusal.Refusal.TheVariants.{NotConnected, Busy, TooLong, AlreadyConnected, Closed, Memory, Exhausted}
+use Rattle.address.specs.declared.refusal.Refusal.TheVariants as refusal
 use Rattle.world_model.specs.Histories.{History, last_of, is_connected, after, no_history}
 use Rattle.world_model.specs.Packets.{recipient}
 

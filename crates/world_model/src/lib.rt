@@ -4,9 +4,8 @@
 ghost use Rattle.std.specs.Prelude.{◌≡◌, IfOk};
 ghost use Rattle.world_model.specs.Histories.{target_of, starts};
 
-use address::{Address, Node};
-use limits::Refusal;
-use owned_bytes::Bytes;
+use address::limits::Refusal;
+use address::{Address, Bytes, Node};
 use std::alloc::{AllocError, Global};
 
 /// What a world is given to do (docs/GUARANTEES.md, "Faithful").

@@ -15,7 +15,7 @@ use Rattle.member.specs.declared.error.Error.TheVariants as error
 use Rattle.member.specs.Members.{MemberModel, lone_install}
 use Rattle.member.specs.Handling as member
 use Rattle.world_model.specs.declared.Answer.TheVariants.{Done, Refused}
-use Rattle.limits.specs.declared.refusal.Refusal.TheVariants.{AlreadyConnected, Memory}
+use Rattle.address.specs.declared.refusal.Refusal.TheVariants.{AlreadyConnected, Memory}
 use Rattle.world_model.specs.Histories.{History}
 use Rattle.world_model.specs.Faithful.{AnswersCreate, AnswersJoin, AnswersQuietly, AnswersLeave, is_quiet}
 use Rattle.world_step.specs.NodeStates.{answer_for, answer_to}

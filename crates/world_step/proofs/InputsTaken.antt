@@ -22,10 +22,10 @@ use Rattle.member.specs.Handling.{Handled}
 use Rattle.world_model.specs.declared.WorldEvent.{WorldEvent}
 use Rattle.world_model.specs.declared.Answer.{Answer}
 use Rattle.world_model.specs.declared.Answer.TheVariants.{Refused}
-use Rattle.limits.specs.declared.refusal.Refusal.{Refusal}
-use Rattle.limits.specs.declared.refusal.Refusal.TheVariants.{Memory}
-use Rattle.limits.specs.declared.refusal.Refusal.TheVariants as refusal
-use Rattle.limits.specs.Refusals as refusals
+use Rattle.address.specs.declared.refusal.Refusal.{Refusal}
+use Rattle.address.specs.declared.refusal.Refusal.TheVariants.{Memory}
+use Rattle.address.specs.declared.refusal.Refusal.TheVariants as refusal
+use Rattle.address.specs.Refusals as refusals
 use Rattle.world_model.specs.Histories.{History, last_of, is_connected, connects_after}
 use Rattle.world_model.specs.Faithful.{Answers, SendsPromptly}
 use Rattle.world_step.specs.declared.node_state.NodeState.{NodeState}

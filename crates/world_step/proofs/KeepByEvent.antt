@@ -16,8 +16,8 @@ use Rattle.world_model.specs.declared.WorldEvent.TheVariants.{Start, Create, Joi
 use Rattle.world_model.specs.declared.Target.TheVariants as target
 use Rattle.world_model.specs.declared.Answer.{Answer}
 use Rattle.world_model.specs.declared.Answer.TheVariants.{Done, Refused}
-use Rattle.limits.specs.declared.refusal.Refusal.{Refusal}
-use Rattle.limits.specs.declared.refusal.Refusal.TheVariants.{NotConnected, Closed}
+use Rattle.address.specs.declared.refusal.Refusal.{Refusal}
+use Rattle.address.specs.declared.refusal.Refusal.TheVariants.{NotConnected, Closed}
 use Rattle.world_model.specs.Histories.{History, last_of, is_connected, target_of}
 use Rattle.world_model.specs.Faithful.{Answers, AtMember, AnswersCrash}
 use Rattle.world_step.specs.declared.node_state.NodeState.{NodeState}

@@ -14,8 +14,8 @@ use Rattle.law_agreement.proofs.KeepBySteps
 use Rattle.world_model.specs.declared.WorldEvent.TheVariants.{Start}
 use Rattle.world_model.specs.declared.Answer.{Answer}
 use Rattle.world_model.specs.declared.Answer.TheVariants.{Done, Sent, Refused}
-use Rattle.limits.specs.declared.refusal.Refusal.{Refusal}
-use Rattle.limits.specs.declared.refusal.Refusal.TheVariants.{NotConnected, Blocked, Busy, TooLong, AlreadyConnected, Closed, Memory, Exhausted, BadName}
+use Rattle.address.specs.declared.refusal.Refusal.{Refusal}
+use Rattle.address.specs.declared.refusal.Refusal.TheVariants.{NotConnected, Blocked, Busy, TooLong, AlreadyConnected, Closed, Memory, Exhausted, BadName}
 use Rattle.world_model.specs.Histories.{History, last_of, is_connected, connects_after}
 use Rattle.world_model.specs.Faithful.{Answers}
 use Rattle.world_step.specs.declared.node_state.NodeState.{NodeState}

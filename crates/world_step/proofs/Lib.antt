@@ -21,3 +21,8 @@ pub mod PacketsHandedOver
 pub mod WorldsAfterEvents
 pub mod KeepOfWorlds
 pub mod FirstForAddress
+pub mod Deliveries
+pub mod PlaysRun
+pub mod PoolPackets
+pub mod PlayedEvents
+pub mod Standing

@@ -10,7 +10,7 @@ use Rattle.law_acts.specs.Cores.{Core, id_of}
 use Rattle.law_agreement.specs.Members.{MemberFact, ViewFact}
 use Rattle.law_agreement.proofs.OrderedDeliveries.{many-delivered}
 use Rattle.member.specs.declared.error.Error.{Error}
-use Rattle.limits.specs.declared.refusal.Refusal.TheVariants.{Closed}
+use Rattle.address.specs.declared.refusal.Refusal.TheVariants.{Closed}
 use Rattle.member.specs.declared.error.Error.TheVariants.{Refused}
 use Rattle.member.specs.declared.input.Input.{Input}
 use Rattle.member.specs.Members.{MemberModel, core_of, refusal_in, refusal_of}

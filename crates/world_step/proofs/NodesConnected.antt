@@ -8,7 +8,7 @@ use Rattle.world_model.specs.declared.WorldEvent.{WorldEvent}
 use Rattle.world_model.specs.declared.WorldEvent.TheVariants.{Start, Create, Join, Send, Deliver, Tick, Suspect, MergeHint, Leave, Crash}
 use Rattle.world_model.specs.declared.Answer.{Answer}
 use Rattle.world_model.specs.declared.Answer.TheVariants.{Refused}
-use Rattle.limits.specs.declared.refusal.Refusal.{Refusal}
+use Rattle.address.specs.declared.refusal.Refusal.{Refusal}
 use Rattle.world_model.specs.declared.Reply.{Reply}
 use Rattle.world_model.specs.Histories.{History, is_done, is_connected, connected_after, connects_after, node_of, after}
 use Rattle.world_model.specs.Faithful.{SendsPromptly}

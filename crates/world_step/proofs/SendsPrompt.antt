@@ -6,7 +6,7 @@ use Rattle.std.proofs.lemmas.Bool.Decides.{nat_tests}
 use Rattle.std.proofs.lemmas.Option.{none-some, same_Some}
 use Rattle.address.specs.Ids.{Address, ViewId, same_address}
 use Rattle.view.specs.Members.{View}
-use Rattle.limits.specs.declared.TheConstants.{GREATEST_NUMBER, PAYLOAD, WINDOW, OUTSTANDING}
+use Rattle.address.specs.declared.limits.TheConstants.{GREATEST_NUMBER, PAYLOAD, WINDOW, OUTSTANDING}
 use Rattle.state_transfer.specs.Meanings.{Meaning}
 use Rattle.trace_props.specs.declared.event.Event.{Event}
 use Rattle.trace_props.specs.declared.event.Event.TheVariants.{Delivered, Crashed}
@@ -16,9 +16,9 @@ use Rattle.law_acts.specs.Cores.{Core, is_frozen}
 use Rattle.member.specs.Members.{MemberModel, send_refusal}
 use Rattle.member.specs.Handling as member
 use Rattle.world_model.specs.declared.Answer.TheVariants.{Sent, Refused}
-use Rattle.limits.specs.declared.refusal.Refusal.{Refusal}
-use Rattle.limits.specs.declared.refusal.Refusal.TheVariants.{Memory}
-use Rattle.limits.specs.declared.refusal.Refusal.TheVariants as refusal
+use Rattle.address.specs.declared.refusal.Refusal.{Refusal}
+use Rattle.address.specs.declared.refusal.Refusal.TheVariants.{Memory}
+use Rattle.address.specs.declared.refusal.Refusal.TheVariants as refusal
 use Rattle.world_model.specs.Histories.{History}
 use Rattle.world_model.specs.Faithful.{AnswersSend, IsPrompt, SendsNext, outstanding}
 use Rattle.world_step.specs.NodeStates.{answer_to}

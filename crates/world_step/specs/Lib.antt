@@ -4,3 +4,4 @@ pub mod Turns
 pub mod Invariant
 pub mod Worlds
 pub mod Pools
+pub mod Plays

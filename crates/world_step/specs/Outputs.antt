@@ -5,7 +5,7 @@ use Rattle.trace_props.specs.Recorded.{IsRecordable}
 use Rattle.step_output.specs.declared.output.Outgoing.{Outgoing}
 use Rattle.step_output.specs.declared.output.Output.{Output}
 use Rattle.world_model.specs.Packets.{destination_of}
-use Rattle.limits.specs.declared.TheConstants.{STEP_EVENTS}
+use Rattle.address.specs.declared.limits.TheConstants.{STEP_EVENTS}
 
 -- each packet says itself to whom it goes
 abbrev pub AreAddressed : List Outgoing → Type 0

@@ -4,8 +4,10 @@
 
 mod node_state;
 mod nodes;
+mod plays;
 mod pool;
 
 pub use node_state::NodeState;
 pub use nodes::carry;
+pub use plays::lacks_memory;
 pub use pool::Pool;

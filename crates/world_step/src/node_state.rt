@@ -3,12 +3,12 @@
 ghost use Rattle.std.specs.Prelude.{◌≡◌, ◌≤◌, ◌++◌, ◌∷◌, [], ℕ, List, Some, length, IfOk};
 ghost use Rattle.trace_props.specs.declared.event.Event.TheVariants.{Crashed};
 ghost use Rattle.trace_props.specs.Recorded.{IsRecordable};
-ghost use Rattle.limits.specs.declared.TheConstants.{STEP_EVENTS};
+ghost use Rattle.address.specs.declared.limits.TheConstants.{STEP_EVENTS};
 ghost use Rattle.member.specs.Handling.{Handled};
 ghost use Rattle.member.specs.declared.input.Input.{Input};
 ghost use Rattle.member.specs.Members.{MemberModel, leaves};
 ghost use Rattle.world_model.specs.declared.Answer.TheVariants.{Refused};
-ghost use Rattle.limits.specs.declared.refusal.Refusal.TheVariants.{Memory};
+ghost use Rattle.address.specs.declared.refusal.Refusal.TheVariants.{Memory};
 ghost use Rattle.world_model.specs.Packets.{packet_numbered};
 ghost use Rattle.world_step.specs.declared.node_state.NodeState.TheVariants.{Ended, Running};
 ghost use Rattle.world_step.specs.NodeStates.{answer_for, answer_to};
@@ -16,8 +16,8 @@ ghost use Rattle.world_step.specs.Outputs.{Fits};
 ghost use Rattle.world_step.specs.Turns.{about, Hands, CallGives, Begins, StartGives, CrashGives, Acts, HandsPacket};
 
 use crate::pool::Pool;
+use address::limits::Refusal;
 use address::{Address, Node};
-use limits::Refusal;
 use member::{Error, Input, Member};
 use state_transfer::Receiver;
 use std::alloc::Global;

@@ -3,7 +3,7 @@
 ghost use Rattle.std.specs.Prelude.{◌≡◌, ◌≤◌, ℕ, false, nat_eq, List, Some, IfOk, OnOk, OnErr};
 ghost use Rattle.std.specs.Ordering.{nat_cmp};
 ghost use Rattle.std.specs.BTreeMap.{get};
-ghost use Rattle.limits.specs.declared.TheConstants.{STEP_EVENTS};
+ghost use Rattle.address.specs.declared.limits.TheConstants.{STEP_EVENTS};
 ghost use Rattle.world_model.specs.Histories.{target_of};
 ghost use Rattle.world_model.specs.Packets.{packet_numbered};
 ghost use Rattle.world_step.specs.NodeStates.{node_state_at, node_states_in};
@@ -13,7 +13,7 @@ use crate::node_state;
 use crate::node_state::NodeState;
 use crate::pool::Pool;
 use address::Node;
-use limits::Refusal;
+use address::limits::Refusal;
 use state_transfer::Receiver;
 use std::alloc::{AllocError, Global};
 use std::collections::BTreeMap;

@@ -7,8 +7,7 @@ ghost use Rattle.world_step.specs.Pools.{first_for, is_destined};
 ghost use Rattle.world_step.specs.NodeStates.{bytes_of};
 ghost use Rattle.world_step.specs.Outputs.{AreAddressed};
 
-use address::Address;
-use owned_bytes::Bytes;
+use address::{Address, Bytes};
 use std::alloc::{AllocError, Global};
 use std::marker::Model;
 use step_output::Outgoing;

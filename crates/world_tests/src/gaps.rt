@@ -1,8 +1,7 @@
 //! Gaps that close: a member that lost packets is brought level by one STATUS, one NAK and the answers.
 
-use address::{Address, Node};
+use address::{Address, Bytes, Node};
 use chat_log::ChatLog;
-use owned_bytes::Bytes;
 use std::alloc::Global;
 use trace_props::Event;
 use wire::decode;

@@ -1,8 +1,7 @@
 //! INSTALLs that were lost: a tick of each who waits brings its REPORT, and by that the chunks and the INSTALL come again; and where that cannot be.
 
-use address::{Address, Node};
+use address::{Address, Bytes, Node};
 use chat_log::{ChatLog, LongChat};
-use owned_bytes::Bytes;
 use state_transfer::Receiver;
 use std::alloc::Global;
 use trace_props::Event;

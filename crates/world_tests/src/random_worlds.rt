@@ -1,10 +1,9 @@
 //! Random worlds: a change of view that can complete does, also by rounds that raise its proposal; one that cannot is left alone; and suspicions bring each member
 //! into a view of itself alone.
 
-use address::{Address, Node, ViewId};
+use address::{Address, Bytes, Node, ViewId};
 use chat_log::ChatLog;
 use law_dead_ends::nothing_is_a_dead_end;
-use owned_bytes::Bytes;
 use trace_props::{Event, Install};
 use world::World;
 use world_model::WorldEvent;

@@ -1,8 +1,8 @@
 //! One step of a world by itself (docs/GUARANTEES.md, "The world").
 
+use address::limits::STEP_EVENTS;
 use address::{Address, Node, ViewId};
 use chat_log::ChatLog;
-use limits::STEP_EVENTS;
 use std::alloc::{AllocError, Global};
 use std::collections::BTreeMap;
 use trace_props::Trace;

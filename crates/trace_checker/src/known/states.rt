@@ -1,7 +1,7 @@
 ghost use Rattle.std.specs.Prelude.{◌≡◌, ◌≤◌, ◌++◌, ◌∷◌, [], List, true, Some, length, unwrap_or, option_and_then, OnOk, IfOk, if◌then◌else◌, is_some, IsSome, MatchBool};
 ghost use Rattle.std.specs.HashMap.{get};
 ghost use Rattle.address.specs.Ids.{Address, IsAddress, same_address, same_view_id};
-ghost use Rattle.limits.specs.declared.TheConstants.{PAYLOAD};
+ghost use Rattle.address.specs.declared.limits.TheConstants.{PAYLOAD};
 ghost use Rattle.std.specs.Bool.{Decides};
 ghost use Rattle.std.specs.Option.{ForSome};
 ghost use Rattle.trace_props.specs.declared.event.Event.{Event};
@@ -11,8 +11,7 @@ ghost use Rattle.trace_props.specs.Agreeing.{MayEnter};
 ghost use Rattle.trace_checker.specs.Copies.{EntersWith, KnowsStates};
 
 use super::notes::{delivery_in, install_in};
-use address::{Address, ViewId};
-use owned_bytes::Bytes;
+use address::{Address, Bytes, ViewId};
 use state_transfer::Receiver;
 use std::alloc::{AllocError, Global};
 use std::collections::HashMap;

@@ -1,7 +1,7 @@
 ghost use Rattle.std.specs.Prelude.{◌≡◌, ◌≤◌, ◌+◌};
 ghost use Rattle.std.specs.Option.{SomeIff};
 
-use limits::{GREATEST_NUMBER, WINDOW};
+use address::limits::{GREATEST_NUMBER, WINDOW};
 use std::marker::Model;
 
 /// A number from 1 to `GREATEST_NUMBER`: of a message, of a place in a view's order, or a view's counter.
@@ -12,7 +12,7 @@ pub struct Number {
 
 impl Model for Number {
     ghost use Rattle.std.specs.Prelude.{ℕ, ◌≤◌};
-    ghost use Rattle.limits.specs.declared.TheConstants.{GREATEST_NUMBER};
+    ghost use Rattle.address.specs.declared.limits.TheConstants.{GREATEST_NUMBER};
 
     ghost Value = { ℕ };
 
@@ -51,7 +51,7 @@ pub struct Count {
 
 impl Model for Count {
     ghost use Rattle.std.specs.Prelude.{ℕ, ◌≤◌};
-    ghost use Rattle.limits.specs.declared.TheConstants.{GREATEST_NUMBER};
+    ghost use Rattle.address.specs.declared.limits.TheConstants.{GREATEST_NUMBER};
 
     ghost Value = { ℕ };
 
@@ -146,7 +146,7 @@ pub struct Progress {
 
 impl Model for Progress {
     ghost use Rattle.std.specs.Prelude.{◌≤◌, ◌+◌};
-    ghost use Rattle.limits.specs.declared.TheConstants.{WINDOW};
+    ghost use Rattle.address.specs.declared.limits.TheConstants.{WINDOW};
     ghost use Rattle.wire_values.specs.Values.{Progress};
 
     ghost Value = { Progress };

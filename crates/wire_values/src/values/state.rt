@@ -1,9 +1,9 @@
 ghost use Rattle.std.specs.Prelude.{◌≡◌, ◌≤◌, ◌<◌, ◌+◌, ◌-◌, ◌*◌, length};
 ghost use Rattle.std.specs.Option.{SomeIff};
-ghost use Rattle.limits.specs.declared.TheConstants.{WHOLE_STATE, STATE, CHUNK};
+ghost use Rattle.address.specs.declared.limits.TheConstants.{WHOLE_STATE, STATE, CHUNK};
 ghost use Rattle.wire_values.specs.Chunks.{IsTotal, IsPlace, IsCut, chunk_len};
 
-use limits::{CHUNK, STATE, WHOLE_STATE};
+use address::limits::{CHUNK, STATE, WHOLE_STATE};
 use std::marker::Model;
 
 /// A state in lent bytes that an INSTALL carries itself, at most `WHOLE_STATE` of them.
@@ -14,7 +14,7 @@ pub struct State<'a> {
 
 impl<'a> Model for State<'a> {
     ghost use Rattle.std.specs.Prelude.{List, ℕ, length, ◌≤◌};
-    ghost use Rattle.limits.specs.declared.TheConstants.{WHOLE_STATE};
+    ghost use Rattle.address.specs.declared.limits.TheConstants.{WHOLE_STATE};
 
     ghost Value = { List ℕ };
 

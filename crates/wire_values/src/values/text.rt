@@ -3,7 +3,7 @@ ghost use Rattle.std.specs.List.{list_all};
 ghost use Rattle.std.specs.Option.{SomeIff};
 ghost use Rattle.wire_values.specs.Names.{is_name_byte, is_group_name};
 
-use limits::{GROUP_NAME, PAYLOAD};
+use address::limits::{GROUP_NAME, PAYLOAD};
 use std::marker::Model;
 
 /// A group's name in lent bytes: 1 to `GROUP_NAME` letters, digits, `-` and `_` of ASCII.
@@ -69,7 +69,7 @@ pub struct Payload<'a> {
 
 impl<'a> Model for Payload<'a> {
     ghost use Rattle.std.specs.Prelude.{List, ℕ, length, ◌≤◌};
-    ghost use Rattle.limits.specs.declared.TheConstants.{PAYLOAD};
+    ghost use Rattle.address.specs.declared.limits.TheConstants.{PAYLOAD};
 
     ghost Value = { List ℕ };
 

@@ -1,7 +1,7 @@
-use Rattle.reading.specs.Reading.{list_at}
+use Rattle.big_endian.specs.Reading.{list_at}
 use Rattle.chat_log.specs.Encoding.{line_at}
 use Rattle.chat_log.specs.Chat.{said}
-use Rattle.reading.proofs.ListsRead.{list_goes_on, list_ends, list_is_done}
+use Rattle.big_endian.proofs.ListsRead.{list_goes_on, list_ends, list_is_done}
 use Rattle.chat_log.proofs.decoding.lines_at.Goals as goal
 
 pub returns-in_default : goal.returns-in_default

@@ -1,7 +1,7 @@
 use Rattle.std.proofs.Common.{◌≡◌, ◌-◌}
-use Rattle.reading.specs.Reading.{list_at}
+use Rattle.big_endian.specs.Reading.{list_at}
 use Rattle.chat_log.specs.Encoding.{line_at}
-use Rattle.reading.proofs.ListsRead.{with_front}
+use Rattle.big_endian.proofs.ListsRead.{with_front}
 use Rattle.chat_log.proofs.decoding.lines_at.Given as goal
 
 -- the lines so far, and those that are read from what is left, are all

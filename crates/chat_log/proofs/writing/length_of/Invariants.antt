@@ -1,6 +1,6 @@
 use Rattle.std.proofs.Common.{◌≡◌, ◌≤◌, ◌+◌, ◌*◌, take, drop, length}
 use Rattle.std.specs.List.{flat_map, AllByRecursion}
-use Rattle.limits.specs.declared.TheConstants.{PAYLOAD}
+use Rattle.address.specs.declared.limits.TheConstants.{PAYLOAD}
 use Rattle.chat_log.specs.Chat.{IsLine}
 use Rattle.chat_log.specs.Encoding.{line_bytes}
 use Rattle.chat_log.proofs.writing.length_of.Given as goal

@@ -2,7 +2,7 @@ use Rattle.std.proofs.Common.{◌≡◌, ◌∙◌, arith, rules}
 use Rattle.commands.proofs.StateLinesFollow.{printed-next, printed-some, printed-all}
 use Rattle.commands.proofs.states.append_states.Goals as goal
 use Rattle.address.proofs.Plain.{on-err}
-use Rattle.limits.specs.declared.TheConstants.{GREATEST_NODE}
+use Rattle.address.specs.declared.limits.TheConstants.{GREATEST_NODE}
 
 pub returns-in_err-append_state_at-clause-err : goal.returns-in_err-append_state_at-clause-err
 returns-in_err-append_state_at-clause-err g c =

@@ -1,6 +1,6 @@
-use Rattle.reading.specs.Reading.{list_at}
+use Rattle.big_endian.specs.Reading.{list_at}
 use Rattle.keyed_state.specs.States.{entry_at}
-use Rattle.reading.proofs.ListsRead.{list_goes_on, list_ends, list_is_done}
+use Rattle.big_endian.proofs.ListsRead.{list_goes_on, list_ends, list_is_done}
 use Rattle.keyed_state.proofs.decoding.some_entries.Goals as goal
 
 pub returns-in_default : goal.returns-in_default

@@ -1,7 +1,7 @@
 use Rattle.std.proofs.Common.{◌≡◌, ◌-◌}
-use Rattle.reading.specs.Reading.{list_at}
+use Rattle.big_endian.specs.Reading.{list_at}
 use Rattle.keyed_state.specs.States.{entry_at}
-use Rattle.reading.proofs.ListsRead.{with_front}
+use Rattle.big_endian.proofs.ListsRead.{with_front}
 use Rattle.keyed_state.proofs.decoding.some_entries.Given as goal
 
 -- the entries so far, and those that are read from what is left, are all

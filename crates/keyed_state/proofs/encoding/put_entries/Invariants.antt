@@ -1,6 +1,6 @@
 use Rattle.std.proofs.Common.{◌≡◌, ◌≤◌, ◌+◌, ◌++◌, take, drop, vec_len, vec_capacity}
 use Rattle.std.specs.List.{flat_map, sum_by, AllByRecursion}
-use Rattle.limits.specs.declared.TheConstants.{STATE}
+use Rattle.address.specs.declared.limits.TheConstants.{STATE}
 use Rattle.keyed_state.specs.States.{IsEntry, entry_bytes, entry_size}
 use Rattle.keyed_state.proofs.encoding.put_entries.Given as goal
 

@@ -1,6 +1,6 @@
 use Rattle.std.proofs.Common.{◌≡◌, ◌≤◌, ◌+◌, take, drop}
 use Rattle.std.specs.List.{sum_by}
-use Rattle.limits.specs.declared.TheConstants.{STATE}
+use Rattle.address.specs.declared.limits.TheConstants.{STATE}
 use Rattle.keyed_state.specs.States.{entry_size, state_size}
 use Rattle.keyed_state.proofs.encoding.size_of_all.Given as goal
 

@@ -1,6 +1,6 @@
 use Rattle.byteorder.specs.Endian.{big_bytes}
-use Rattle.keyed_entries.specs.Keys.{key_bytes}
-use Rattle.tokens.specs.Spelling.{view_id_bytes}
+use Rattle.keyed_state.specs.Keys.{key_bytes}
+use Rattle.keyed_state.specs.Spelling.{view_id_bytes}
 use Rattle.lock_table.proofs.PartsAppend.{three-parts}
 use Rattle.lock_table.proofs.encoding.put_command.Goals as goal
 

@@ -1,5 +1,5 @@
 use Rattle.big_endian.specs.Spelled.{address_bytes}
-use Rattle.tokens.specs.Spelling.{token_bytes}
+use Rattle.keyed_state.specs.Spelling.{token_bytes}
 use Rattle.lock_table.specs.Forms.{waiters_bytes}
 use Rattle.lock_table.proofs.PartsAppend.{three-parts}
 use Rattle.lock_table.proofs.encoding.put_lock.Goals as goal

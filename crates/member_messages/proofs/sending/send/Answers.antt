@@ -1,4 +1,4 @@
-use Rattle.std.proofs.Common.{None, sym, subst}
+use Rattle.std.proofs.Common.{None, refl, sym, subst}
 use Rattle.traffic.specs.declared.follower.Follower.{Follower}
 use Rattle.traffic.specs.declared.view_state.ViewState.TheVariants as kinds
 use Rattle.traffic.proofs.ActsOfAnswers.{send-goes}
@@ -45,20 +45,20 @@ pub returns-in_ok-send-in-Some-Coordinator-clause-calm : goal.returns-in_ok-send
 returns-in_ok-send-in-Some-Coordinator-clause-calm g c =
     let there = there-is _ _ _ c.in-Some-Coordinator.is c.in-Some-Coordinator.field-0-is in
     let does = c.in_ok-send-in-Some-Coordinator.ensures in
-    sends-first g.R.Receiver.meaning _ _ _ _ c.args.member_state.now _ _ _ _ _ c.in-Some.ensures.1 there does.orders does.few
+    sends-first g.R.Receiver.meaning _ _ _ _ c.args.member_state.now _ _ _ _ _ refl there does.orders does.few
 
 pub returns-in_ok-send-in-Some-Coordinator-clause-prompt : goal.returns-in_ok-send-in-Some-Coordinator-clause-prompt
 returns-in_ok-send-in-Some-Coordinator-clause-prompt g c =
     let there = there-is _ _ _ c.in-Some-Coordinator.is c.in-Some-Coordinator.field-0-is in
     let does = c.in_ok-send-in-Some-Coordinator.ensures in
-    λ room. delivers-first _ _ _ c.args.member_state.now _ _ _ c.in-Some.ensures.1 there (orderly-in _ _ _ c.requires.ordered there).0 does.prompt does.few room
+    λ room. delivers-first _ _ _ c.args.member_state.now _ _ _ refl there (orderly-in _ _ _ c.requires.ordered there).0 does.prompt does.few room
 
 pub returns-in_ok-send-in-Some-Follower-clause-member_state : goal.returns-in_ok-send-in-Some-Follower-clause-member_state
 returns-in_ok-send-in-Some-Follower-clause-member_state g c =
     let there = there-is _ _ _ c.in-Some-Follower.is c.in-Some-Follower.field-0-is in
     let promised = promised-in c.args.who.now.address c.args.member_state.now c.args.payload.now _ c.requires.free there in
     let does = c.in_ok-send-in-Some-Follower.ensures in
-    let goes = send-goes g.R.Receiver.meaning None c.args.who.now.address c.args.who.now.group c.in-Some.payload c.in-Some-Follower.follower c.args.member_state.now.receiver
+    let goes = send-goes g.R.Receiver.meaning None c.args.who.now.address c.args.who.now.group c.args.payload.now c.in-Some-Follower.follower c.args.member_state.now.receiver
     c.args.out.now c.send-in-Some-Follower.new.self c.send-in-Some-Follower.new.out does.short does.now does.sends in
     member_state-kept _ _ _ _ _ _ c.requires.member_state promised there goes.1
 
@@ -72,7 +72,7 @@ pub returns-in_ok-send-in-Some-Follower-clause-does : goal.returns-in_ok-send-in
 returns-in_ok-send-in-Some-Follower-clause-does g c =
     let there = there-is _ _ _ c.in-Some-Follower.is c.in-Some-Follower.field-0-is in
     let does = c.in_ok-send-in-Some-Follower.ensures in
-    sends-other g.R.Receiver.meaning _ _ _ _ _ _ _ _ _ c.in-Some.ensures.1 there does.now does.sends
+    sends-other g.R.Receiver.meaning _ _ _ _ _ _ _ _ _ refl there does.now does.sends
 
 pub returns-in_ok-send-in-Some-Follower-clause-did : goal.returns-in_ok-send-in-Some-Follower-clause-did
 returns-in_ok-send-in-Some-Follower-clause-did g c =
@@ -80,6 +80,6 @@ returns-in_ok-send-in-Some-Follower-clause-did g c =
     let promised = promised-in c.args.who.now.address c.args.member_state.now c.args.payload.now _ c.requires.free there in
     let does = c.in_ok-send-in-Some-Follower.ensures in
     λ came.
-    let goes = send-goes g.R.Receiver.meaning came c.args.who.now.address c.args.who.now.group c.in-Some.payload c.in-Some-Follower.follower c.args.member_state.now.receiver
+    let goes = send-goes g.R.Receiver.meaning came c.args.who.now.address c.args.who.now.group c.args.payload.now c.in-Some-Follower.follower c.args.member_state.now.receiver
     c.args.out.now c.send-in-Some-Follower.new.self c.send-in-Some-Follower.new.out does.short does.now does.sends in
     goes-did g.R.Receiver.meaning came _ _ _ _ _ _ _ _ c.requires.member_state promised there goes.1 goes.0

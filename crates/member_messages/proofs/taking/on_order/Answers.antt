@@ -1,6 +1,6 @@
 use Rattle.std.proofs.Common.{◌-◌, Some, not, sym}
 use Rattle.std.specs.Prelude.{nat_lt}
-use Rattle.limits.specs.declared.TheConstants.{WINDOW}
+use Rattle.address.specs.declared.limits.TheConstants.{WINDOW}
 use Rattle.wire_values.specs.declared.packet.Body.TheVariants as bodies
 use Rattle.law_acts.specs.Acts.{packet}
 use Rattle.member_messages.proofs.MembersAreOpen.{there-is, orderly-in, ordered-by, nothing-did}

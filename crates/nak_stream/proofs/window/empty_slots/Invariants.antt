@@ -1,5 +1,5 @@
 use Rattle.std.proofs.Common.{◌≡◌, [], length}
-use Rattle.limits.specs.declared.TheConstants.{WINDOW}
+use Rattle.address.specs.declared.limits.TheConstants.{WINDOW}
 use Rattle.nak_stream.specs.Rings.{numbered}
 use Rattle.nak_stream.proofs.window.empty_slots.Given as goal
 

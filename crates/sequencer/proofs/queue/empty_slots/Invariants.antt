@@ -1,5 +1,5 @@
 use Rattle.std.proofs.Common.{◌≡◌, [], length}
-use Rattle.limits.specs.declared.TheConstants.{OUTSTANDING}
+use Rattle.address.specs.declared.limits.TheConstants.{OUTSTANDING}
 use Rattle.sequencer.specs.Slots.{numbered}
 use Rattle.sequencer.proofs.queue.empty_slots.Given as goal
 

@@ -1,6 +1,6 @@
 use Rattle.std.proofs.Common.{◌≡◌, ◌*◌, ◌-◌, ◌∙◌, length, take, drop, min, ap, arith}
 use Rattle.std.proofs.lemmas.List.{take_all, length-drop}
-use Rattle.limits.specs.declared.TheConstants.{CHUNK}
+use Rattle.address.specs.declared.limits.TheConstants.{CHUNK}
 use Rattle.state_chunks.proofs.Pieces.{front_is}
 use Rattle.state_chunks.proofs.cutting.bytes_of.Goals as goal
 

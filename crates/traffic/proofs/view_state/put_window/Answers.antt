@@ -1,5 +1,5 @@
 use Rattle.std.proofs.Common.{◌≡◌, ℕ, List, ◌∷◌, Option, Some, length, sym, ap, ◌∙◌, subst}
-use Rattle.limits.specs.declared.TheConstants.{WINDOW}
+use Rattle.address.specs.declared.limits.TheConstants.{WINDOW}
 use Rattle.wire_values.specs.Values.{Entry}
 use Rattle.nak_stream.specs.Rings.{numbered}
 use Rattle.traffic.proofs.SlotsPutOut.{IsPut, put-none, put-one}

@@ -4,7 +4,7 @@ use Rattle.clap.specs.Words.{found_of, one_of, rows_of}
 use Rattle.vsync_words.specs.Words.{IsNumberIn}
 use Rattle.vsync_words.proofs.Numbers.{if_made, number_is}
 use Rattle.vsync_words.proofs.udp_words.address_of.Goals as goal
-use Rattle.limits.specs.declared.TheConstants.{GREATEST_INCARNATION, GREATEST_NODE}
+use Rattle.address.specs.declared.limits.TheConstants.{GREATEST_INCARNATION, GREATEST_NODE}
 
 pub returns : goal.returns
 returns c =

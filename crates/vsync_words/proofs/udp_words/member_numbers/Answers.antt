@@ -6,7 +6,7 @@ use Rattle.script_reader.specs.declared.udp_script.TheConstants.{ROUNDS}
 use Rattle.vsync_words.specs.Grammar.{number_rule, required_rule}
 use Rattle.vsync_words.proofs.Grammars.{has_globals, with_one}
 use Rattle.vsync_words.proofs.udp_words.member_numbers.Goals as goal
-use Rattle.limits.specs.declared.TheConstants.{GREATEST_INCARNATION, GREATEST_NODE}
+use Rattle.address.specs.declared.limits.TheConstants.{GREATEST_INCARNATION, GREATEST_NODE}
 
 pub returns : goal.returns
 returns c =

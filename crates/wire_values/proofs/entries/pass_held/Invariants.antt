@@ -1,5 +1,5 @@
 use Rattle.std.proofs.Common.{◌≡◌, ◌≤◌, ◌-◌}
-use Rattle.limits.specs.declared.TheConstants.{GREATEST_NUMBER}
+use Rattle.address.specs.declared.limits.TheConstants.{GREATEST_NUMBER}
 use Rattle.wire_values.specs.Reading.{rest_of}
 use Rattle.wire_values.specs.Lists.{held_at}
 use Rattle.wire_values.proofs.entries.pass_held.Given as goal

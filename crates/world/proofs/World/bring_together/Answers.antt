@@ -1,6 +1,6 @@
 use Rattle.std.proofs.Common.{ap, ◌∙◌, length}
 use Rattle.world_step.specs.Worlds.{WorldValue, shown}
-use Rattle.world_plays.proofs.Deliveries.{on-err-map, on-ok-map}
+use Rattle.world_step.proofs.Deliveries.{on-err-map, on-ok-map}
 use Rattle.settling.specs.Settles.{begun_in}
 use Rattle.settling.specs.Settles.SettlesShort.{AtTick}
 use Rattle.settling.proofs.SettlingIsRun.{at-flush, at-report, at-install, all-of-it}

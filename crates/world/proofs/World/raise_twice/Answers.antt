@@ -1,5 +1,5 @@
 use Rattle.world_step.specs.Worlds.{shown}
-use Rattle.world_plays.proofs.Deliveries.{on-err-map, on-ok-map}
+use Rattle.world_step.proofs.Deliveries.{on-err-map, on-ok-map}
 use Rattle.settling.specs.LowProposals.RaisesTwiceShort.{InFirst}
 use Rattle.settling.proofs.OvertakingIsRun.{alone, once-more, once-short}
 use Rattle.address.proofs.Plain.{on-err}

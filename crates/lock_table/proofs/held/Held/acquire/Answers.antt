@@ -2,10 +2,10 @@ use Rattle.std.proofs.Common.{◌≡◌, ◌≤◌, true, false, length, Some, r
 use Rattle.std.specs.List.{slice_get, insert}
 use Rattle.std.proofs.lemmas.Bool.{ltb-false}
 use Rattle.std.proofs.lemmas.Option.{slice_get_read}
-use Rattle.limits.specs.declared.TheConstants.{GREATEST_NUMBER}
+use Rattle.address.specs.declared.limits.TheConstants.{GREATEST_NUMBER}
 use Rattle.view.specs.Members.{stands_in}
-use Rattle.keyed_entries.specs.Entries.{IsHeldAt, IsFreeAt, entry_of}
-use Rattle.tokens.specs.Tokens.{next_token}
+use Rattle.keyed_state.specs.Entries.{IsHeldAt, IsFreeAt, entry_of}
+use Rattle.keyed_state.specs.Tokens.{next_token}
 use Rattle.lock_table.specs.Locks.{IsTable, table_of, table_size, queue, granted}
 use Rattle.lock_table.specs.StepLaws.{acquired-is-table}
 use Rattle.lock_table.proofs.LocksInPlaces.{set-same, stands-already, joins, joins-not, grants}

@@ -4,9 +4,9 @@ use Rattle.std.proofs.lemmas.Bool.{ltb-false}
 use Rattle.std.proofs.lemmas.Option.{slice_get_read}
 use Rattle.address.specs.Ids.{same_address}
 use Rattle.address.proofs.SameIds.{same_address-sym}
-use Rattle.limits.specs.declared.TheConstants.{GREATEST_NUMBER}
-use Rattle.keyed_entries.specs.Entries.{IsHeldAt}
-use Rattle.tokens.specs.Tokens.{next_token}
+use Rattle.address.specs.declared.limits.TheConstants.{GREATEST_NUMBER}
+use Rattle.keyed_state.specs.Entries.{IsHeldAt}
+use Rattle.keyed_state.specs.Tokens.{next_token}
 use Rattle.lock_table.specs.Locks.{IsTable, table_of}
 use Rattle.lock_table.specs.StepLaws.{released-is-table}
 use Rattle.lock_table.proofs.LocksInPlaces.{gone-freed, gone-kept}

@@ -1,6 +1,6 @@
 use Rattle.std.proofs.Common.{sym, ap, ◌∙◌}
-use Rattle.keyed_entries.specs.Keys.{IsKey}
-use Rattle.tokens.specs.Tokens.{next_token}
+use Rattle.keyed_state.specs.Keys.{IsKey}
+use Rattle.keyed_state.specs.Tokens.{next_token}
 use Rattle.replicated_map.specs.Entries.{MapState}
 use Rattle.replicated_map.proofs.EntriesChange.{puts-in}
 use Rattle.replicated_map.proofs.map.ReplicatedMap.put.Goals as goal

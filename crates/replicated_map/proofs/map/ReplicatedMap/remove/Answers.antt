@@ -1,7 +1,7 @@
 use Rattle.std.proofs.Common.{◌≡◌, length, Some, refl, ap, arith}
 use Rattle.std.specs.List.{slice_get, remove}
 use Rattle.std.proofs.lemmas.Option.{slice_get_read}
-use Rattle.keyed_entries.specs.Entries.{IsHeldAt}
+use Rattle.keyed_state.specs.Entries.{IsHeldAt}
 use Rattle.replicated_map.proofs.EntriesChange.{removes-held}
 use Rattle.replicated_map.proofs.map.ReplicatedMap.remove.Goals as goal
 

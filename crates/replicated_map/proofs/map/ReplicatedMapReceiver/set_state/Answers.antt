@@ -1,7 +1,7 @@
 use Rattle.std.proofs.Common.{◌≡◌, ◌≤◌, Some, sym, ap, subst, ◌∙◌, rules}
 use Rattle.replicated_map.specs.Entries.{state_of, map_size}
 use Rattle.replicated_map.specs.Encoding.{map_decode}
-use Rattle.limits.specs.declared.TheConstants.{STATE}
+use Rattle.address.specs.declared.limits.TheConstants.{STATE}
 use Rattle.replicated_map.specs.MapLaws.{decoded_is_map}
 use Rattle.replicated_map.proofs.EntriesChange.{Entries}
 use Rattle.replicated_map.proofs.map.ReplicatedMapReceiver.set_state.Goals as goal

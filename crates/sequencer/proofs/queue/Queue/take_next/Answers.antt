@@ -1,5 +1,5 @@
 use Rattle.std.proofs.Common.{◌+◌, ◌≤◌, sym, ap, ◌∙◌, arith}
-use Rattle.limits.specs.declared.TheConstants.{GREATEST_NUMBER}
+use Rattle.address.specs.declared.limits.TheConstants.{GREATEST_NUMBER}
 use Rattle.sequencer.specs.Queues.{next_of, served}
 use Rattle.sequencer.proofs.Slots.{first-small, next-none, next-ring, next-served}
 use Rattle.sequencer.proofs.queue.Queue.take_next.Goals as goal

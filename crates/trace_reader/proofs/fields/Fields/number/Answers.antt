@@ -1,5 +1,5 @@
 use Rattle.std.proofs.Common.{rules, sym}
-use Rattle.limits.specs.declared.TheConstants.{GREATEST_NUMBER}
+use Rattle.address.specs.declared.limits.TheConstants.{GREATEST_NUMBER}
 use Rattle.script_reader.specs.Fields.{spelled_at, field_at}
 use Rattle.trace_reader.specs.Spelling.{number_of_text}
 use Rattle.trace_reader.specs.Fronts.{number_in_front}

@@ -1,5 +1,5 @@
 use Rattle.std.proofs.Common.{Option, ◌+◌, ◌-◌}
-use Rattle.limits.specs.declared.TheConstants.{WINDOW}
+use Rattle.address.specs.declared.limits.TheConstants.{WINDOW}
 use Rattle.law_acts.specs.Histories.{Posted}
 use Rattle.traffic.specs.Goings.{FollowerGoes}
 use Rattle.traffic.specs.Takes.{DeliversHeld}

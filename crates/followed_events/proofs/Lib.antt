@@ -1,3 +1,0 @@
-pub mod FirstWaits
-pub mod OwnEvents
-pub mod EventsFollowed

@@ -1,4 +1,0 @@
-pub mod Places
-pub mod Waits
-pub mod Services
-pub mod Followed

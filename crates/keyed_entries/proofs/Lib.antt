@@ -1,2 +1,0 @@
-pub mod KeysHavePlaces
-pub mod LookUpsFind

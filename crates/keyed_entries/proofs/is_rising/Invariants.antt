@@ -1,7 +1,0 @@
-use Rattle.std.proofs.Common.{◌≡◌, ◌-◌, drop}
-use Rattle.keyed_entries.specs.Entries.{rises}
-use Rattle.keyed_entries.proofs.is_rising.Given as goal
-
--- all rise where those from the newest on do
-abbrev pub invariant-loop-i : goal.invariant-loop-i
-invariant-loop-i g l = rises l.entries ≡ rises (drop (l.i - 1) l.entries)

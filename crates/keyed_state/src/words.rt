@@ -1,0 +1,48 @@
+//! Keys as fields of a line.
+
+ghost use Rattle.std.specs.Prelude.{◌≡◌, Ok, Err, MatchResult};
+ghost use Rattle.std.specs.Option.{option_copied};
+ghost use Rattle.script_reader.specs.Fields.{last};
+ghost use Rattle.keyed_state.specs.Words.{key_field};
+
+use crate::KeyBytes;
+use script_reader::{Fault, first_field};
+
+/// The next field of a line as a key, and what is left behind it.
+///
+/// # Errors
+///
+/// 42 where no field is left, 41 where it is empty or has more than `KEY` bytes.
+#[tactic(auto, unfolding(script_reader::specs::Fields::spelled_at, script_reader::specs::Fields::field_at))]
+pub fn key_field(rest: Option<&[u8]>) -> Result<(KeyBytes<'_>, Option<&[u8]>), Fault>
+    ensures { MatchResult result
+        (λ read. key_field (option_copied rest.entry) ≡ Ok (read.0, option_copied read.1))
+        (λ f. key_field (option_copied rest.entry) ≡ Err f) }
+{
+    let Some(text) = rest else {
+        return Err(Fault::MissingField);
+    };
+    let (field, rest) = first_field(text);
+    match KeyBytes::new(field) {
+        None => Err(Fault::BadNumber),
+        Some(key) => Ok((key, rest)),
+    }
+}
+
+/// The key with which a line ends.
+///
+/// # Errors
+///
+/// Those of `key_field`; and 41 where more follows.
+#[tactic(auto, unfolding(script_reader::specs::Fields::last, script_reader::specs::Fields::end_at))]
+pub fn last_key(rest: Option<&[u8]>) -> Result<KeyBytes<'_>, Fault>
+    ensures { MatchResult result
+        (λ key. last (key_field (option_copied rest.entry)) ≡ Ok key)
+        (λ f. last (key_field (option_copied rest.entry)) ≡ Err f) }
+{
+    match key_field(rest) {
+        Ok((key, None)) => Ok(key),
+        Ok(_) => Err(Fault::BadNumber),
+        Err(fault) => Err(fault),
+    }
+}

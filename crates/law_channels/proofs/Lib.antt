@@ -1,2 +1,0 @@
-pub mod CallIsStep
-pub mod WhatChannelsKnow

@@ -1,3 +1,0 @@
-pub mod OffersAccepted
-pub mod ProposalsAreViews
-pub mod ActsAreAllowed

@@ -1,9 +1,0 @@
-mod ElementsStand
-mod MembersOwnTraces
-mod EntryStatesKnown
-mod MergesKeepMembers
-mod EventsShow
-mod KeepPlaces
-mod KeepMessages
-mod KeepEntries
-mod LawOfOrders

@@ -1,3 +1,0 @@
-pub mod NetsOfFrames
-pub mod OnePacket
-pub mod OrderAbove

@@ -1,5 +1,0 @@
-pub mod Tokens
-pub mod Spelling
-pub mod TokenText
-pub mod TokenLaws
-pub mod SpellingLaws
