@@ -3,6 +3,9 @@ use keyed_state::Token;
 use lock_fencing::{Guard, deployments_fence, guards_refuse_older, tokens_fence};
 use lock_table::moves;
 use replicated_map::{replaces, sizes};
+use trace_merge::verdicts_are_the_same;
+use trace_reader::reads_what_is_written;
+use chat_log::ChatLog;
 
 // The token of this count in the view 1@1.1.
 fn token(count: u64) -> Token {
@@ -39,4 +42,6 @@ fn laws_can_be_called(_rt: HostRuntime) {
     moves();
     replaces();
     sizes();
+    reads_what_is_written();
+    verdicts_are_the_same::<ChatLog>();
 }

@@ -1,16 +1,19 @@
-//! Tests of what the commands do that no stored run shows: what a reader or a writer that fails leaves, the packets of a world, the texts of several processes, and damaged
-//! texts. And of what they run: the replicated map, the table of locks, tokens, what nodes that keep these answer, and what reads bytes and keeps entries by their keys below.
-//! They stand apart from the crate `commands`, so that it is proved once and not twice.
+//! Tests of what no stored run shows: what a reader or a writer that fails leaves, the packets of a world, the lines of texts, the spelling of commands and the limits of maps and tables of locks,
+//! tokens, what nodes that keep these answer, and what reads bytes and keeps entries by their keys below. They stand apart from what they test, so that it is proved once and not twice.
 #![tactic(auto)]
 
-#[cfg(test)]
-mod damaged;
 #[cfg(test)]
 mod entries_tests;
 #[cfg(test)]
 mod events;
 #[cfg(test)]
+mod fields;
+#[cfg(test)]
+mod fixtures;
+#[cfg(test)]
 mod guard_tests;
+#[cfg(test)]
+mod lines;
 #[cfg(test)]
 mod lock_service_tests;
 #[cfg(test)]
@@ -20,9 +23,13 @@ mod map_tests;
 #[cfg(test)]
 mod outcome_tests;
 #[cfg(test)]
-mod processes;
+mod packets;
+#[cfg(test)]
+mod readers;
 #[cfg(test)]
 mod reading_tests;
+#[cfg(test)]
+mod runs;
 #[cfg(test)]
 mod scripts;
 #[cfg(test)]

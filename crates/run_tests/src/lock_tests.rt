@@ -13,21 +13,13 @@ use view::{Addresses, View};
 // By hand from the tables of docs/RECEIVERS.md, "The table of locks". The members 1.1, 2.1 and 3.1.
 const FIRST: &[u8] = b"\x00\x01\x00\x00\x00\x01";
 
-const SECOND: &[u8] = b"\x00\x02\x00\x00\x00\x01";
-
-const THIRD: &[u8] = b"\x00\x03\x00\x00\x00\x01";
-
 // The views 1@1.1 and 2@2.1.
 const EARLY: &[u8] = b"\x00\x00\x00\x00\x00\x00\x00\x01\x00\x01\x00\x00\x00\x01";
 
 const LATE: &[u8] = b"\x00\x00\x00\x00\x00\x00\x00\x02\x00\x02\x00\x00\x00\x01";
 
 // Counts of tokens, and numbers of locks and of those who wait.
-const NO_COUNT: &[u8] = b"\x00\x00\x00\x00\x00\x00\x00\x00";
-
 const COUNT_1: &[u8] = b"\x00\x00\x00\x00\x00\x00\x00\x01";
-
-const COUNT_2: &[u8] = b"\x00\x00\x00\x00\x00\x00\x00\x02";
 
 const LAST_COUNT: &[u8] = b"\x40\x00\x00\x00\x00\x00\x00\x00";
 
@@ -35,12 +27,8 @@ const NONE: &[u8] = b"\x00\x00\x00\x00";
 
 const ONE: &[u8] = b"\x00\x00\x00\x01";
 
-const TWO: &[u8] = b"\x00\x00\x00\x02";
-
-// The names.
+// A name.
 const A: &[u8] = b"\x01a";
-
-const B: &[u8] = b"\x01b";
 
 // Acquire `a` and `b` in 1@1.1, and `a` in 2@2.1; release `a` in 1@1.1; roll 2@2.1 with 2.1 and 3.1.
 const ACQUIRE_A: &[u8] = b"\x01\x00\x00\x00\x00\x00\x00\x00\x01\x00\x01\x00\x00\x00\x01\x01a";
@@ -89,224 +77,10 @@ fn has_state(alloc: Global, table: &LockTable, parts: &[&[u8]]) -> Result<bool, 
     Ok(state.as_slice() == wanted.as_slice())
 }
 
-// Whether a table that these members asked for these has the state of these parts.
-fn comes_to(alloc: Global, messages: &[(u16, &[u8])], parts: &[&[u8]]) -> bool {
-    match table_after(alloc, messages) {
-        Ok(table) => has_state(alloc, &table, parts) == Ok(true),
-        Err(_) => false,
-    }
-}
-
-// Whether these parts are taken as a state.
-fn are_taken(alloc: Global, parts: &[&[u8]]) -> bool {
-    match (joined(alloc, parts), LockTable::opening(alloc)) {
-        (Ok(bytes), Ok(mut table)) => table.set_state(bytes.as_slice()) == Ok(true),
-        _ => false,
-    }
-}
-
 // Whether a command is spelled so.
 fn is_spelled(alloc: Global, command: &Command<'_>, wanted: &[u8]) -> bool {
     let mut payload = Vec::new(alloc);
     command.encode(&mut payload).is_ok() && payload.as_slice() == wanted
-}
-
-#[test]
-fn a_free_lock_is_granted(rt: HostRuntime) {
-    assert!(rt;
-        comes_to(
-            rt.alloc(),
-            &[(1, ACQUIRE_A)],
-            &[EARLY, COUNT_1, ONE, A, FIRST, EARLY, COUNT_1, NONE]
-        )
-    );
-}
-
-#[test]
-fn others_wait_in_turn(rt: HostRuntime) {
-    assert!(rt;
-        comes_to(
-            rt.alloc(),
-            &[
-                (1, ACQUIRE_A),
-                (3, ACQUIRE_A),
-                (2, ACQUIRE_A),
-                (3, ACQUIRE_A),
-                (1, ACQUIRE_A)
-            ],
-            &[
-                EARLY, COUNT_1, ONE, A, FIRST, EARLY, COUNT_1, TWO, THIRD, SECOND
-            ]
-        )
-    );
-}
-
-#[test]
-fn a_release_grants_to_the_first_who_waits(rt: HostRuntime) {
-    assert!(rt;
-        comes_to(
-            rt.alloc(),
-            &[
-                (1, ACQUIRE_A),
-                (3, ACQUIRE_A),
-                (2, ACQUIRE_A),
-                (1, RELEASE_A)
-            ],
-            &[EARLY, COUNT_2, ONE, A, THIRD, EARLY, COUNT_2, ONE, SECOND]
-        )
-    );
-}
-
-#[test]
-fn one_who_waits_can_give_up(rt: HostRuntime) {
-    assert!(rt;
-        comes_to(
-            rt.alloc(),
-            &[
-                (1, ACQUIRE_A),
-                (3, ACQUIRE_A),
-                (2, ACQUIRE_A),
-                (3, RELEASE_A)
-            ],
-            &[EARLY, COUNT_1, ONE, A, FIRST, EARLY, COUNT_1, ONE, SECOND]
-        )
-    );
-}
-
-#[test]
-fn a_release_by_another_changes_nothing(rt: HostRuntime) {
-    assert!(rt;
-        comes_to(
-            rt.alloc(),
-            &[(1, ACQUIRE_A), (2, RELEASE_A)],
-            &[EARLY, COUNT_1, ONE, A, FIRST, EARLY, COUNT_1, NONE]
-        )
-    );
-}
-
-#[test]
-fn a_lock_that_nobody_wants_is_free(rt: HostRuntime) {
-    assert!(rt;
-        comes_to(
-            rt.alloc(),
-            &[(1, ACQUIRE_A), (1, RELEASE_A)],
-            &[EARLY, COUNT_1, NONE]
-        )
-    );
-}
-
-#[test]
-fn a_roll_lets_members_alone_stay(rt: HostRuntime) {
-    assert!(rt;
-        comes_to(
-            rt.alloc(),
-            &[
-                (1, ACQUIRE_A),
-                (1, ACQUIRE_B),
-                (3, ACQUIRE_A),
-                (1, ACQUIRE_A),
-                (2, ACQUIRE_A),
-                (2, ROLL)
-            ],
-            &[LATE, COUNT_1, ONE, A, THIRD, LATE, COUNT_1, ONE, SECOND]
-        )
-    );
-}
-
-#[test]
-fn a_roll_grants_in_the_order_of_names(rt: HostRuntime) {
-    assert!(rt;
-        comes_to(
-            rt.alloc(),
-            &[
-                (1, ACQUIRE_B),
-                (1, ACQUIRE_A),
-                (2, ACQUIRE_B),
-                (3, ACQUIRE_A),
-                (2, ROLL),
-                (2, ROLL)
-            ],
-            &[
-                LATE, COUNT_2, TWO, A, THIRD, LATE, COUNT_1, NONE, B, SECOND, LATE, COUNT_2, NONE
-            ]
-        )
-    );
-}
-
-#[test]
-fn a_roll_keeps_holders_who_are_members(rt: HostRuntime) {
-    assert!(rt;
-        comes_to(
-            rt.alloc(),
-            &[(3, ACQUIRE_A), (1, ACQUIRE_A), (2, ROLL)],
-            &[EARLY, COUNT_1, ONE, A, THIRD, EARLY, COUNT_1, NONE]
-        )
-    );
-}
-
-#[test]
-fn a_roll_from_another_changes_nothing(rt: HostRuntime) {
-    assert!(rt;
-        comes_to(
-            rt.alloc(),
-            &[(1, ACQUIRE_A), (3, ROLL)],
-            &[EARLY, COUNT_1, ONE, A, FIRST, EARLY, COUNT_1, NONE]
-        )
-    );
-}
-
-// A later view begins its counts anew; a command of an earlier one takes the next count of the later one.
-#[test]
-fn tokens_rise_by_views(rt: HostRuntime) {
-    assert!(rt;
-        comes_to(
-            rt.alloc(),
-            &[
-                (1, ACQUIRE_A),
-                (1, RELEASE_A),
-                (2, ACQUIRE_A_LATE),
-                (1, ACQUIRE_B)
-            ],
-            &[
-                LATE, COUNT_2, TWO, A, SECOND, LATE, COUNT_1, NONE, B, FIRST, LATE, COUNT_2, NONE
-            ]
-        )
-    );
-}
-
-// Among them a name of no byte, a view whose counter is 0, a roll of no member and one whose creator is not the first, and a byte too many.
-#[test]
-fn what_spells_no_command_changes_nothing(rt: HostRuntime) {
-    assert!(rt;
-        comes_to(
-            rt.alloc(),
-            &[
-                (1, b""),
-                (1, b"\x04"),
-                (
-                    1,
-                    b"\x01\x00\x00\x00\x00\x00\x00\x00\x01\x00\x01\x00\x00\x00\x01\x00"
-                ),
-                (
-                    1,
-                    b"\x01\x00\x00\x00\x00\x00\x00\x00\x00\x00\x01\x00\x00\x00\x01\x01a"
-                ),
-                (
-                    2,
-                    b"\x03\x00\x00\x00\x00\x00\x00\x00\x02\x00\x02\x00\x00\x00\x01\x00"
-                ),
-                (
-                    2,
-                    b"\x03\x00\x00\x00\x00\x00\x00\x00\x02\x00\x02\x00\x00\x00\x01\x01\x00\x03\x00\x00\x00\x01"
-                ),
-                (
-                    1,
-                    b"\x01\x00\x00\x00\x00\x00\x00\x00\x01\x00\x01\x00\x00\x00\x01\x01a\x00"
-                )
-            ],
-            &[EARLY, NO_COUNT, NONE]
-        )
-    );
 }
 
 #[test]
@@ -389,43 +163,6 @@ fn locks_are_lent(rt: HostRuntime) {
         Some((name, lock)) => assert!(rt; name == b"a".as_slice() && lock.holder() == member(3)),
         None => assert!(rt; false, "a is held"),
     }
-}
-
-#[test]
-fn states_are_taken(rt: HostRuntime) {
-    let alloc = rt.alloc();
-    assert!(rt; are_taken(alloc, &[EARLY, NO_COUNT, NONE]));
-    assert!(rt;
-        are_taken(
-            alloc,
-            &[LATE, COUNT_1, ONE, A, THIRD, LATE, COUNT_1, ONE, SECOND]
-        )
-    );
-}
-
-#[test]
-fn others_are_no_states(rt: HostRuntime) {
-    let alloc = rt.alloc();
-    assert!(rt;
-        !are_taken(alloc, &[EARLY, NO_COUNT, NONE, b"\x00"]),
-        "a byte too many"
-    );
-    assert!(rt;
-        !are_taken(
-            alloc,
-            &[EARLY, COUNT_1, ONE, A, THIRD, EARLY, COUNT_2, NONE]
-        ),
-        "a token above the last one"
-    );
-    assert!(rt;
-        !are_taken(
-            alloc,
-            &[
-                EARLY, COUNT_2, TWO, B, THIRD, EARLY, COUNT_1, NONE, A, THIRD, EARLY, COUNT_2, NONE
-            ]
-        ),
-        "names that do not rise"
-    );
 }
 
 // A table whose last count is the greatest, asked in these payloads.

@@ -15,25 +15,14 @@ const PUT_B: &[u8] = b"\x01\x00\x00\x00\x00\x00\x00\x00\x01\x00\x01\x00\x00\x00\
 
 const REMOVE_A: &[u8] = b"\x02\x01a";
 
-const REPLACE_NONE: &[u8] =
-    b"\x03\x00\x00\x00\x00\x00\x00\x00\x01\x00\x01\x00\x00\x00\x01\x00\x01a\x00\x01z";
-
 const REPLACE_XY: &[u8] =
     b"\x03\x00\x00\x00\x00\x00\x00\x00\x01\x00\x01\x00\x00\x00\x01\x01\x00\x02xy\x01a\x00\x01z";
-
-const REMOVE_B: &[u8] = b"\x02\x01b";
-
-const CLEAR: &[u8] = b"\x04";
 
 const REPLACE_FIRST: &[u8] =
     b"\x05\x00\x00\x00\x00\x00\x00\x00\x01\x00\x01\x00\x00\x00\x01\x00\x00\x00\x00\x00\x00\x00\x01\x00\x01\x00\x00\x00\x01\x00\x00\x00\x00\x00\x00\x00\x01\x01a\x00\x01z";
 
 const REMOVE_FIRST: &[u8] =
     b"\x06\x00\x00\x00\x00\x00\x00\x00\x01\x00\x01\x00\x00\x00\x01\x00\x00\x00\x00\x00\x00\x00\x01\x01a";
-
-// The state of both entries: `b` was put first, `a` behind it.
-const BOTH: &[u8] =
-    b"\x00\x00\x00\x00\x00\x00\x00\x01\x00\x01\x00\x00\x00\x01\x00\x00\x00\x00\x00\x00\x00\x02\x00\x00\x00\x02\x01a\x00\x00\x00\x00\x00\x00\x00\x01\x00\x01\x00\x00\x00\x01\x00\x00\x00\x00\x00\x00\x00\x02\x00\x02xy\x01b\x00\x00\x00\x00\x00\x00\x00\x01\x00\x01\x00\x00\x00\x01\x00\x00\x00\x00\x00\x00\x00\x01\x00\x00";
 
 // Who sends commands.
 fn sender() -> Address {
@@ -69,27 +58,10 @@ fn map_after(alloc: Global, commands: &[&[u8]]) -> Result<ReplicatedMap, AllocEr
     Ok(map)
 }
 
-// Whether a map that was asked for these has this state.
-fn comes_to(alloc: Global, commands: &[&[u8]], wanted: &[u8]) -> bool {
-    let Ok(map) = map_after(alloc, commands) else {
-        return false;
-    };
-    let mut state = Vec::new(alloc);
-    map.get_state(&mut state).is_ok() && state.as_slice() == wanted
-}
-
 // Whether a command is spelled so.
 fn is_spelled(alloc: Global, command: &Command<'_>, wanted: &[u8]) -> bool {
     let mut payload = Vec::new(alloc);
     command.encode(&mut payload).is_ok() && payload.as_slice() == wanted
-}
-
-// Whether bytes are taken as a map's state.
-fn are_taken(alloc: Global, bytes: &[u8]) -> bool {
-    match ReplicatedMap::opening(alloc) {
-        Ok(mut map) => map.set_state(bytes) == Ok(true),
-        Err(_) => false,
-    }
 }
 
 #[test]
@@ -126,87 +98,6 @@ fn a_removal_is_read(rt: HostRuntime) {
 #[test]
 fn what_spells_no_command_is_none(rt: HostRuntime) {
     assert!(rt; Command::decode(b"\x07").is_none());
-}
-
-#[test]
-fn puts_stand_by_their_keys(rt: HostRuntime) {
-    assert!(rt; comes_to(rt.alloc(), &[PUT_B, PUT_A], BOTH));
-}
-
-#[test]
-fn a_removal_leaves_the_others(rt: HostRuntime) {
-    assert!(rt;
-        comes_to(
-            rt.alloc(),
-            &[PUT_A, PUT_B, REMOVE_A],
-            b"\x00\x00\x00\x00\x00\x00\x00\x01\x00\x01\x00\x00\x00\x01\x00\x00\x00\x00\x00\x00\x00\x02\x00\x00\x00\x01\x01b\x00\x00\x00\x00\x00\x00\x00\x01\x00\x01\x00\x00\x00\x01\x00\x00\x00\x00\x00\x00\x00\x02\x00\x00"
-        )
-    );
-}
-
-#[test]
-fn a_replacement_takes_the_place_of_the_expected(rt: HostRuntime) {
-    assert!(rt;
-        comes_to(
-            rt.alloc(),
-            &[PUT_A, REPLACE_XY],
-            b"\x00\x00\x00\x00\x00\x00\x00\x01\x00\x01\x00\x00\x00\x01\x00\x00\x00\x00\x00\x00\x00\x02\x00\x00\x00\x01\x01a\x00\x00\x00\x00\x00\x00\x00\x01\x00\x01\x00\x00\x00\x01\x00\x00\x00\x00\x00\x00\x00\x02\x00\x01z"
-        )
-    );
-}
-
-#[test]
-fn another_value_is_not_replaced(rt: HostRuntime) {
-    assert!(rt;
-        comes_to(
-            rt.alloc(),
-            &[PUT_A, REPLACE_NONE],
-            b"\x00\x00\x00\x00\x00\x00\x00\x01\x00\x01\x00\x00\x00\x01\x00\x00\x00\x00\x00\x00\x00\x01\x00\x00\x00\x01\x01a\x00\x00\x00\x00\x00\x00\x00\x01\x00\x01\x00\x00\x00\x01\x00\x00\x00\x00\x00\x00\x00\x01\x00\x02xy"
-        )
-    );
-}
-
-#[test]
-fn a_replacement_of_the_version_takes_its_place(rt: HostRuntime) {
-    versions();
-    stamps_spell();
-    assert!(rt;
-        comes_to(
-            rt.alloc(),
-            &[PUT_A, REPLACE_FIRST],
-            b"\x00\x00\x00\x00\x00\x00\x00\x01\x00\x01\x00\x00\x00\x01\x00\x00\x00\x00\x00\x00\x00\x02\x00\x00\x00\x01\x01a\x00\x00\x00\x00\x00\x00\x00\x01\x00\x01\x00\x00\x00\x01\x00\x00\x00\x00\x00\x00\x00\x02\x00\x01z"
-        )
-    );
-}
-
-// The value of the version 1 was put again: it is of the version 3 then.
-#[test]
-fn a_version_that_is_gone_never_comes_back(rt: HostRuntime) {
-    let alloc = rt.alloc();
-    let thrice =
-        b"\x00\x00\x00\x00\x00\x00\x00\x01\x00\x01\x00\x00\x00\x01\x00\x00\x00\x00\x00\x00\x00\x03\x00\x00\x00\x01\x01a\x00\x00\x00\x00\x00\x00\x00\x01\x00\x01\x00\x00\x00\x01\x00\x00\x00\x00\x00\x00\x00\x03\x00\x02xy";
-    assert!(rt; comes_to(alloc, &[PUT_A, PUT_A, PUT_A, REPLACE_FIRST], thrice));
-    assert!(rt; comes_to(alloc, &[PUT_A, PUT_A, PUT_A, REMOVE_FIRST], thrice));
-}
-
-#[test]
-fn a_removal_of_the_version_takes_it(rt: HostRuntime) {
-    assert!(rt;
-        comes_to(
-            rt.alloc(),
-            &[PUT_A, REMOVE_FIRST],
-            b"\x00\x00\x00\x00\x00\x00\x00\x01\x00\x01\x00\x00\x00\x01\x00\x00\x00\x00\x00\x00\x00\x01\x00\x00\x00\x00"
-        )
-    );
-}
-
-#[test]
-fn a_later_view_gives_a_version_of_its_own(rt: HostRuntime) {
-    let alloc = rt.alloc();
-    let later = b"\x01\x00\x00\x00\x00\x00\x00\x00\x03\x00\x02\x00\x00\x00\x01\x01a\x00\x01q";
-    let wanted =
-        b"\x00\x00\x00\x00\x00\x00\x00\x03\x00\x02\x00\x00\x00\x01\x00\x00\x00\x00\x00\x00\x00\x02\x00\x00\x00\x01\x01a\x00\x00\x00\x00\x00\x00\x00\x03\x00\x02\x00\x00\x00\x01\x00\x00\x00\x00\x00\x00\x00\x02\x00\x02xy";
-    assert!(rt; comes_to(alloc, &[PUT_B, later, PUT_A, REMOVE_B], wanted));
 }
 
 // Whether a replacement of the first version is spelled as above.
@@ -254,59 +145,9 @@ fn a_command_is_stamped_anew(rt: HostRuntime) {
 }
 
 #[test]
-fn a_cleared_map_has_no_entry(rt: HostRuntime) {
-    assert!(rt;
-        comes_to(
-            rt.alloc(),
-            &[PUT_A, PUT_B, CLEAR],
-            b"\x00\x00\x00\x00\x00\x00\x00\x01\x00\x01\x00\x00\x00\x01\x00\x00\x00\x00\x00\x00\x00\x02\x00\x00\x00\x00"
-        )
-    );
-}
-
-#[test]
-fn what_spells_no_command_changes_nothing(rt: HostRuntime) {
-    assert!(rt;
-        comes_to(
-            rt.alloc(),
-            &[PUT_B, PUT_A, b"\x01\x00", b"\x04\x00", b""],
-            BOTH
-        )
-    );
-}
-
-// A map with as many entries as fit, each with the longest value, and its state.
-fn full_state(alloc: Global) -> Result<Vec<u8>, AllocError> {
-    let mut map = ReplicatedMap::opening(alloc)?;
-    for number in 0..2_700u32 {
-        let key = number.to_be_bytes();
-        let put = Command::Put {
-            view: first_view(),
-            key: KeyBytes::new(&key).unwrap(),
-            value: ValueBytes::new(&[255; 400]).unwrap(),
-        };
-        let mut payload = Vec::new(alloc);
-        put.encode(&mut payload)?;
-        map.receive(sender(), &payload)?;
-    }
-    let mut state = Vec::new(alloc);
-    map.get_state(&mut state)?;
-    Ok(state)
-}
-
-// 26 bytes, and 429 for each entry: 2,444 of them fit into 1,048,576.
-#[test]
-fn a_put_past_the_longest_state_changes_nothing(rt: HostRuntime) {
-    let alloc = rt.alloc();
-    let Ok(state) = full_state(alloc) else {
-        return;
-    };
-    assert!(rt; state.len() == 1_048_502);
-    assert!(rt; are_taken(alloc, state.as_slice()));
-}
-
-#[test]
 fn entries_are_lent(rt: HostRuntime) {
+    versions();
+    stamps_spell();
     let Ok(map) = map_after(rt.alloc(), &[PUT_A, PUT_B]) else {
         return;
     };
@@ -323,27 +164,3 @@ fn entries_are_lent(rt: HostRuntime) {
     assert!(rt; map.last() == version(2));
 }
 
-#[test]
-fn a_state_is_taken(rt: HostRuntime) {
-    assert!(rt; are_taken(rt.alloc(), BOTH));
-}
-
-#[test]
-fn keys_that_do_not_rise_are_no_state(rt: HostRuntime) {
-    assert!(rt;
-        !are_taken(
-            rt.alloc(),
-            b"\x00\x00\x00\x00\x00\x00\x00\x01\x00\x01\x00\x00\x00\x01\x00\x00\x00\x00\x00\x00\x00\x02\x00\x00\x00\x02\x01b\x00\x00\x00\x00\x00\x00\x00\x01\x00\x01\x00\x00\x00\x01\x00\x00\x00\x00\x00\x00\x00\x01\x00\x00\x01a\x00\x00\x00\x00\x00\x00\x00\x01\x00\x01\x00\x00\x00\x01\x00\x00\x00\x00\x00\x00\x00\x02\x00\x00"
-        )
-    );
-}
-
-#[test]
-fn a_byte_too_many_is_no_state(rt: HostRuntime) {
-    assert!(rt;
-        !are_taken(
-            rt.alloc(),
-            b"\x00\x00\x00\x00\x00\x00\x00\x01\x00\x01\x00\x00\x00\x01\x00\x00\x00\x00\x00\x00\x00\x00\x00\x00\x00\x00\x00"
-        )
-    );
-}

@@ -1,9 +1,8 @@
 use address::{Address, Node};
 use chat_log::ChatLog;
-use commands::{run_draw, run_packets, run_script, run_states};
+use commands::{run_script, run_states};
 use endings::Status;
 use lock_table::LockTable;
-use replicated_map::ReplicatedMap;
 use std::alloc::Global;
 use std::io::{self, Read, Write};
 use world::World;
@@ -122,57 +121,6 @@ impl Read for Failing {
     }
 }
 
-/// What is drawn of a script, with packets or without, and the status.
-fn drawing_of(alloc: Global, packets: bool, script: &[u8]) -> (Vec<u8>, Status) {
-    let mut reader = script;
-    let mut output = Vec::new(alloc);
-    let status = run_draw::<ChatLog, &[u8], Vec<u8>>(alloc, packets, &mut reader, &mut output);
-    (output, status)
-}
-
-#[test]
-fn packets_are_drawn_where_they_are_asked_for(rt: HostRuntime) {
-    let script = b"start 2\njoin 2 9.1\ntick 2\n";
-    let (bare, status) = drawing_of(rt.alloc(), false, script);
-    assert!(rt; status == Status::Done, "the status without packets");
-    let end = b"<text class='t' x='121' y='64'>started</text></g>\n</svg>\n";
-    assert!(rt; bare.as_slice().ends_with(end), "without packets");
-    let (full, status) = drawing_of(rt.alloc(), true, script);
-    assert!(rt; status == Status::Done, "the status with packets");
-    let end = b"\
-        <g><title>1 JOIN 2.1 9.1 5653030105776f726c64000200000001000900000001\n</title><path class='y' d='M110 82m-4-4h8v8h-8z'/>\
-        <path class='l' d='M110 82L76 98'/><text class='j' x='121' y='86'>1 JOIN</text></g>\n\
-        <g><title>2 JOIN 2.1 9.1 5653030105776f726c64000200000001000900000001\n</title><path class='y' d='M110 104m-4-4h8v8h-8z'/>\
-        <path class='l' d='M110 104L76 120'/><text class='j' x='121' y='108'>2 JOIN</text></g>\n</svg>\n";
-    assert!(rt; full.as_slice().ends_with(end), "with packets");
-}
-
-/// What the packets of a script are printed as, and the status.
-fn packets_of(alloc: Global, script: &[u8]) -> (Vec<u8>, Status) {
-    let mut reader = script;
-    let mut output = Vec::new(alloc);
-    let status = run_packets::<ChatLog, &[u8], Vec<u8>>(alloc, &mut reader, &mut output);
-    (output, status)
-}
-
-#[test]
-fn packets_are_printed_in_order(rt: HostRuntime) {
-    let (text, status) = packets_of(rt.alloc(), b"start 2\njoin 2 9.1\ntick 2\n");
-    let wanted = b"\
-        1 JOIN 2.1 9.1 5653030105776f726c64000200000001000900000001\n\
-        2 JOIN 2.1 9.1 5653030105776f726c64000200000001000900000001\n"
-        .as_slice();
-    assert!(rt; text.as_slice() == wanted, "the lines");
-    assert!(rt; status == Status::Done, "the status");
-}
-
-#[test]
-fn a_fault_is_printed_in_the_place_of_packets(rt: HostRuntime) {
-    let (text, status) = packets_of(rt.alloc(), b"start 2\njoin 2 9.1\nfly 2\n");
-    assert!(rt; text.as_slice() == b"fault 3 40\n".as_slice(), "the fault");
-    assert!(rt; status == Status::Refused, "the status");
-}
-
 #[test]
 fn a_failing_reader_writes_nothing(rt: HostRuntime) {
     let mut output = Vec::new(rt.alloc());
@@ -205,31 +153,6 @@ fn a_failing_writer_ends_outside(rt: HostRuntime) {
     let mut reader = b"start 1\ncreate 1\n".as_slice();
     let status = run_script::<ChatLog, &[u8], Full>(rt.alloc(), &mut reader, &mut Full(20));
     assert!(rt; status == Status::Outside);
-}
-
-/// What the maps of a script are printed as, and the status.
-fn maps_of(alloc: Global, script: &[u8]) -> (Vec<u8>, Status) {
-    let mut reader = script;
-    let mut output = Vec::new(alloc);
-    let status = run_states::<ReplicatedMap, &[u8], Vec<u8>>(alloc, &mut reader, &mut output);
-    (output, status)
-}
-
-#[test]
-fn the_maps_of_those_that_run_are_printed(rt: HostRuntime) {
-    let (text, status) = maps_of(
-        rt.alloc(),
-        b"start 3\nstart 1\ncreate 1\nsend 1 put a x\nsend 1 put b \n",
-    );
-    assert!(rt; text.as_slice() == b"map 1.1 61:78,62:\nmap 3.1 -\n".as_slice());
-    assert!(rt; status == Status::Done, "the status");
-}
-
-#[test]
-fn a_text_that_is_no_command_is_a_fault(rt: HostRuntime) {
-    let (text, status) = maps_of(rt.alloc(), b"start 1\nsend 1 put a\nfly 1\n");
-    assert!(rt; text.as_slice() == b"fault 2 42\n".as_slice(), "the fault");
-    assert!(rt; status == Status::Refused, "the status");
 }
 
 #[test]

@@ -11,20 +11,6 @@ pub fn address(node: u16, incarnation: u32) -> Address
     Address::new(Node::new(node).unwrap(), incarnation).unwrap()
 }
 
-/// A text, and so many copies of a byte behind it.
-pub fn with_copies(
-    alloc: Global,
-    front: &[u8],
-    byte: u8,
-    count: usize,
-) -> Result<Vec<u8>, AllocError> {
-    let mut text = Vec::from_slice(alloc, front)?;
-    for _ in 0..count {
-        text.push(byte)?;
-    }
-    Ok(text)
-}
-
 /// Whether a text is there and is this one.
 pub fn is(text: Result<Vec<u8>, AllocError>, wanted: &[u8]) -> bool {
     match text {
