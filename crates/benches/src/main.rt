@@ -12,12 +12,11 @@
 //! are in it. Where node 5 is, it prints its rounds until it has the chat, and the nanoseconds.
 //!
 //! `packets` measures how long packets take that come on the standard input (`bench/wire`), `tags` what a tag of a frame costs, and `damage LENGTH..` changes each byte of the frames of packets
-//! of these lengths: none of them may be given (`bench/frames`). `changes` changes each byte of packets (`tests/all`).
+//! of these lengths: none of them may be given (`bench/frames`).
 #![tactic(auto)]
 
 mod bare;
 mod carrier;
-mod changes;
 mod damaged;
 mod group_member;
 mod join;
@@ -152,7 +151,6 @@ fn main(rt: HostRuntime) -> io::Result<()> {
         "packets" => packets::run(&rt),
         "tags" => tags::run(&rt),
         "damage" => damaged::run(&rt, rest),
-        "changes" => changes::run(&rt),
         kind => run(&rt, &words_of(kind, rest)?),
     }
 }
