@@ -312,20 +312,26 @@ impl HttpDesk {
         !client.is_held() && silence > Duration::from_secs(IDLE)
     }
 
+    // A connection goes on if it has anything to do: whether it has more to do at once; `None` if it is over.
+    fn advance(&mut self, client: &mut Client) -> Result<Option<bool>, AllocError> {
+        if !client.is_due && !client.is_held() {
+            return Ok(Some(false));
+        }
+        let has_more = match self.go_on(client)? {
+            Step::Over => return Ok(None),
+            Step::More | Step::Asks => true,
+            Step::Rests => false,
+        };
+        client.is_due = has_more;
+        Ok(Some(has_more))
+    }
+
     /// Serves a connection; answers whether it has more to do at once. It is not kept if it is over.
     pub(crate) fn serve_one(&mut self, mut client: Client) -> Result<bool, AllocError> {
-        let mut has_more = false;
-        if client.is_due || client.is_held() {
-            match self.go_on(&mut client)? {
-                Step::Over => return Ok(false),
-                Step::More | Step::Asks => has_more = true,
-                Step::Rests => (),
-            }
-            client.is_due = has_more;
-        }
-        if !self.is_idle(&client) {
+        let served = self.advance(&mut client);
+        if matches!(served, Ok(Some(_))) && !self.is_idle(&client) {
             self.clients.push_back(client)?;
         }
-        Ok(has_more)
+        Ok(served?.unwrap_or(false))
     }
 }

@@ -108,6 +108,7 @@ impl Client {
         stream: TcpStream,
         now: Duration,
     ) -> Result<Client, AllocError> {
+        let buffer = vec![in alloc; 0; READ]?;
         Ok(Client {
             alloc,
             keeps,
@@ -120,7 +121,7 @@ impl Client {
             is_due: true,
             is_readable: true,
             heard: now,
-            buffer: vec![in alloc; 0; READ]?,
+            buffer,
         })
     }
 

@@ -26,16 +26,6 @@ fn the_second_incarnation_is_behind_the_first(rt: HostRuntime) {
     assert!(rt; Address::first_at(node).next_incarnation() == Address::new(node, 2));
 }
 
-#[test]
-fn no_incarnation_is_behind_the_last(rt: HostRuntime) {
-    assert!(rt; address(65535, 4_294_967_295).next_incarnation().is_none());
-}
-
-#[test]
-fn addresses_are_ordered_by_node_first(rt: HostRuntime) {
-    assert!(rt; address(2, 9) < first_of(3));
-}
-
 /// The view id that 2.9 makes behind the first one of 3.1.
 fn second_id() -> Option<ViewId> {
     next_after(&ViewId::first_of(first_of(3)), address(2, 9)).ok()
@@ -45,13 +35,6 @@ fn second_id() -> Option<ViewId> {
 fn view_ids_are_ordered_by_counter_first(rt: HostRuntime) {
     let second = second_id().expect(&rt, "a second id");
     assert!(rt; ViewId::first_of(first_of(3)) < second);
-}
-
-#[test]
-fn the_next_view_id_has_the_next_counter_and_its_maker(rt: HostRuntime) {
-    let second = second_id().expect(&rt, "a second id");
-    assert_eq!(rt; second.counter(), 2, "the counter");
-    assert!(rt; second.creator() == address(2, 9), "the creator");
 }
 
 /// Whether an address, and the view id behind its first one, are written as this text.

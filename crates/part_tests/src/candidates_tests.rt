@@ -1,5 +1,4 @@
 use crate::fixtures::{address, first_of, listed, view_of};
-use address::limits::GREATEST_NUMBER;
 use address::{Address, ViewId};
 use next_view::ViewNotes;
 use std::alloc::Global;
@@ -50,21 +49,6 @@ fn joiners_follow_the_members_in_order_of_arrival(rt: HostRuntime) {
     assert!(rt; joiners_follow(rt.alloc()) == Some(true));
 }
 
-fn suspected_are_out(alloc: Global) -> Option<bool> {
-    let view = view_of(alloc, &[1, 2, 3])?;
-    let mut notes = ViewNotes::new(alloc);
-    joined(alloc, &mut notes, &view, first_of(4))?;
-    joined(alloc, &mut notes, &view, first_of(5))?;
-    notes.suspect(first_of(2)).ok()?;
-    notes.suspect(first_of(4)).ok()?;
-    has_candidates(alloc, &notes, &view, &[1, 3, 5])
-}
-
-#[test]
-fn the_suspected_are_no_candidates(rt: HostRuntime) {
-    assert!(rt; suspected_are_out(rt.alloc()) == Some(true));
-}
-
 /// The count after 2.2 came to the view of 1.1 and 2.1, and whether 2.1 is suspected.
 fn outdated(alloc: Global) -> Option<(usize, bool)> {
     let view = view_of(alloc, &[1, 2])?;
@@ -81,49 +65,6 @@ fn outdated(alloc: Global) -> Option<(usize, bool)> {
 #[test]
 fn a_later_incarnation_takes_the_place_of_the_earlier(rt: HostRuntime) {
     assert!(rt; outdated(rt.alloc()) == Some((2, true)));
-}
-
-/// Whether 1.1 suspects itself when 1.2 comes.
-fn suspects_itself(alloc: Global) -> Option<bool> {
-    let view = view_of(alloc, &[1, 2])?;
-    let mut notes = ViewNotes::new(alloc);
-    notes.outdate(&first_of(1), &view, &address(1, 2)).ok()?;
-    Some(notes.is_suspected(&first_of(1)))
-}
-
-#[test]
-fn no_member_suspects_itself(rt: HostRuntime) {
-    assert!(rt; suspects_itself(rt.alloc()) == Some(false));
-}
-
-/// The count after 4.2 and then 4.1 came to the view of 1.1 and 2.1.
-fn came_late(alloc: Global) -> Option<usize> {
-    let view = view_of(alloc, &[1, 2])?;
-    let mut notes = ViewNotes::new(alloc);
-    joined(alloc, &mut notes, &view, address(4, 2))?;
-    joined(alloc, &mut notes, &view, address(4, 1))?;
-    count(alloc, &notes, &view)
-}
-
-#[test]
-fn an_earlier_incarnation_is_not_noted(rt: HostRuntime) {
-    assert!(rt; came_late(rt.alloc()) == Some(3));
-}
-
-/// The count after 3.1, which stands in the list of the own flush, came to the view of 1.1 and 2.1.
-fn came_again(alloc: Global) -> Option<usize> {
-    let view = view_of(alloc, &[1, 2])?;
-    let mut notes = ViewNotes::new(alloc);
-    let joiner = first_of(3);
-    notes
-        .note_joiner(alloc, &first_of(1), &view, &[joiner], joiner)
-        .ok()?;
-    count(alloc, &notes, &view)
-}
-
-#[test]
-fn who_is_listed_already_is_not_noted(rt: HostRuntime) {
-    assert!(rt; came_again(rt.alloc()) == Some(2));
 }
 
 /// The count after a seventeenth came.
@@ -147,17 +88,6 @@ fn merged(alloc: Global, view: &View, nodes: &[u16]) -> Option<ViewNotes> {
     Some(notes)
 }
 
-fn merging_follow(alloc: Global) -> Option<bool> {
-    let view = view_of(alloc, &[1, 2])?;
-    let notes = merged(alloc, &view, &[3, 5, 2, 4])?;
-    has_candidates(alloc, &notes, &view, &[1, 2, 3, 5, 4])
-}
-
-#[test]
-fn those_of_another_view_follow(rt: HostRuntime) {
-    assert!(rt; merging_follow(rt.alloc()) == Some(true));
-}
-
 /// The next counter after a promise of counter 1, once the view 7@3.1 came to the view of these nodes.
 fn counter_past(alloc: Global, nodes: &[u16], others: &[u16]) -> Option<Option<u64>> {
     let view = view_of(alloc, nodes)?;
@@ -171,36 +101,12 @@ fn a_merge_is_proposed_past_both_views(rt: HostRuntime) {
 }
 
 #[test]
-fn a_view_with_no_new_member_is_not_heard_of(rt: HostRuntime) {
-    assert!(rt; counter_past(rt.alloc(), &[1, 2, 3], &[3, 2]) == Some(Some(2)));
-}
-
-/// The count after a view with two new members came to fifteen.
-fn came_in_part(alloc: Global) -> Option<usize> {
-    let view = view_of(alloc, &[1, 2, 3, 4, 5, 6, 7, 8, 9, 10, 11, 12, 13, 14, 15])?;
-    let notes = merged(alloc, &view, &[3, 16, 17])?;
-    count(alloc, &notes, &view)
-}
-
-#[test]
-fn all_of_another_view_are_noted_or_none(rt: HostRuntime) {
-    assert!(rt; came_in_part(rt.alloc()) == Some(15));
-}
-
-#[test]
 fn counters_follow_what_was_heard(rt: HostRuntime) {
     let mut notes = ViewNotes::new(rt.alloc());
     notes.hear(5);
     notes.hear(4);
     assert!(rt; notes.next_counter(3) == Some(6));
     assert!(rt; notes.next_counter(8) == Some(9));
-}
-
-#[test]
-fn no_counter_is_past_the_greatest(rt: HostRuntime) {
-    let notes = ViewNotes::new(rt.alloc());
-    assert!(rt; notes.next_counter(GREATEST_NUMBER - 1) == Some(GREATEST_NUMBER));
-    assert!(rt; notes.next_counter(GREATEST_NUMBER) == None);
 }
 
 /// The notes of 1.1 in the view of 1.1 and 2.1, of which 2.1 is suspected: 3.1 and 4.1 asked to be let in, and 9 was heard of.
@@ -228,15 +134,6 @@ fn waits_on(alloc: Global) -> Option<bool> {
 #[test]
 fn who_was_not_let_in_stays_noted(rt: HostRuntime) {
     assert!(rt; waits_on(rt.alloc()) == Some(true));
-}
-
-fn counter_when_settled(alloc: Global) -> Option<Option<u64>> {
-    Some(settled(alloc)?.next_counter(1))
-}
-
-#[test]
-fn nothing_was_heard_of_in_an_own_view(rt: HostRuntime) {
-    assert!(rt; counter_when_settled(rt.alloc()) == Some(Some(2)));
 }
 
 fn cleared(alloc: Global) -> Option<bool> {

@@ -37,28 +37,6 @@ fn are_taken(alloc: Global, bytes: &[u8]) -> bool {
     }
 }
 
-// Whether these bytes are refused, and leave a chat of two lines as it was.
-fn are_refused(alloc: Global, bytes: &[u8]) -> bool {
-    match two_lines(alloc) {
-        Ok(mut chat) => chat.set_state(bytes) == Ok(false) && has_state(alloc, &chat, TWO),
-        Err(_) => false,
-    }
-}
-
-// Some bytes, and others behind them so many times.
-fn with_copies(
-    alloc: Global,
-    front: &[u8],
-    other: &[u8],
-    count: usize,
-) -> Result<Vec<u8>, AllocError> {
-    let mut bytes = Vec::from_slice(alloc, front)?;
-    for _ in 0..count {
-        bytes.extend_from_slice(other)?;
-    }
-    Ok(bytes)
-}
-
 #[test]
 fn a_chat_opens_without_lines(rt: HostRuntime) {
     let chat = ChatLog::opening(rt.alloc()).ok().expect(&rt, "a chat");
@@ -94,74 +72,6 @@ fn two_lines_are_read(rt: HostRuntime) {
     assert_eq!(rt; chat.len(), 2, "how many lines there are");
     assert!(rt; is_line(&chat, 0, first_of(1), b"hi"), "the first line");
     assert!(rt; chat.line(2).is_none(), "there is no third line");
-}
-
-#[test]
-fn beginnings_are_refused(rt: HostRuntime) {
-    for end in 0..TWO.len() {
-        assert!(rt;
-            are_refused(rt.alloc(), &TWO[..end]),
-            "the first {end} bytes"
-        );
-    }
-}
-
-#[test]
-fn one_byte_more_is_refused(rt: HostRuntime) {
-    let alloc = rt.alloc();
-    assert!(rt;
-        are_refused(
-            alloc,
-            b"\x02\x00\x01\x00\x00\x00\x01\x00\x02hi\x00\x02\x00\x00\x00\x07\x00\x00\x00"
-        )
-    );
-}
-
-#[test]
-fn the_node_0_is_refused(rt: HostRuntime) {
-    assert!(rt; are_refused(rt.alloc(), b"\x01\x00\x00\x00\x00\x00\x01\x00\x00"));
-}
-
-#[test]
-fn the_incarnation_0_is_refused(rt: HostRuntime) {
-    assert!(rt; are_refused(rt.alloc(), b"\x01\x00\x01\x00\x00\x00\x00\x00\x00"));
-}
-
-#[test]
-fn a_payload_of_512_bytes_is_taken(rt: HostRuntime) {
-    let front = b"\x01\x00\x01\x00\x00\x00\x01\x02\x00";
-    let state = with_copies(rt.alloc(), front, b"x", 512)
-        .ok()
-        .expect(&rt, "a state");
-    assert!(rt; are_taken(rt.alloc(), &state));
-}
-
-#[test]
-fn a_payload_of_513_bytes_is_refused(rt: HostRuntime) {
-    let front = b"\x01\x00\x01\x00\x00\x00\x01\x02\x01";
-    let state = with_copies(rt.alloc(), front, b"x", 513)
-        .ok()
-        .expect(&rt, "a state");
-    assert!(rt; are_refused(rt.alloc(), &state));
-}
-
-// An empty line of 1.1.
-const LINE: &[u8] = b"\x00\x01\x00\x00\x00\x01\x00\x00";
-
-#[test]
-fn a_state_of_24_lines_is_taken(rt: HostRuntime) {
-    let state = with_copies(rt.alloc(), b"\x18", LINE, 24)
-        .ok()
-        .expect(&rt, "a state");
-    assert!(rt; are_taken(rt.alloc(), &state));
-}
-
-#[test]
-fn a_state_of_25_lines_is_refused(rt: HostRuntime) {
-    let state = with_copies(rt.alloc(), b"\x19", LINE, 25)
-        .ok()
-        .expect(&rt, "a state");
-    assert!(rt; are_refused(rt.alloc(), &state));
 }
 
 // A chat that was delivered the bytes 1 to 25 by a sender, one a message.
@@ -296,22 +206,6 @@ fn the_last_2000_lines_are_kept(rt: HostRuntime) {
         "the last line is the last message"
     );
     assert!(rt; chat.line(2_000).is_none(), "there are no more");
-}
-
-#[test]
-fn a_long_state_of_2000_lines_is_taken(rt: HostRuntime) {
-    let state = with_copies(rt.alloc(), b"\x07\xd0", LINE, 2_000)
-        .ok()
-        .expect(&rt, "a state");
-    assert!(rt; are_long(rt.alloc(), &state));
-}
-
-#[test]
-fn a_long_state_of_2001_lines_is_refused(rt: HostRuntime) {
-    let state = with_copies(rt.alloc(), b"\x07\xd1", LINE, 2_001)
-        .ok()
-        .expect(&rt, "a state");
-    assert!(rt; !are_long(rt.alloc(), &state));
 }
 
 // The state of a long chat whose lines are all as long as can be.

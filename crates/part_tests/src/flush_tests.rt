@@ -106,6 +106,7 @@ fn all_of_the_list_are_awaited(rt: HostRuntime) {
 
 #[test]
 fn a_cut_goes_up_to_the_first_hole(rt: HostRuntime) {
+    cut_covers();
     let alloc = rt.alloc();
     let mut flush = started(alloc, &[1, 2, 3]).expect(&rt, "a flush");
     let one = [spelled(3, 30), spelled(6, 60)];
@@ -126,52 +127,6 @@ fn a_cut_goes_up_to_the_first_hole(rt: HostRuntime) {
     assert!(rt;
         cuts(&flush, alloc, Some(view_id(3)), 2, &[30, 40]),
         "the cut"
-    );
-}
-
-/// The flush that a member of 3@1.1, a member of 4@1.1 and one of no view have reported to, with what the first two hold.
-fn of_three_views(alloc: Global, one: &[[u8; 25]], two: &[[u8; 25]]) -> Option<Flush> {
-    let mut flush = started(alloc, &[1, 2, 3])?;
-    if stands(&mut flush, 1, report(3, 0, 1, one), Progress::Waiting)
-        && stands(&mut flush, 2, report(4, 5, 5, two), Progress::Waiting)
-        && is_complete(&mut flush, 3)
-    {
-        return Some(flush);
-    }
-    None
-}
-
-#[test]
-fn each_view_has_its_own_cut(rt: HostRuntime) {
-    let alloc = rt.alloc();
-    let (one, two) = ([spelled(1, 10)], [spelled(6, 60)]);
-    let flush = of_three_views(alloc, &one, &two).expect(
-        &rt,
-        "two reports waited and the third completed",
-    );
-    assert!(rt;
-        cuts(&flush, alloc, Some(view_id(3)), 0, &[10]),
-        "the cut of 3@1.1"
-    );
-    assert!(rt;
-        cuts(&flush, alloc, Some(view_id(4)), 5, &[60]),
-        "the cut of 4@1.1"
-    );
-    cut_covers();
-}
-
-#[test]
-fn the_cut_of_no_view_and_of_a_stranger_is_empty(rt: HostRuntime) {
-    let alloc = rt.alloc();
-    let (one, two) = ([spelled(1, 10)], [spelled(6, 60)]);
-    let flush = of_three_views(alloc, &one, &two).expect(
-        &rt,
-        "two reports waited and the third completed",
-    );
-    assert!(rt; cuts(&flush, alloc, None, 0, &[]), "no view");
-    assert!(rt;
-        cuts(&flush, alloc, Some(view_id(5)), 0, &[]),
-        "a view of which nobody came"
     );
 }
 
@@ -241,29 +196,6 @@ fn all_come_from_a_view_or_not_all(rt: HostRuntime) {
     assert!(rt; flush.all_come_from(&view_id(3)), "two, of 3@1.1");
     assert!(rt; is_complete(&mut flush, 3), "the last report, of no view");
     assert!(rt; !flush.all_come_from(&view_id(3)), "one is of no view");
-}
-
-#[test]
-fn members_of_two_views_do_not_all_come_from_one(rt: HostRuntime) {
-    let (one, two) = ([spelled(1, 10)], [spelled(6, 60)]);
-    let flush = of_three_views(rt.alloc(), &one, &two).expect(
-        &rt,
-        "two reports waited and the third completed",
-    );
-    assert!(rt; !flush.all_come_from(&view_id(3)), "one is of 4@1.1");
-    assert!(rt; !flush.all_come_from(&view_id(4)), "one is of 3@1.1");
-    assert!(rt;
-        flush.previous(&first_of(1)) == Some(view_id(3)),
-        "the view of the first"
-    );
-    assert!(rt;
-        flush.previous(&first_of(3)).is_none(),
-        "the third came from none"
-    );
-    assert!(rt;
-        flush.previous(&first_of(4)).is_none(),
-        "a stranger did not report"
-    );
 }
 
 /// Whether a report is recorded, or is refused for want of memory and leaves the flush as it was, so that it is recorded afterwards.

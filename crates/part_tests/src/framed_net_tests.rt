@@ -1,6 +1,5 @@
 use address::Node;
-use frames::{FramedNet, KEPT_LONGS};
-use hmac::Key;
+use frames::FramedNet;
 use std::alloc::AllocGlobal;
 use std::process::Abort;
 use udp_net::{MemoryNet, Net, NodePort};
@@ -153,65 +152,6 @@ fn a_full_frame_goes(rt: HostRuntime) {
 }
 
 #[test]
-fn what_packets_share_goes_once(rt: HostRuntime) {
-    let mut sender = net(&rt, 1, b"key");
-    let (whole, front) = (long(&rt, 600), long(&rt, 300));
-    sender.send(node(2), b"first");
-    sender.send(node(2), b"five");
-    sender.send(node(2), b"five");
-    sender.send(node(2), whole.as_slice());
-    sender.send(node(2), front.as_slice());
-    let found = frames(&rt, sender);
-    assert!(rt; found.len() == 1);
-    let contents = (3 + 5) + (3 + 2) + 3 + (3 + 600) + (3 + 300 - 255);
-    assert!(rt; found.as_slice()[0].len() == 28 + contents + 16);
-    let mut receiver = hears(&rt, found.as_slice(), b"key");
-    assert!(rt; gives(&rt, &mut receiver, b"first"));
-    assert!(rt; gives(&rt, &mut receiver, b"five"));
-    assert!(rt; gives(&rt, &mut receiver, b"five"));
-    assert!(rt; gives(&rt, &mut receiver, whole.as_slice()));
-    assert!(rt; gives(&rt, &mut receiver, front.as_slice()));
-    assert!(rt; next(&rt, &mut receiver).is_none());
-}
-
-// A frame for node 2 with this content, sealed with the key.
-fn sealed(rt: &(impl Abort + AllocGlobal), content: &[u8]) -> Vec<u8> {
-    let mut frame = vec![in rt.alloc(); 0; 28].expect(rt, "memory");
-    frame.as_mut_slice()[0] = 0x46;
-    frame.as_mut_slice()[3] = 2;
-    frame.extend_from_slice(content).expect(rt, "memory");
-    let tag = Key::new(b"key").tag(frame.as_slice());
-    frame.extend_from_slice(&tag[..16]).expect(rt, "memory");
-    frame
-}
-
-// Whether a content is refused.
-fn is_refused(rt: &(impl Abort + AllocGlobal), content: &[u8]) -> bool {
-    let mut inner = MemoryNet::new(rt.alloc());
-    inner
-        .put(sealed(rt, content).as_slice())
-        .expect(rt, "memory");
-    let mut receiver = net_over(rt, inner, 2, b"key");
-    next(rt, &mut receiver).is_none() && receiver.refused() == 1
-}
-
-#[test]
-fn what_is_no_content_is_refused(rt: HostRuntime) {
-    let mut inner = MemoryNet::new(rt.alloc());
-    inner
-        .put(sealed(&rt, b"\x00\x00\x02ab\x01\x00\x01c").as_slice())
-        .expect(&rt, "memory");
-    let mut receiver = net_over(&rt, inner, 2, b"key");
-    assert!(rt; gives(&rt, &mut receiver, b"ab"));
-    assert!(rt; gives(&rt, &mut receiver, b"ac"));
-    assert!(rt; is_refused(&rt, b"\x00\x00\x02ab\x00\x00\x02ac"));
-    assert!(rt; is_refused(&rt, b"\x00\x00\x02ab\x03\x00\x01c"));
-    assert!(rt; is_refused(&rt, b"\x01\x00\x02ab"));
-    assert!(rt; is_refused(&rt, b"\x00\x00\x03ab"));
-    assert!(rt; is_refused(&rt, b"\x00\x00"));
-}
-
-#[test]
 fn a_long_packet_goes_in_pieces(rt: HostRuntime) {
     let mut sender = net(&rt, 1, b"key");
     let (first, second) = (long(&rt, 38_159), long(&rt, 1_355));
@@ -309,29 +249,6 @@ fn a_packet_that_goes_again_fills_what_was_lost(rt: HostRuntime) {
 }
 
 #[test]
-fn a_packet_that_is_kept_no_more_goes_as_a_new_one(rt: HostRuntime) {
-    let mut sender = net(&rt, 1, b"key");
-    let first = long(&rt, 1_400);
-    sender.send(node(2), first.as_slice());
-    for more in 1..=KEPT_LONGS {
-        let other = long(&rt, 1_400 + more);
-        sender.send(node(2), other.as_slice());
-    }
-    sender.send(node(2), first.as_slice());
-    let found = frames(&rt, sender);
-    let count = found.len();
-    assert!(rt; count == 2 * (KEPT_LONGS + 2));
-    // The first piece is lost the first time, and the second one the second time.
-    let left = without(&rt, found.as_slice(), 0, count - 1);
-    let mut receiver = hears(&rt, left.as_slice(), b"key");
-    for more in 1..=KEPT_LONGS {
-        let other = long(&rt, 1_400 + more);
-        assert!(rt; gives(&rt, &mut receiver, other.as_slice()));
-    }
-    assert!(rt; next(&rt, &mut receiver).is_none());
-}
-
-#[test]
 fn a_frame_is_taken_once(rt: HostRuntime) {
     let mut sender = net(&rt, 1, b"key");
     sender.send(node(2), b"one");
@@ -401,39 +318,4 @@ fn one_frame_goes_to_several(rt: HostRuntime) {
     let mut other = hears_at(&rt, 4, found.as_slice(), b"key");
     assert!(rt; next(&rt, &mut other).is_none());
     assert!(rt; other.refused() == 3);
-}
-
-#[test]
-fn frames_for_several_have_counters_of_their_own(rt: HostRuntime) {
-    let mut sender = net(&rt, 1, b"key");
-    sender.send(node(2), b"for node 2");
-    sender.flush();
-    sender.send(node(2), b"for node 2 again");
-    sender.send(node(3), b"for node 3 again");
-    let found = frames(&rt, sender);
-    assert!(rt; found.len() == 3);
-    let mut receiver = hears(&rt, found.as_slice(), b"key");
-    assert!(rt; gives(&rt, &mut receiver, b"for node 2"));
-    assert!(rt; gives(&rt, &mut receiver, b"for node 2 again"));
-    assert!(rt; next(&rt, &mut receiver).is_none());
-    assert!(rt; receiver.refused() == 1);
-}
-
-#[test]
-fn what_is_damaged_is_not_given_to_several(rt: HostRuntime) {
-    let found = for_several(&rt);
-    assert!(rt; found.len() == 3);
-    let frame = found.as_slice()[1].as_slice();
-    let mut inner = MemoryNet::new(rt.alloc());
-    for place in 0..frame.len() {
-        let mut bytes = Vec::from_slice(rt.alloc(), frame).expect(&rt, "memory");
-        bytes.as_mut_slice()[place] ^= 1;
-        inner.put(bytes.as_slice()).expect(&rt, "memory");
-        inner.put(&frame[..place]).expect(&rt, "memory");
-    }
-    let mut receiver = net_over(&rt, inner, 3, b"key");
-    for _ in 0..4 {
-        assert!(rt; next(&rt, &mut receiver).is_none());
-    }
-    assert!(rt; receiver.refused() == 2 * frame.len() as u64);
 }

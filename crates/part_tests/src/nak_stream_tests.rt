@@ -55,22 +55,6 @@ fn an_entry_out_of_reach_is_not_taken(rt: HostRuntime) {
 }
 
 #[test]
-fn an_entry_is_taken_once(rt: HostRuntime) {
-    let mut window = Window::new(rt.alloc()).ok().expect(&rt, "a window");
-    assert!(rt; offered(&mut window, 64), "first");
-    assert!(rt; !offered(&mut window, 64), "again");
-}
-
-#[test]
-fn nothing_is_delivered_behind_a_gap(rt: HostRuntime) {
-    let mut window = Window::new(rt.alloc()).ok().expect(&rt, "a window");
-    assert!(rt; offered(&mut window, 64), "64 is taken");
-    assert!(rt; offered(&mut window, 1), "1 is taken");
-    assert_eq!(rt; next(&mut window), 1, "1 is delivered");
-    assert_eq!(rt; next(&mut window), 0, "64 is not");
-}
-
-#[test]
 fn delivers_in_order(rt: HostRuntime) {
     let mut window = Window::new(rt.alloc()).ok().expect(&rt, "a window");
     assert!(rt; offered(&mut window, 2), "2 is taken");
@@ -126,8 +110,6 @@ fn delivers_next_where_it_is_held(rt: HostRuntime) {
     assert!(rt; !window.deliver_next(), "nothing has come");
     assert!(rt; offered(&mut window, 1), "1 is taken");
     assert!(rt; window.deliver_next(), "1 is delivered");
-    let entry = window.entry(window.delivered()).expect(&rt, "an entry");
-    assert_eq!(rt; entry.number.get(), 1, "it stays held");
 }
 
 /// The number in the order that the last slot with an entry has; 0 where none has one.

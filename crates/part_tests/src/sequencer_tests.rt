@@ -104,22 +104,6 @@ fn takes_each_message_once(rt: HostRuntime) {
     );
 }
 
-#[test]
-fn takes_no_message_of_a_stranger(rt: HostRuntime) {
-    let mut orderer = of_two(rt.alloc()).expect(&rt, "an orderer");
-    assert!(rt; !offered(&mut orderer, first_of(3), 1, 1));
-}
-
-#[test]
-fn takes_eight_behind_what_is_ordered(rt: HostRuntime) {
-    let mut orderer = of_two(rt.alloc()).expect(&rt, "an orderer");
-    let one = first_of(1);
-    assert!(rt; offered(&mut orderer, one, 1, 1), "1 is taken");
-    assert!(rt; !offered(&mut orderer, one, 9, 1), "9 is out of reach");
-    assert!(rt; ordered(&mut orderer, 0).is_some(), "1 is ordered");
-    assert!(rt; offered(&mut orderer, one, 9, 1), "9 is within reach");
-}
-
 /// What was taken of eight messages; `None` where memory was refused.
 fn eight(alloc: Global) -> Option<Forwards> {
     let mut forwards = Forwards::new(alloc).ok()?;
@@ -143,24 +127,6 @@ fn a_ninth_outstanding_message_is_refused(rt: HostRuntime) {
     assert_eq!(rt; pushed(rt.alloc(), &mut forwards, 7), 103);
 }
 
-#[test]
-fn a_message_is_taken_once_others_were_delivered(rt: HostRuntime) {
-    let mut forwards = eight(rt.alloc()).expect(&rt, "room");
-    assert_eq!(rt;
-        pushed(rt.alloc(), &mut forwards, 7),
-        103,
-        "the ninth is refused"
-    );
-    forwards.delivered(3);
-    assert_eq!(rt; forwards.rest().len(), 5, "how many are outstanding");
-    assert_eq!(rt;
-        pushed(rt.alloc(), &mut forwards, 7),
-        9,
-        "it is taken as the ninth"
-    );
-    assert_eq!(rt; forwards.sent(), 9, "how many were sent");
-}
-
 /// The number of the oldest message that is outstanding.
 fn oldest(forwards: &Forwards) -> Option<u64> {
     let forward = forwards.rest().first()?;
@@ -174,13 +140,6 @@ fn the_oldest_message_is_outstanding_no_longer(rt: HostRuntime) {
     assert_eq!(rt; forwards.rest().len(), 7, "how many are outstanding");
     assert_eq!(rt; oldest(&forwards), Some(2), "the oldest of them");
     assert_eq!(rt; forwards.sent(), 8, "how many were sent");
-}
-
-#[test]
-fn nothing_changes_where_none_is_outstanding(rt: HostRuntime) {
-    let mut forwards = Forwards::new(rt.alloc()).ok().expect(&rt, "room");
-    forwards.oldest_delivered();
-    assert!(rt; forwards.rest().is_empty(), "none is outstanding");
 }
 
 #[test]

@@ -94,23 +94,6 @@ fn a_state_is_cut_after_32768_bytes(rt: HostRuntime) {
 }
 
 #[test]
-fn a_state_that_ends_with_a_whole_chunk_has_no_more(rt: HostRuntime) {
-    let state = state_of(rt.alloc(), 65_536).ok().expect(&rt, "a state");
-    let two = cut(&state, 2).expect(&rt, "the second chunk");
-    assert_eq!(rt; two.as_slice().len(), 32_768, "its length");
-    assert!(rt;
-        two.as_slice().starts_with(&[138, 139]),
-        "it begins behind the first"
-    );
-    let short = state_of(rt.alloc(), 4_097).ok().expect(&rt, "a state");
-    let one = cut(&short, 1).expect(&rt, "its one chunk");
-    assert!(rt;
-        one.as_slice() == short.as_slice(),
-        "a short one is its chunk"
-    );
-}
-
-#[test]
 fn chunks_in_order_make_the_state(rt: HostRuntime) {
     let alloc = rt.alloc();
     let state = state_of(alloc, 32_769).ok().expect(&rt, "a state");
@@ -130,23 +113,6 @@ fn chunks_in_order_make_the_state(rt: HostRuntime) {
 }
 
 #[test]
-fn chunks_in_another_order_make_the_state(rt: HostRuntime) {
-    let alloc = rt.alloc();
-    let state = state_of(alloc, 65_537).ok().expect(&rt, "a state");
-    let mut held = HeldChunks::new(alloc);
-    for index in [3, 1, 2] {
-        assert!(rt; !is_there(&held, 65_537), "the chunk {index} is missing");
-        assert!(rt; is_new(&held, &state, index), "the chunk {index} is new");
-        assert!(rt; hold(&mut held, &state, index), "the chunk {index} is held");
-    }
-    assert!(rt; is_there(&held, 65_537), "all three are held");
-    assert!(rt;
-        gives(&held, alloc, &in_chunks(65_537), &state),
-        "the state"
-    );
-}
-
-#[test]
 fn a_chunk_that_is_held_is_not_new(rt: HostRuntime) {
     let alloc = rt.alloc();
     let state = state_of(alloc, 32_769).ok().expect(&rt, "a state");
@@ -156,39 +122,6 @@ fn a_chunk_that_is_held_is_not_new(rt: HostRuntime) {
     assert!(rt; hold(&mut held, &state, 2), "it is held twice all the same");
     assert!(rt; !is_there(&held, 32_769), "the first is missing");
     assert!(rt; hold(&mut held, &state, 1), "the first is held");
-    assert!(rt;
-        gives(&held, alloc, &in_chunks(32_769), &state),
-        "the state"
-    );
-}
-
-#[test]
-fn the_first_that_was_held_counts(rt: HostRuntime) {
-    let alloc = rt.alloc();
-    let mut held = HeldChunks::new(alloc);
-    let fives = vec![in alloc; 5u8; 4_097].ok().expect(&rt, "a state");
-    let sevens = vec![in alloc; 7u8; 4_097].ok().expect(&rt, "a state");
-    assert!(rt; hold(&mut held, &fives, 1), "the fives are held");
-    assert!(rt; !is_new(&held, &sevens, 1), "other bytes are not new there");
-    assert!(rt; hold(&mut held, &sevens, 1), "they are held all the same");
-    assert!(rt; gives(&held, alloc, &in_chunks(4_097), &fives), "the fives");
-}
-
-#[test]
-fn a_chunk_of_a_state_of_another_length_is_not_new(rt: HostRuntime) {
-    let alloc = rt.alloc();
-    let state = state_of(alloc, 32_769).ok().expect(&rt, "a state");
-    let longer = state_of(alloc, 32_770).ok().expect(&rt, "a longer state");
-    let mut held = HeldChunks::new(alloc);
-    assert!(rt; hold(&mut held, &state, 1), "the first is held");
-    assert!(rt; !is_new(&held, &longer, 1), "the first of the longer one");
-    assert!(rt; !is_new(&held, &longer, 2), "the second of the longer one");
-    assert!(rt; hold(&mut held, &longer, 2), "which is held all the same");
-    assert!(rt; !is_there(&held, 32_769), "of either state one is missing");
-    assert!(rt; !is_there(&held, 32_770), "of either state one is missing");
-    assert!(rt; hold(&mut held, &state, 2), "the second is held");
-    assert!(rt; is_there(&held, 32_769), "both are held");
-    assert!(rt; !is_there(&held, 32_770), "not those of the longer one");
     assert!(rt;
         gives(&held, alloc, &in_chunks(32_769), &state),
         "the state"

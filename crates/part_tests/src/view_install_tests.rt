@@ -37,13 +37,6 @@ fn nothing_is_promised_at_first(rt: HostRuntime) {
     assert!(rt; promise.proposal().is_none());
 }
 
-#[test]
-fn an_offer_is_accepted_again(rt: HostRuntime) {
-    let mut promise = Promise::new(first_of(2));
-    assert!(rt; offered(&mut promise, 5) == OfferAnswer::Accept, "first");
-    assert!(rt; offered(&mut promise, 5) == OfferAnswer::Accept, "again");
-}
-
 /// The promise of 2.1 that was offered 5, 5, 4 and 6.
 fn of_six() -> Promise {
     let mut promise = Promise::new(first_of(2));
@@ -88,17 +81,6 @@ fn the_greatest_offer_is_promised(rt: HostRuntime) {
 }
 
 #[test]
-fn an_offer_without_the_member_is_ignored(rt: HostRuntime) {
-    let mut promise = Promise::new(first_of(2));
-    let other = proposal(7, 3).expect(&rt, "a proposal without 2.1");
-    assert!(rt;
-        promise.offer(&other) == OfferAnswer::Ignore,
-        "it is ignored"
-    );
-    assert!(rt; !promise.is_frozen(), "it binds nothing");
-}
-
-#[test]
 fn nothing_is_installed_without_a_promise(rt: HostRuntime) {
     let mut promise = Promise::new(first_of(2));
     assert!(rt; !installed(&mut promise, 5, 2));
@@ -133,23 +115,4 @@ fn an_installed_view_frees_the_promise(rt: HostRuntime) {
     let promise = installed_five();
     assert!(rt; !promise.is_frozen());
     promises_rise();
-}
-
-#[test]
-fn a_view_is_installed_once(rt: HostRuntime) {
-    let mut promise = installed_five();
-    assert!(rt; !installed(&mut promise, 5, 2));
-}
-
-#[test]
-fn an_installed_view_is_passed_by_a_later_offer_alone(rt: HostRuntime) {
-    let mut promise = installed_five();
-    assert!(rt;
-        offered(&mut promise, 5) == OfferAnswer::Ignore,
-        "its own offer is ignored"
-    );
-    assert!(rt;
-        offered(&mut promise, 6) == OfferAnswer::Accept,
-        "a later one is accepted"
-    );
 }

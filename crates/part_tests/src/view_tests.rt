@@ -35,12 +35,6 @@ fn a_list_that_does_not_begin_with_its_maker_is_refused(rt: HostRuntime) {
     assert_eq!(rt; refusal(rt.alloc(), &[2, 1]), 33);
 }
 
-#[test]
-fn a_list_of_sixteen_is_taken(rt: HostRuntime) {
-    let sixteen = [1, 2, 3, 4, 5, 6, 7, 8, 9, 10, 11, 12, 13, 14, 15, 16];
-    assert_eq!(rt; refusal(rt.alloc(), &sixteen), 0);
-}
-
 /// The first view of 1.1, alone.
 fn alone(alloc: Global) -> Option<View> {
     View::alone(alloc, ViewId::first_of(first_of(1))).ok()
@@ -50,21 +44,7 @@ fn alone(alloc: Global) -> Option<View> {
 fn a_view_alone_has_its_id(rt: HostRuntime) {
     let view = alone(rt.alloc()).expect(&rt, "a view");
     assert!(rt; view.id() == ViewId::first_of(first_of(1)));
-}
-
-#[test]
-fn a_view_alone_has_its_maker_first(rt: HostRuntime) {
-    let view = alone(rt.alloc()).expect(&rt, "a view");
-    assert!(rt; view.first() == first_of(1), "the coordinator");
     assert!(rt; view.rank(&first_of(1)) == Some(0), "its rank");
-}
-
-#[test]
-fn a_view_alone_has_its_maker_only(rt: HostRuntime) {
-    let view = alone(rt.alloc()).expect(&rt, "a view");
-    assert!(rt; view.contains(&first_of(1)), "its creator is in it");
-    assert!(rt; !view.contains(&first_of(2)), "another is not");
-    assert_eq!(rt; view.members().len(), 1, "how many members it has");
 }
 
 /// The list of 1.1 and 3.1.

@@ -1,4 +1,4 @@
-use crate::wire_samples::{EACH, JOIN, ORDER, entry, is_spelled, number, refusal, unhex};
+use crate::wire_samples::{JOIN, ORDER, entry, number, refusal, unhex};
 use std::alloc::{AllocError, Global};
 use wire::{decode, encode, put_entry};
 
@@ -9,65 +9,6 @@ fn with_byte(alloc: Global, bytes: &[u8], index: usize, value: u8) -> Result<Vec
         changed[index] = value;
     }
     Ok(changed)
-}
-
-/// Whether these bytes are no packet, or one that is written as they are.
-fn is_refused_or_exact(alloc: Global, bytes: &[u8]) -> bool {
-    match decode(bytes) {
-        Ok(packet) => is_spelled(alloc, &packet, bytes),
-        Err(_) => true,
-    }
-}
-
-/// Whether every value at an index is refused, or makes another packet's spelling.
-fn is_exact_at(alloc: Global, bytes: &[u8], index: usize) -> bool {
-    for value in 0..=255 {
-        match with_byte(alloc, bytes, index, value) {
-            Ok(changed) if is_refused_or_exact(alloc, &changed) => {}
-            _ => return false,
-        }
-    }
-    true
-}
-
-// Of one packet of each kind. The texts stand in the order of their kinds, and are counted from 0.
-#[test]
-fn each_beginning_of_a_packet_is_short(rt: HostRuntime) {
-    for (i, text) in EACH.iter().enumerate() {
-        let bytes = unhex(rt.alloc(), text).ok().expect(&rt, "the bytes");
-        for end in 0..bytes.len() {
-            assert_eq!(rt;
-                refusal(&bytes[..end]),
-                20,
-                "the first {end} bytes of the packet {i}"
-            );
-        }
-    }
-}
-
-#[test]
-fn each_changed_byte_is_refused_or_another_packet(rt: HostRuntime) {
-    for (i, text) in EACH.iter().enumerate() {
-        let bytes = unhex(rt.alloc(), text).ok().expect(&rt, "the bytes");
-        for index in 0..bytes.len() {
-            assert!(rt;
-                is_exact_at(rt.alloc(), &bytes, index),
-                "the byte {index} of the packet {i}"
-            );
-        }
-    }
-}
-
-#[test]
-fn a_byte_behind_a_packet_is_refused(rt: HostRuntime) {
-    for (i, text) in EACH.iter().enumerate() {
-        let mut bytes = unhex(rt.alloc(), text).ok().expect(&rt, "the bytes");
-        assert!(rt;
-            bytes.push(0).is_ok(),
-            "a byte is put behind the packet {i}"
-        );
-        assert_eq!(rt; refusal(&bytes), 26, "the packet {i}");
-    }
 }
 
 /// The number with which a JOIN is refused once a byte is changed; 99 where memory was refused.

@@ -66,12 +66,6 @@ fn the_longest_report_has_34399_bytes(rt: HostRuntime) {
     assert!(rt; has_length(rt.alloc(), body, 11, 34_399));
 }
 
-#[test]
-fn a_report_of_more_delivered_than_it_has_entries_is_none(rt: HostRuntime) {
-    let text = entries(rt.alloc(), true).expect(&rt, "the entries");
-    assert!(rt; report(&text, 65).is_none());
-}
-
 /// The first addresses of the nodes 1 to 16.
 fn sixteen(alloc: Global) -> Option<Vec<Address>> {
     let mut members = Vec::new(alloc);
@@ -103,12 +97,6 @@ fn the_longest_install_has_38159_bytes(rt: HostRuntime) {
     let members = sixteen(rt.alloc()).expect(&rt, "the members");
     let text = entries(rt.alloc(), false).expect(&rt, "the entries");
     assert!(rt; is_longest_install(rt.alloc(), &members, &text));
-}
-
-#[test]
-fn entries_are_as_many_as_is_said(rt: HostRuntime) {
-    let text = entries(rt.alloc(), false).expect(&rt, "the entries");
-    assert!(rt; Items::new(63, &text).is_none());
 }
 
 /// Whether a chunk of 32,768 bytes, the last of the longest state, makes the longest STATE.

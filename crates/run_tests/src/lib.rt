@@ -1,4 +1,4 @@
-//! Tests of what no stored run shows: what a reader or a writer that fails leaves, the packets of a world, the lines of texts, the spelling of commands and the limits of maps and tables of locks,
+//! Tests of what no stored run shows: the lines of texts, a writer that fails, the spelling of commands and the limits of maps and tables of locks,
 //! tokens, what nodes that keep these answer, and what reads bytes and keeps entries by their keys below. They stand apart from what they test, so that it is proved once and not twice.
 #![tactic(auto)]
 
@@ -30,8 +30,6 @@ mod readers;
 mod reading_tests;
 #[cfg(test)]
 mod runs;
-#[cfg(test)]
-mod scripts;
 #[cfg(test)]
 mod service_tests;
 #[cfg(test)]

@@ -4,6 +4,7 @@
 use address::{Address, Bytes, Node, ViewId};
 use chat_log::ChatLog;
 use law_dead_ends::nothing_is_a_dead_end;
+use settling::low_proposals_rise;
 use trace_props::{Event, Install};
 use world::World;
 use world_model::WorldEvent;
@@ -395,4 +396,5 @@ fn changes_settle_and_members_come_to_stand_alone(rt: HostRuntime) {
     assert!(rt; tally.rested > 1000, "more did not");
     assert!(rt; alone > 300, "many came to stand alone");
     nothing_is_a_dead_end::<ChatLog>();
+    low_proposals_rise::<ChatLog>();
 }

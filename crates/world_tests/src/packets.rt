@@ -1,10 +1,8 @@
+//! What a world says of its packets and of who runs.
+
 use address::{Address, Node};
 use chat_log::ChatLog;
-use commands::{run_script, run_states};
-use endings::Status;
-use lock_table::LockTable;
 use std::alloc::Global;
-use std::io::{self, Read, Write};
 use world::World;
 use world_model::WorldEvent;
 
@@ -104,60 +102,4 @@ fn a_hint_puts_out_the_view_and_a_suspect_nothing(rt: HostRuntime) {
         None => assert!(rt; false, "there is a packet"),
     }
     assert!(rt; world.packet(2).is_none(), "there is no other packet");
-}
-
-/// A reader that gives a few bytes and then fails.
-#[derive(Drop)]
-struct Failing(u8);
-
-impl Read for Failing {
-    fn read(&mut self, buf: &mut [u8]) -> io::Result<usize> {
-        if self.0 == 0 || buf.is_empty() {
-            return Err(io::Error::from(io::ErrorKind::Other));
-        }
-        self.0 -= 1;
-        buf[0] = b'\n';
-        Ok(1)
-    }
-}
-
-#[test]
-fn a_failing_reader_writes_nothing(rt: HostRuntime) {
-    let mut output = Vec::new(rt.alloc());
-    let status = run_script::<ChatLog, Failing, Vec<u8>>(rt.alloc(), &mut Failing(3), &mut output);
-    assert!(rt; status == Status::Outside, "the status");
-    assert!(rt; output.is_empty(), "nothing is written");
-}
-
-/// A writer that takes so many bytes and then fails.
-#[derive(Drop)]
-struct Full(usize);
-
-impl Write for Full {
-    fn write(&mut self, buf: &[u8]) -> io::Result<usize> {
-        if self.0 == 0 {
-            return Err(io::Error::from(io::ErrorKind::Other));
-        }
-        let taken = buf.len().min(self.0);
-        self.0 -= taken;
-        Ok(taken)
-    }
-
-    fn flush(&mut self) -> io::Result<()> {
-        Ok(())
-    }
-}
-
-#[test]
-fn a_failing_writer_ends_outside(rt: HostRuntime) {
-    let mut reader = b"start 1\ncreate 1\n".as_slice();
-    let status = run_script::<ChatLog, &[u8], Full>(rt.alloc(), &mut reader, &mut Full(20));
-    assert!(rt; status == Status::Outside);
-}
-
-#[test]
-fn a_writer_that_is_full_ends_the_states_outside(rt: HostRuntime) {
-    let mut reader = b"start 1\n".as_slice();
-    let status = run_states::<LockTable, &[u8], Full>(rt.alloc(), &mut reader, &mut Full(5));
-    assert!(rt; status == Status::Outside);
 }
