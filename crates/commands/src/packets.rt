@@ -3,7 +3,7 @@ ghost use Rattle.vsync_text.specs.PacketText.{packet_lines};
 ghost use Rattle.endings.specs.Outcomes.{Written, IsLinesText};
 ghost use Rattle.commands.specs.Packets.{IsPacketText, RunsPackets};
 
-use script_runs::script_from;
+use crate::scripts::script_from;
 use endings::{Status, end_in_memory, end_with_lines};
 use script_reader::{AsWritten, Script};
 use state_transfer::Receiver;
