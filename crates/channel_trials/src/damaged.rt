@@ -1,25 +1,14 @@
 //! Hands damaged packets to channels. `packets.txt` has one valid packet of each kind and more; of each, every proper beginning must be refused as 20, a byte more as 26, and each change of one byte must give a
 //! refusal, or a packet whose spelling is the changed bytes; a channel must answer the same refusal, and be as before. Then a few cases by themselves. Prints how many of each outcome there were, and a sum that
 //! tells them apart by their order; `stdout` has what must be printed, which `expected` says by a reader of its own.
-#![tactic(auto)]
-
-mod cases;
-mod chunks;
-mod hexadecimal;
-mod judge;
-mod next;
-mod stands;
-mod tally;
-
-use cases::Cases;
-use hexadecimal::unhex;
-use judge::Judge;
-use stands::Stand;
+use crate::cases::Cases;
+use crate::hexadecimal::unhex;
+use crate::judge::Judge;
+use crate::stands::Stand;
+use crate::tally::Tally;
 use std::alloc::{AllocError, Global};
 use std::fs;
 use std::io::{self, Read, Write};
-use std::process::ExitCode;
-use tally::Tally;
 
 /// Packets up to this length come each to a channel that was handed no other.
 const SHORT: usize = 200;
@@ -88,7 +77,7 @@ fn print_cases(rt: &HostRuntime) -> io::Result<()> {
 }
 
 /// Reads all and prints all; answers whether nothing was wrong.
-fn run(rt: &HostRuntime) -> io::Result<bool> {
+pub(crate) fn run(rt: &HostRuntime) -> io::Result<bool> {
     let mut total = Total {
         packets: 0,
         changes: 0,
@@ -103,15 +92,4 @@ fn run(rt: &HostRuntime) -> io::Result<bool> {
         total.packets, total.changes, total.wrong
     )?;
     Ok(total.wrong == 0)
-}
-
-fn main(rt: HostRuntime) -> ExitCode {
-    match run(&rt) {
-        Ok(true) => ExitCode::from(0),
-        Ok(false) => ExitCode::from(1),
-        Err(error) => {
-            let _ = eprintln!(rt; "damaged_bytes: {error}");
-            ExitCode::from(5)
-        }
-    }
 }

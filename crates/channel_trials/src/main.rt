@@ -1,11 +1,20 @@
-//! Two stories in which memory may be refused at each allocation; `tests/sweeps` refuses it in turn. The word `calls` asks for each call of a channel, in a story of two channels, 1.1 and
-//! 2.1: it prints a line for each answer, with who, the call, and the number of its refusal, 0 where it was done; it ends with 2 where memory was refused before the story began. The word
-//! `catch_up` asks for a member that lost two messages and is brought level: the exit status says what came of it. Without a word both are done.
+//! Trials of channels. Without a word damaged packets are handed to channels (`damaged`), and then two stories are told, in which memory may be refused at each allocation; `tests/sweeps` refuses
+//! it in turn. The word `calls` asks for each call of a channel alone, in a story of two channels, 1.1 and 2.1: it prints a line for each answer, with who, the call, and the number of its refusal,
+//! 0 where it was done; it ends with 2 where memory was refused before the story began. The word `catch_up` asks for a member that lost two messages and is brought level: the exit status says what
+//! came of it.
 #![tactic(auto)]
 
 mod calls;
+mod cases;
 mod catch_up;
+mod chunks;
+mod damaged;
+mod hexadecimal;
+mod judge;
+mod next;
+mod stands;
 mod story;
+mod tally;
 mod told;
 
 use calls::{Chat, apart, payloads};
@@ -20,6 +29,9 @@ use told::Told;
 /// Memory was refused before a story began.
 const NOT_BEGUN: u8 = 2;
 
+/// A reading of a damaged packet is wrong.
+const WRONG: u8 = 1;
+
 /// The outside failed.
 const OUTSIDE: u8 = 5;
 
@@ -30,8 +42,8 @@ enum Wanted {
     Calls,
     /// The catch-up.
     CatchUp,
-    /// Both.
-    Both,
+    /// Both, behind the damaged packets.
+    All,
 }
 
 /// What the words ask for.
@@ -43,7 +55,7 @@ fn asked(rt: &HostRuntime) -> io::Result<Wanted> {
             _ => {}
         }
     }
-    Ok(Wanted::Both)
+    Ok(Wanted::All)
 }
 
 /// The story's lines; an error where memory was refused before it began.
@@ -67,7 +79,7 @@ fn tell_calls(rt: &HostRuntime) -> u8 {
     }
 }
 
-/// Does both; the exit status of the first that is not as it should be.
+/// Tells both stories; the exit status of the first that is not as it should be.
 fn tell_both(rt: &HostRuntime) -> u8 {
     match caught_up(rt.alloc()) {
         LEVEL => tell_calls(rt),
@@ -75,11 +87,23 @@ fn tell_both(rt: &HostRuntime) -> u8 {
     }
 }
 
+/// Hands damaged packets to channels, and tells both stories; the exit status of the first that is not as it should be.
+fn try_all(rt: &HostRuntime) -> u8 {
+    match damaged::run(rt) {
+        Ok(true) => tell_both(rt),
+        Ok(false) => WRONG,
+        Err(error) => {
+            let _ = eprintln!(rt; "channel_trials: {error}");
+            OUTSIDE
+        }
+    }
+}
+
 fn main(rt: HostRuntime) -> ExitCode {
     ExitCode::from(match asked(&rt) {
         Ok(Wanted::Calls) => tell_calls(&rt),
         Ok(Wanted::CatchUp) => caught_up(rt.alloc()),
-        Ok(Wanted::Both) => tell_both(&rt),
+        Ok(Wanted::All) => try_all(&rt),
         Err(_) => NOT_BEGUN,
     })
 }
