@@ -19,17 +19,20 @@ fn a_script_is_read(rt: HostRuntime) {
     }
 }
 
+/// The number of the one line of a script, and its rounds; `(0, 0)` where it says something else.
+fn rounds_of(alloc: Global, text: &[u8]) -> (u64, u64) {
+    match read_udp_script(alloc, text) {
+        Ok(lines) => match lines.as_slice() {
+            [UdpLine { number, event: UdpEvent::Rounds(count) }] => (*number, *count),
+            _ => (0, 0),
+        },
+        Err(_) => (0, 0),
+    }
+}
+
 #[test]
 fn rounds_are_read(rt: HostRuntime) {
-    let lines = read_udp_script(rt.alloc(), b"\nrounds 1000000");
-    let rounds = match &lines {
-        Ok(lines) => match lines.as_slice() {
-            [UdpLine { number: 2, event: UdpEvent::Rounds(count) }] => *count,
-            _ => 0,
-        },
-        Err(_) => 0,
-    };
-    assert_eq!(rt; rounds, 1_000_000);
+    assert!(rt; rounds_of(rt.alloc(), b"\nrounds 1000000") == (2, 1_000_000));
 }
 
 /// How many events, rows of a picture and lines of one the trace of a text has, and whether it keeps the rules; `None` where it is not read.

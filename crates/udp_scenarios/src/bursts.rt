@@ -39,16 +39,27 @@ fn nets(rt: &HostRuntime) -> Result<Pair, AllocError> {
     }
 }
 
+// A datagram of zeros, with its number as its first byte.
+fn numbered(alloc: Global, number: u8) -> Result<Vec<u8>, AllocError> {
+    let mut datagram = vec![in alloc; 0; LENGTH]?;
+    if let Some(first) = datagram.as_mut_slice().first_mut() {
+        *first = number;
+    }
+    Ok(datagram)
+}
+
 impl Pair {
-    // Offers so many datagrams for node 2, each with its number as its first byte.
+    // Offers a datagram for node 2.
+    fn send(&mut self, datagram: &[u8]) {
+        if let Some(node) = Node::new(2) {
+            self.from.send(node, datagram);
+        }
+    }
+
+    // Offers so many datagrams for node 2.
     fn offer(&mut self, alloc: Global, count: u8) -> Result<(), AllocError> {
-        let node = Node::new(2).ok_or(AllocError)?;
-        let mut datagram = vec![in alloc; 0; LENGTH]?;
         for number in 0..count {
-            if let Some(first) = datagram.as_mut_slice().first_mut() {
-                *first = number;
-            }
-            self.from.send(node, datagram.as_slice());
+            self.send(numbered(alloc, number)?.as_slice());
         }
         Ok(())
     }
@@ -68,12 +79,16 @@ impl Pair {
         Ok(self.came.len() > before)
     }
 
+    // Node 1 takes a datagram that came to it; whether there was one.
+    fn hears(&mut self) -> bool {
+        matches!(self.from.receive(self.buffer.as_mut_slice()), Ok(Some(_)))
+    }
+
     // Node 1 takes what came to it, so that a turn of it is over.
     fn turn(&mut self) {
         for _ in 0..TURNS {
-            match self.from.receive(self.buffer.as_mut_slice()) {
-                Ok(Some(_)) => {}
-                _ => return,
+            if !self.hears() {
+                break;
             }
         }
     }
