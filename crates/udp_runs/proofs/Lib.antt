@@ -11,4 +11,3 @@ pub mod NodesTell
 pub mod LinesOwed
 pub mod ScriptCommandsEnd
 pub mod MemberCommandsEnd
-pub mod RanksAreOrdered

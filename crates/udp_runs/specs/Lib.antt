@@ -12,5 +12,3 @@ pub mod Playing
 pub mod Said
 pub mod Telling
 pub mod Members
-pub mod Ranks
-pub mod Finding

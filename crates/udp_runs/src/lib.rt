@@ -3,7 +3,6 @@
 
 mod calls;
 mod ends;
-mod finding;
 mod lone;
 mod looking;
 mod loopback;
@@ -13,7 +12,6 @@ mod node_state;
 mod nodes;
 mod one_node;
 mod process;
-mod ranks;
 mod script;
 mod searching;
 mod sending;

@@ -9,7 +9,6 @@ ghost use Rattle.node_lines.specs.Outboxes.{nothing_waits};
 
 use crate::calls::Call;
 use crate::ends::Cut;
-use crate::finding::{Finder, milliseconds};
 use crate::telling::Teller;
 use crate::watch::Watch;
 use crate::{Lines, NodeMachine, NodeManner, Tally};
@@ -17,6 +16,7 @@ use address::limits::Refusal;
 use address::{Address, ViewId};
 use application::Application;
 use channel::Error;
+use node_finding::{Finder, milliseconds};
 use node_lines::Outbox;
 use script_reader::MemberPlan;
 use std::alloc::Global;

@@ -9,10 +9,10 @@ ghost use Rattle.udp_runs.specs.Said.{AreSame, MaySay, says_nothing};
 
 use crate::calls::{Call, do_call};
 use crate::ends::Cut;
-use crate::finding::{Standing, Step, Whereabouts, milliseconds};
 use crate::lone::{LoneNode, unless_memory};
 use address::Address;
 use application::Application;
+use node_finding::{Standing, Step, Whereabouts, milliseconds};
 use udp_net::{MOST_NODES, Neighbour, Net, Settings};
 
 impl<'a, N: Net, C: Application> LoneNode<'a, N, C> {
