@@ -1,14 +1,7 @@
 pub mod PlacesSet
-pub mod LinesAndEvents
-pub mod ProcessesTurn
 pub mod NodesListed
 pub mod NodesGoOn
 pub mod CallsAmongOthers
 pub mod ScriptsPlay
-pub mod RunTextsEnd
-pub mod TellsBeforeOffers
-pub mod NodesTell
-pub mod LinesOwed
 pub mod ScriptCommandsEnd
 pub mod MemberCommandsEnd
-pub mod RanksAreOrdered

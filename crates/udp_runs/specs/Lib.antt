@@ -1,16 +1,6 @@
-pub mod Machines
-pub mod Ends
 pub mod Loopbacks
-pub mod Tallies
-pub mod Texts
-pub mod OwnLines
 pub mod Nodes
-pub mod Answers
 pub mod Carrying
 pub mod Scripts
 pub mod Playing
-pub mod Said
-pub mod Telling
 pub mod Members
-pub mod Ranks
-pub mod Finding

@@ -9,7 +9,7 @@ use Rattle.udp_net.specs.declared.socket_net.SocketNet.{SocketNet}
 use Rattle.udp_net.specs.declared.error.BindError.{BindError}
 use Rattle.udp_net.specs.declared.error.BindError.TheVariants.{Config, Bind, Memory}
 use Rattle.frames.specs.Nets.{FramedModel}
-use Rattle.udp_runs.specs.declared.manner.Tally.{Tally}
+use Rattle.node_turns.specs.declared.manner.Tally.{Tally}
 
 -- whether a socket could not be bound, what was told last of a node that ran by itself, and how its nets are made: whether they take a node's datagrams wherever these
 -- come from, the key that seals them, and what ends their waits too

@@ -1,33 +1,16 @@
 -- Nodes of one machine, and the processes that run there.
-use Rattle.std.specs.Prelude.{◌≡◌, ◌⊎◌, ℕ, ◌+◌, ◌^◌, ◌<◌, ◌≤◌, Bool, true, false, List, [], ◌++◌, slice_get, slice_set, filter_map, Option, None, Some, IfSome, is_some, Result}
+use Rattle.std.specs.Prelude.{◌≡◌, ◌⊎◌, ℕ, ◌+◌, ◌^◌, ◌<◌, ◌≤◌, true, false, List, ◌++◌, slice_get, slice_set, filter_map, Option, None, Some, IfSome, is_some, Result}
 use Rattle.std.specs.Option.{IsSomeAnd}
 use Rattle.address.specs.Ids.{Address, IsAddress}
 use Rattle.state_transfer.specs.Meanings.{Meaning}
-use Rattle.trace_props.specs.declared.event.Event.{Event}
 use Rattle.trace_props.specs.Observed.{has_started}
-use Rattle.channel.specs.Channels.{ChannelModel}
 use Rattle.udp_net.specs.Logs.{Log, NetEvent}
 use Rattle.udp_member.specs.Turns.{Driven}
-use Rattle.law_runners.specs.Plays.{crash_of}
-use Rattle.law_runners.specs.Runs.{Drives}
 use Rattle.law_runners.specs.Systems.{Gone, Played, PlayedOver, PlayedTellNoStart, has_ended}
-use Rattle.udp_runs.specs.declared.process.Process.{Process}
+use Rattle.node_turns.specs.declared.process.Process.{Process}
 use Rattle.udp_runs.specs.declared.node_state.NodeState.{NodeState}
-use Rattle.udp_runs.specs.Texts.{Line, events_in, Appended}
-use Rattle.udp_runs.specs.Machines.{GivesBack}
-
--- a channel of which all that it tells is taken
-abbrev pub all_told : {S : Type 0} → ChannelModel S → ChannelModel S
-all_told c = record c { happened = [] }
-
--- TURN: calls of a runner, and lines that say all that is told by them, and that it has crashed where its channel ended other than by a leave
-pub record Turns {N S : Type 0} (log : N → Option Log) (failed : N → ℕ) (meaning : Meaning S) (group : List ℕ) (p : Address) (old new : Driven N S) (lines : List Line)
-    : Type 0 where
-  pub taken : List Event
-  pub fell : Bool
-  pub drives : Drives log failed meaning group old taken fell new
-  pub told : new.channel.happened ≡ []
-  pub says : events_in lines ≡ taken ++ crash_of p fell
+use Rattle.node_turns.specs.Texts.{Line, events_in, Appended}
+use Rattle.node_turns.specs.Machines.{GivesBack}
 
 -- no node before this one is that of the number
 abbrev pub IsFirst : {N S : Type 0} → ℕ → ℕ → List (NodeState N S) → Type 0

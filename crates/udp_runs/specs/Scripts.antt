@@ -1,7 +1,6 @@
 -- What a command writes that runs nodes over datagrams by a script.
 use Rattle.std.specs.Prelude.{◌≡◌, ℕ, List, ◌++◌, map, take, slice_get, Option, Some, Ok, Err, IfSome, [], ◌∷◌}
 use Rattle.std.specs.List.{concat}
-use Rattle.std.specs.Option.{option_map_or}
 use Rattle.std.specs.Io.KnownBytes.{Appends}
 use Rattle.address.specs.Ids.{Address}
 use Rattle.state_transfer.specs.Meanings.{Meaning}
@@ -10,7 +9,6 @@ use Rattle.script_reader.specs.declared.fault.Fault.{Fault}
 use Rattle.script_reader.specs.declared.udp_script.UdpLine.{UdpLine}
 use Rattle.script_reader.specs.Script.{fault_number}
 use Rattle.script_reader.specs.UdpScript.{udp_script_of}
-use Rattle.channel.specs.Channels.{receiver_in}
 use Rattle.udp_net.specs.declared.node_ports.NodePort.{NodePort}
 use Rattle.udp_net.specs.Logs.{Log, NetEvent}
 use Rattle.udp_net.specs.declared.error.BindError.{BindError}
@@ -19,15 +17,16 @@ use Rattle.law_runners.specs.Systems.{Gone, IsHistoryOf, IsSeen}
 use Rattle.endings.specs.declared.status.Status.{Status}
 use Rattle.endings.specs.declared.status.Status.TheVariants.{Done, Memory}
 use Rattle.endings.specs.Outcomes.{IsFaultText, IsAnswer, memory_line}
-use Rattle.udp_runs.specs.declared.ends.Stop.{Stop}
-use Rattle.udp_runs.specs.declared.ends.Stop.TheVariants.{Cut, NoNet}
-use Rattle.udp_runs.specs.declared.process.Process.{Process}
+use Rattle.node_turns.specs.declared.ends.Stop.{Stop}
+use Rattle.node_turns.specs.declared.ends.Stop.TheVariants.{Cut, NoNet}
+use Rattle.node_turns.specs.declared.process.Process.{Process}
 use Rattle.udp_runs.specs.declared.node_state.NodeState.{NodeState}
 use Rattle.udp_runs.specs.Carrying.{CarriesOut, line_of_event}
-use Rattle.udp_runs.specs.Ends.{IsNetlessText}
-use Rattle.udp_runs.specs.Machines.{GivesBack}
+use Rattle.node_turns.specs.Ends.{IsNetlessText}
+use Rattle.node_turns.specs.Machines.{GivesBack}
 use Rattle.udp_runs.specs.Nodes.{processes_in}
-use Rattle.udp_runs.specs.Texts.{Line, texts_of, events_in}
+use Rattle.node_turns.specs.Texts.{Line, texts_of, events_in}
+use Rattle.node_turns.specs.Processes.{net_of, state_text}
 
 -- the line that starts a node
 abbrev pub start_line : ℕ → ℕ → UdpLine
@@ -45,14 +44,6 @@ pub record HasRun {N S : Type 0} (log : N → Option Log) (failed : N → ℕ) (
   pub seen : IsSeen log meaning group at gone (events_in lines) nets
   pub each : (k : ℕ) (q : Process N S) → slice_get processes k ≡ Some q → at q.address ≡ Some q.runner
   pub all : (p : Address) (r : Driven N S) → at p ≡ Some r → (k : ℕ) × (slice_get processes k ≡ Some (record { address = p; runner = r }))
-
--- the line of the state of a member, unless it has ended
-abbrev pub state_text : {N S : Type 0} → (Address → S → List ℕ) → Process N S → List ℕ
-state_text line_of q = option_map_or (line_of q.address) (receiver_in q.runner.channel.stage) []
-
--- the net of a process, as it is given back
-abbrev pub net_of : {N S : Type 0} → Process N S → Gone N
-net_of q = record { by = q.address; net = q.runner.net }
 
 -- the lines of what happened, and then those of the states
 abbrev pub texts_with : {N S : Type 0} → (Address → S → List ℕ) → List Line → List (Process N S) → List (List ℕ)

@@ -2,22 +2,19 @@
 
 ghost use Rattle.std.specs.Prelude.{◌≡◌, ℕ, Bool, List, [], Option, OnOk, IsOk};
 ghost use Rattle.std.specs.Option.{option_copied};
-ghost use Rattle.udp_runs.specs.Telling.{BeginsBy, PlaysAlone, Quietly, TellsEnd, TellsFrom, TellsOn, ThenOffers, Waits, WritesTurn, first_call};
-ghost use Rattle.udp_runs.specs.Said.{AreSame, MaySay};
+ghost use Rattle.node_turns.specs.Telling.{BeginsBy, PlaysAlone, Quietly, TellsEnd, TellsFrom, TellsOn, ThenOffers, Waits, WritesTurn, first_call};
+ghost use Rattle.node_turns.specs.Said.{AreSame, MaySay};
 ghost use Rattle.node_lines.specs.Came.{IsEarlier, Keeps, Owes};
 ghost use Rattle.node_lines.specs.Outboxes.{nothing_waits};
 
-use crate::calls::Call;
-use crate::ends::Cut;
-use crate::finding::{Finder, milliseconds};
-use crate::telling::Teller;
 use crate::watch::Watch;
-use crate::{Lines, NodeMachine, NodeManner, Tally};
 use address::limits::Refusal;
 use address::{Address, ViewId};
 use application::Application;
 use channel::Error;
-use node_lines::Outbox;
+use node_finding::{Finder, milliseconds};
+use node_lines::{Lines, Outbox};
+use node_turns::{Call, Cut, NodeMachine, NodeManner, Tally, Teller};
 use script_reader::MemberPlan;
 use std::alloc::Global;
 use std::io::Write;

@@ -3,9 +3,9 @@ ghost use Rattle.std.specs.Option.{ForSome};
 ghost use Rattle.std.specs.Result.{result_err};
 ghost use Rattle.udp_runs.specs.Loopbacks.{nothing_asked, unbound_after, IsSealedOver, IsMadeBy};
 
-use crate::{NodeMachine, Tally};
 use address::{Address, Node};
 use frames::{BOOT, FramedNet};
+use node_turns::{NodeMachine, Tally};
 use std::alloc::Global;
 use std::marker::Model;
 use std::os::fd::RawFd;

@@ -3,16 +3,15 @@
 ghost use Rattle.std.specs.Prelude.{◌≡◌, ℕ, List, Option, true};
 ghost use Rattle.std.specs.Option.{option_copied};
 ghost use Rattle.member.specs.declared.error.Error.{Error};
-ghost use Rattle.udp_runs.specs.Carrying.{MakesCall};
-ghost use Rattle.udp_runs.specs.Telling.{Quietly};
-ghost use Rattle.udp_runs.specs.Said.{AreSame, MaySay, says_nothing};
+ghost use Rattle.node_turns.specs.Calls.{MakesCall};
+ghost use Rattle.node_turns.specs.Telling.{Quietly};
+ghost use Rattle.node_turns.specs.Said.{AreSame, MaySay, says_nothing};
 
-use crate::calls::{Call, do_call};
-use crate::ends::Cut;
-use crate::finding::{Standing, Step, Whereabouts, milliseconds};
 use crate::lone::{LoneNode, unless_memory};
 use address::Address;
 use application::Application;
+use node_finding::{Standing, Step, Whereabouts, milliseconds};
+use node_turns::{Call, Cut, do_call};
 use udp_net::{MOST_NODES, Neighbour, Net, Settings};
 
 impl<'a, N: Net, C: Application> LoneNode<'a, N, C> {

@@ -4,17 +4,15 @@ ghost use Rattle.std.specs.Prelude.{◌≡◌, ◌++◌, ℕ, List, [], Option, 
 ghost use Rattle.std.specs.Option.{option_copied};
 ghost use Rattle.view.specs.Members.{View as ViewValue};
 ghost use Rattle.channel.specs.Channels.{view_in};
-ghost use Rattle.udp_runs.specs.Telling.{Quietly};
-ghost use Rattle.udp_runs.specs.Said.{AreSame, IsId, MaySay};
+ghost use Rattle.node_turns.specs.Telling.{Quietly};
+ghost use Rattle.node_turns.specs.Said.{AreSame, IsId, MaySay};
 ghost use Rattle.node_lines.specs.Came.{Fills, IsEarlier, IsLineOf, IsSentOf, IsText, Keeps, Owes};
 
-use crate::calls::send;
-use crate::ends::Cut;
 use crate::lone::{LoneNode, unless_memory};
-use crate::{LineTrouble, Lines, LinesError, Notice};
 use address::{Bytes, ViewId};
 use application::Application;
-use node_lines::{OutboxError, Sent};
+use node_lines::{Lines, LinesError, OutboxError, Sent};
+use node_turns::{Cut, LineTrouble, Notice, send};
 use script_reader::{Fault, Unheard};
 use udp_net::Net;
 

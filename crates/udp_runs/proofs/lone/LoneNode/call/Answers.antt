@@ -1,4 +1,4 @@
-use Rattle.udp_runs.proofs.NodesTell.{nothing-said, quiet-sent}
+use Rattle.node_turns.proofs.NodesTell.{nothing-said, quiet-sent}
 use Rattle.udp_runs.proofs.lone.LoneNode.call.Goals as goal
 
 pub returns-in_err-answer-clause-drives : goal.returns-in_err-answer-clause-drives

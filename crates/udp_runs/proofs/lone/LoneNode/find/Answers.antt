@@ -1,4 +1,4 @@
-use Rattle.udp_runs.proofs.NodesTell.{quiet-none, quiet-then}
+use Rattle.node_turns.proofs.NodesTell.{quiet-none, quiet-then}
 use Rattle.udp_runs.proofs.lone.LoneNode.find.Goals as goal
 
 pub returns-then-not-self-clause-drives : goal.returns-then-not-self-clause-drives

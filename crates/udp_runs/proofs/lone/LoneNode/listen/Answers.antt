@@ -1,7 +1,7 @@
 use Rattle.std.proofs.Common.{refl}
 use Rattle.law_runners.specs.Runs.{Listen}
-use Rattle.udp_runs.proofs.NodesTell.{quiet-as, quiet-by, quiet-then}
-use Rattle.udp_runs.proofs.LinesOwed.{filled-owes, same-keeps}
+use Rattle.node_turns.proofs.NodesTell.{quiet-as, quiet-by, quiet-then}
+use Rattle.node_turns.proofs.LinesOwed.{filled-owes, same-keeps}
 use Rattle.node_lines.proofs.LinesKept.{fills-earlier}
 use Rattle.udp_runs.proofs.lone.LoneNode.listen.Goals as goal
 

@@ -1,6 +1,6 @@
-use Rattle.udp_runs.proofs.NodesTell.{tells-turn, tells-waits}
+use Rattle.node_turns.proofs.NodesTell.{tells-turn, tells-waits}
 use Rattle.node_lines.specs.Came.{Owes}
-use Rattle.udp_runs.proofs.LinesOwed.{on-map, on-went, same-keeps}
+use Rattle.node_turns.proofs.LinesOwed.{on-map, on-went, same-keeps}
 use Rattle.udp_runs.proofs.lone.LoneNode.listen_for.Goals as goal
 
 pub returns-in-Ok-clause-tells : goal.returns-in-Ok-clause-tells

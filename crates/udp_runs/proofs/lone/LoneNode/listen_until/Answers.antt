@@ -1,7 +1,7 @@
 use Rattle.std.proofs.Common.{refl, ◌∙◌}
 use Rattle.node_lines.proofs.LinesKept.{earlier-refl, earlier-trans}
-use Rattle.udp_runs.proofs.NodesTell.{tells-none, tells-then}
-use Rattle.udp_runs.proofs.LinesOwed.{same-keeps}
+use Rattle.node_turns.proofs.NodesTell.{tells-none, tells-then}
+use Rattle.node_turns.proofs.LinesOwed.{same-keeps}
 use Rattle.udp_runs.proofs.lone.LoneNode.listen_until.Goals as goal
 
 pub loop-init : goal.loop-init

@@ -2,7 +2,7 @@ use Rattle.std.proofs.Common.{◌∙◌, sym, subst}
 use Rattle.node_lines.specs.Outboxes.{OutboxModel}
 use Rattle.node_lines.specs.Came.{Owes}
 use Rattle.node_lines.proofs.LinesKept.{owes-without-long}
-use Rattle.udp_runs.proofs.LinesOwed.{on-any, no-ok, line-of}
+use Rattle.node_turns.proofs.LinesOwed.{on-any, no-ok, line-of}
 use Rattle.udp_runs.proofs.lone.LoneNode.next_line.Goals as goal
 
 pub returns-in_err-from_slice-in-Ok-Some-clause-owes : goal.returns-in_err-from_slice-in-Ok-Some-clause-owes

@@ -1,4 +1,4 @@
-use Rattle.udp_runs.proofs.NodesTell.{tells-none}
+use Rattle.node_turns.proofs.NodesTell.{tells-none}
 use Rattle.udp_runs.proofs.lone.LoneNode.rest.Goals as goal
 
 pub returns-then-round-eq0-clause-tells : goal.returns-then-round-eq0-clause-tells

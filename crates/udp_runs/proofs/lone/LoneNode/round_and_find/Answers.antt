@@ -1,5 +1,5 @@
-use Rattle.udp_runs.proofs.NodesTell.{quiet-then}
-use Rattle.udp_runs.proofs.LinesOwed.{keeps-same, on-any}
+use Rattle.node_turns.proofs.NodesTell.{quiet-then}
+use Rattle.node_turns.proofs.LinesOwed.{keeps-same, on-any}
 use Rattle.udp_runs.proofs.lone.LoneNode.round_and_find.Goals as goal
 
 pub returns-clause-drives : goal.returns-clause-drives

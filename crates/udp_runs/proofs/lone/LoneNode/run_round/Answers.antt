@@ -1,6 +1,6 @@
 use Rattle.std.proofs.Common.{refl}
 use Rattle.law_runners.specs.Runs.{Round, Wait}
-use Rattle.udp_runs.proofs.NodesTell.{quiet-by, quiet-then}
+use Rattle.node_turns.proofs.NodesTell.{quiet-by, quiet-then}
 use Rattle.udp_runs.proofs.lone.LoneNode.run_round.Goals as goal
 
 pub returns-clause-drives : goal.returns-clause-drives

@@ -1,5 +1,5 @@
 use Rattle.std.proofs.Common.{refl, ◌∙◌}
-use Rattle.udp_runs.proofs.NodesTell.{quiet-none, quiet-then}
+use Rattle.node_turns.proofs.NodesTell.{quiet-none, quiet-then}
 use Rattle.udp_runs.proofs.lone.LoneNode.say.Goals as goal
 
 pub loop-place-init : goal.loop-place-init

@@ -1,7 +1,7 @@
 use Rattle.std.proofs.Common.{◌≡◌, ℕ, List, Option}
 use Rattle.std.specs.Option.{option_copied}
-use Rattle.udp_runs.specs.Said.{MaySay}
-use Rattle.udp_runs.specs.Telling.{Quietly}
+use Rattle.node_turns.specs.Said.{MaySay}
+use Rattle.node_turns.specs.Telling.{Quietly}
 use Rattle.udp_runs.proofs.lone.LoneNode.say.Given as goal
 
 -- words were said

@@ -1,6 +1,6 @@
 use Rattle.std.proofs.Common.{refl}
 use Rattle.law_runners.specs.Runs.{Wait}
-use Rattle.udp_runs.proofs.NodesTell.{quiet-by, quiet-none}
+use Rattle.node_turns.proofs.NodesTell.{quiet-by, quiet-none}
 use Rattle.udp_runs.proofs.lone.LoneNode.say_to.Goals as goal
 
 pub returns-then-says-clause-drives : goal.returns-then-says-clause-drives

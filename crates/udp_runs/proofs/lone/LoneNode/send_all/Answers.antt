@@ -1,5 +1,5 @@
-use Rattle.udp_runs.proofs.NodesTell.{quiet-as, quiet-then}
-use Rattle.udp_runs.proofs.LinesOwed.{after-same}
+use Rattle.node_turns.proofs.NodesTell.{quiet-as, quiet-then}
+use Rattle.node_turns.proofs.LinesOwed.{after-same}
 use Rattle.udp_runs.proofs.lone.LoneNode.send_all.Goals as goal
 
 pub returns-then-holds-clause-drives : goal.returns-then-holds-clause-drives

@@ -1,5 +1,5 @@
-use Rattle.udp_runs.proofs.NodesTell.{quiet-as}
-use Rattle.udp_runs.proofs.LinesOwed.{same-keeps, after-same}
+use Rattle.node_turns.proofs.NodesTell.{quiet-as}
+use Rattle.node_turns.proofs.LinesOwed.{same-keeps, after-same}
 use Rattle.udp_runs.proofs.lone.LoneNode.send_first.Goals as goal
 
 pub returns-in_default-clause-drives : goal.returns-in_default-clause-drives

@@ -1,6 +1,6 @@
 use Rattle.std.proofs.Common.{inr, subst, sym, ◌∙◌}
 use Rattle.node_lines.specs.Came.{IsLineOf, Owes}
-use Rattle.udp_runs.proofs.NodesTell.{quiet-as}
+use Rattle.node_turns.proofs.NodesTell.{quiet-as}
 use Rattle.node_lines.specs.Outboxes.{OutboxModel}
 use Rattle.node_lines.proofs.LinesKept.{owes-without}
 use Rattle.udp_runs.proofs.lone.LoneNode.send_line.Goals as goal

@@ -1,6 +1,6 @@
 use Rattle.std.proofs.Common.{◌∙◌}
-use Rattle.udp_runs.proofs.NodesTell.{quiet-as, quiet-then}
-use Rattle.udp_runs.proofs.LinesOwed.{back-keeps, after-same, same-keeps}
+use Rattle.node_turns.proofs.NodesTell.{quiet-as, quiet-then}
+use Rattle.node_turns.proofs.LinesOwed.{back-keeps, after-same, same-keeps}
 use Rattle.udp_runs.proofs.lone.LoneNode.send_lines.Goals as goal
 
 pub returns-in_err-take_back-clause-drives : goal.returns-in_err-take_back-clause-drives

@@ -1,5 +1,5 @@
 use Rattle.std.proofs.Common.{inl}
-use Rattle.udp_runs.proofs.NodesTell.{quiet-as}
+use Rattle.node_turns.proofs.NodesTell.{quiet-as}
 use Rattle.node_lines.proofs.LinesKept.{earlier-refl}
 use Rattle.udp_runs.proofs.lone.LoneNode.send_once.Goals as goal
 

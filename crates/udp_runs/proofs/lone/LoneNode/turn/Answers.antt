@@ -1,7 +1,7 @@
 use Rattle.std.proofs.Common.{ap}
-use Rattle.udp_runs.proofs.NodesTell.{tells-cut, tells-turn, tells-went}
+use Rattle.node_turns.proofs.NodesTell.{tells-cut, tells-turn, tells-went}
 use Rattle.node_lines.specs.Came.{Keeps, Owes}
-use Rattle.udp_runs.proofs.LinesOwed.{filled-then, on-map}
+use Rattle.node_turns.proofs.LinesOwed.{filled-then, on-map}
 use Rattle.node_lines.proofs.LinesKept.{fills-earlier}
 use Rattle.udp_runs.proofs.lone.LoneNode.turn.Goals as goal
 

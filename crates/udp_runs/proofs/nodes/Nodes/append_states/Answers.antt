@@ -1,5 +1,5 @@
 use Rattle.std.proofs.Common.{arith}
-use Rattle.udp_runs.proofs.LinesAndEvents.{on-err}
+use Rattle.node_turns.proofs.LinesAndEvents.{on-err}
 use Rattle.udp_runs.proofs.CallsAmongOthers.{states-more, states-some}
 use Rattle.udp_runs.proofs.nodes.Nodes.append_states.Goals as goal
 

@@ -1,0 +1,6 @@
+pub mod LinesAndEvents
+pub mod ProcessesTurn
+pub mod RunTextsEnd
+pub mod TellsBeforeOffers
+pub mod NodesTell
+pub mod LinesOwed

@@ -1,0 +1,14 @@
+use Rattle.std.proofs.Common.{◌≡◌, false, length}
+use Rattle.node_lines.specs.Came.{KeepsUnsaid}
+use Rattle.node_turns.proofs.LinesAndEvents.{Took}
+use Rattle.node_turns.proofs.telling.Teller.append_all.Given as goal
+
+-- some events were taken, and their lines were appended, unless it speaks
+abbrev pub invariant-loop-event : goal.invariant-loop-event
+invariant-loop-event g l =
+    ((l.fn.self.voice.speaks ≡ false → Took l.fn.channel l.channel l.fn.self.text.items l.self.text.items) × (l.channel ≡ record l.fn.channel { happened = l.channel.happened })
+    × (l.self.voice ≡ l.fn.self.voice))
+    × (KeepsUnsaid l.fn.self.unsaid l.self.unsaid × (g.L.Lines.came l.lines ≡ g.L.Lines.came l.fn.lines))
+
+abbrev pub decreases-loop-event : goal.decreases-loop-event
+decreases-loop-event g l = length l.channel.happened

@@ -1,0 +1,10 @@
+pub mod Machines
+pub mod Ends
+pub mod Tallies
+pub mod Texts
+pub mod OwnLines
+pub mod Processes
+pub mod Answers
+pub mod Calls
+pub mod Said
+pub mod Telling

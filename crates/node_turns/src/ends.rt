@@ -1,0 +1,102 @@
+//! How what happens is written, and how a command over datagrams ends.
+
+ghost use Rattle.std.specs.Prelude.{◌≡◌, ℕ, [], take, IfErr, OnOk, OnErr};
+ghost use Rattle.std.specs.Io.KnownBytes.{Appends};
+ghost use Rattle.endings.specs.Outcomes.{Written};
+ghost use Rattle.node_turns.specs.declared.ends.Cut.TheVariants as cut;
+ghost use Rattle.node_turns.specs.declared.ends.Stop.TheVariants as stop;
+ghost use Rattle.node_turns.specs.Ends.{IsEndOf, IsNetlessText};
+
+use endings::{Status, end_in_memory, end_with};
+use std::alloc::{AllocError, Global};
+use std::io::Write;
+use udp_net::BindError;
+use vsync_text::put_all;
+
+/// Why what happens is written no further.
+#[derive(Clone, Copy, Debug, PartialEq, Eq)]
+pub enum Cut {
+    /// Memory was refused.
+    Memory,
+    /// The writer failed.
+    Failed,
+}
+
+impl From<AllocError> for Cut {
+    ghost from_gives = { λ _ c. c ≡ cut.Memory };
+
+    fn from(_refused: AllocError) -> Cut {
+        Cut::Memory
+    }
+}
+
+/// Why a script is not run to its end.
+#[derive(Clone, Copy, Debug, PartialEq, Eq)]
+pub enum Stop {
+    /// What happens is written no further.
+    Cut(Cut),
+    /// The node of this line has no net.
+    NoNet(u64, BindError),
+}
+
+impl From<Cut> for Stop {
+    ghost from_gives = { λ c s. s ≡ stop.Cut c };
+
+    fn from(why: Cut) -> Stop {
+        Stop::Cut(why)
+    }
+}
+
+impl From<AllocError> for Stop {
+    ghost from_gives = { λ _ s. s ≡ stop.Cut cut.Memory };
+
+    fn from(_refused: AllocError) -> Stop {
+        Stop::Cut(Cut::Memory)
+    }
+}
+
+/// Writes what a text holds, and empties it.
+pub fn settle<W: Write>(writer: &mut W, text: &mut Vec<u8>) -> Result<(), Cut>
+    ensures ok { OnOk result (Appends (W.contents writer.old) (W.contents writer.new) text.old.items) }
+    ensures err { OnErr result ((count : ℕ) × Appends (W.contents writer.old) (W.contents writer.new) (take count text.old.items)) }
+    ensures cut { IfErr result (λ c. c ≡ cut.Failed) }
+    ensures empty { OnOk result (text.new.items ≡ []) }
+{
+    if put_all(writer, text.as_slice()).is_err() {
+        return Err(Cut::Failed);
+    }
+    text.clear();
+    Ok(())
+}
+
+/// Ends a text of what happened, of which no more is to be written.
+pub fn end<W: Write>(writer: &mut W, written: Result<(), Cut>) -> Status
+    ensures { Written (IsEndOf written) (W.contents writer.old) (W.contents writer.new) result }
+{
+    match written {
+        Ok(()) => end_with(writer, b"", Status::Done),
+        Err(Cut::Memory) => end_in_memory(writer),
+        Err(Cut::Failed) => Status::Outside,
+    }
+}
+
+/// Writes that the node of a line has no net, with which the command ends.
+pub fn end_without_net<W: Write>(
+    alloc: Global,
+    writer: &mut W,
+    line: u64,
+    error: BindError,
+) -> Status
+    ensures { Written (IsNetlessText line error) (W.contents writer.old) (W.contents writer.new) result }
+{
+    let status = match error {
+        BindError::Config => Status::Refused,
+        BindError::Bind => Status::Outside,
+        BindError::Memory => return end_in_memory(writer),
+    };
+    let number = error.number();
+    match format!(in alloc; "fault {line} {number}\n") {
+        Ok(text) => end_with(writer, text.as_bytes(), status),
+        Err(_) => end_in_memory(writer),
+    }
+}

@@ -1,0 +1,49 @@
+//! The line by which a node tells how many messages of its view are stable.
+
+ghost use Rattle.std.specs.Prelude.{◌≡◌, ◌++◌, OnOk, OnErr};
+ghost use Rattle.vsync_text.specs.TraceText.{GoesOnFrom};
+ghost use Rattle.node_turns.specs.OwnLines.{stable_line};
+
+use address::{Address, ViewId};
+use std::alloc::AllocError;
+use vsync_text::{put, put_address, put_number, put_view_id};
+
+// Appends the line, or a part of it.
+#[tactic(auto, using(vsync_text::proofs::KeepFront::goes_on))]
+fn put_stable(
+    out: &mut Vec<u8>,
+    member: &Address,
+    view: &ViewId,
+    count: u64,
+) -> Result<(), AllocError>
+    ensures text { OnOk result (out.new.items ≡ out.old.items ++ stable_line member.now view.now count) }
+    ensures kept { GoesOnFrom out.old.items out.new.items }
+{
+    put(out, b"stable")?;
+    put_address(out, b' ', member)?;
+    put_view_id(out, b' ', view)?;
+    put_number(out, b' ', count)?;
+    put(out, b"\n")
+}
+
+/// Appends `stable MEMBER VIEW COUNT` with its line feed: so many messages of its view are stable, as far as the member knows.
+///
+/// # Errors
+///
+/// Where memory is refused, the buffer is left as it was.
+pub(crate) fn append_stable(
+    out: &mut Vec<u8>,
+    member: &Address,
+    view: &ViewId,
+    count: u64,
+) -> Result<(), AllocError>
+    ensures text { OnOk result (out.new.items ≡ out.old.items ++ stable_line member.now view.now count) }
+    ensures err { OnErr result (out.new.items ≡ out.old.items) }
+{
+    let before = out.len();
+    let result = put_stable(out, member, view, count);
+    if result.is_err() {
+        out.truncate(before);
+    }
+    result
+}

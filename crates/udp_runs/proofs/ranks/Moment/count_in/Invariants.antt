@@ -1,7 +1,0 @@
-use Rattle.std.proofs.Common.{◌≡◌, ◌≤◌, take}
-use Rattle.udp_runs.specs.Ranks.{count_in}
-use Rattle.udp_runs.proofs.ranks.Moment.count_in.Given as goal
-
--- those so far were counted
-abbrev pub invariant-loop-node : goal.invariant-loop-node
-invariant-loop-node l = (l.count ≡ count_in l.self l.view (take l.node-index l.nodes)) × (l.count ≤ l.node-index)

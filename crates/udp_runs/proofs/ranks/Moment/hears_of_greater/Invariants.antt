@@ -1,8 +1,0 @@
-use Rattle.std.proofs.Common.{◌≡◌, false, take}
-use Rattle.std.specs.List.{list_any}
-use Rattle.udp_runs.specs.Ranks.{is_of_greater}
-use Rattle.udp_runs.proofs.ranks.Moment.hears_of_greater.Given as goal
-
--- none of those so far says so
-abbrev pub invariant-loop-node : goal.invariant-loop-node
-invariant-loop-node l = list_any (is_of_greater l.self l.than l.nodes) (take l.node-index l.nodes) ≡ false
