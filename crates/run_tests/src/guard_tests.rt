@@ -1,11 +1,11 @@
 use address::{Address, Node, ViewId};
+use chat_log::ChatLog;
 use keyed_state::Token;
 use lock_fencing::{Guard, deployments_fence, guards_refuse_older, tokens_fence};
 use lock_table::moves;
 use replicated_map::{replaces, sizes};
 use trace_merge::verdicts_are_the_same;
 use trace_reader::reads_what_is_written;
-use chat_log::ChatLog;
 
 // The token of this count in the view 1@1.1.
 fn token(count: u64) -> Token {

@@ -163,4 +163,3 @@ fn entries_are_lent(rt: HostRuntime) {
     }
     assert!(rt; map.last() == version(2));
 }
-

@@ -1,5 +1,6 @@
 //! One text of each kind is read, and one trace is drawn: what others come to stands in `tests/data`, `tests/texts`, and `tests/program`.
 
+use crate::fixtures::{address, is};
 use chat_log::ChatLog;
 use script_reader::{UdpEvent, UdpLine, read_script, read_udp_script};
 use std::alloc::{AllocError, Global};
@@ -7,14 +8,15 @@ use trace_checker::check;
 use trace_drawing::{draw, lay_out};
 use trace_props::Verdict;
 use trace_reader::read_trace;
-use vsync_words::{Invocation, command};
 use vsync_text::{put, put_address, put_hex};
-use crate::fixtures::{address, is};
+use vsync_words::{Invocation, command};
 
 #[test]
 fn a_script_is_read(rt: HostRuntime) {
     match read_script(rt.alloc(), b"start 1\n\n# a comment\ncreate 1\n") {
-        Ok(script) => assert!(rt; script.lines() == [1, 4].as_slice() && script.events().len() == 2),
+        Ok(script) => assert!(rt;
+            script.lines() == [1, 4].as_slice() && script.events().len() == 2
+        ),
         Err(_) => assert!(rt; false, "the script is read"),
     }
 }
@@ -23,7 +25,12 @@ fn a_script_is_read(rt: HostRuntime) {
 fn rounds_of(alloc: Global, text: &[u8]) -> (u64, u64) {
     match read_udp_script(alloc, text) {
         Ok(lines) => match lines.as_slice() {
-            [UdpLine { number, event: UdpEvent::Rounds(count) }] => (*number, *count),
+            [
+                UdpLine {
+                    number,
+                    event: UdpEvent::Rounds(count),
+                },
+            ] => (*number, *count),
             _ => (0, 0),
         },
         Err(_) => (0, 0),
@@ -40,7 +47,12 @@ fn read(alloc: Global, text: &[u8]) -> Option<(usize, usize, usize, bool)> {
     let trace = read_trace(alloc, text).ok()?;
     let layout = lay_out(alloc, trace.events(), &[]).ok()?;
     let holds = check::<ChatLog>(alloc, &trace).ok()? == Verdict::Holds;
-    Some((trace.events().len(), layout.rows.len(), layout.lines.len(), holds))
+    Some((
+        trace.events().len(),
+        layout.rows.len(),
+        layout.lines.len(),
+        holds,
+    ))
 }
 
 #[test]

@@ -15,4 +15,3 @@ fn a_put_spells_the_view_in_which_it_is_said(rt: HostRuntime) {
         Err(_) => assert!(rt; false, "it is said"),
     }
 }
-
