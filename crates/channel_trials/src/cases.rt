@@ -2,7 +2,7 @@
 
 use crate::hexadecimal::unhex;
 use crate::next::{next_of, number, put_waiting, send};
-use crate::stands::{Chat, GROUP, Stand, apart, channel_at, drain, first_at};
+use crate::stands::{Chat, GROUP, Stand, apart, channel_at, drain, first_at, hand};
 use address::{ViewId, next_after};
 use std::alloc::{AllocError, Global};
 use vsync_text::put_decimal;
@@ -126,7 +126,7 @@ pub struct Cases {
 // A channel takes the packet that these digits spell.
 fn take(alloc: Global, channel: &mut Chat, digits: &[u8]) -> Result<(), AllocError> {
     let packet = unhex(alloc, digits)?;
-    let _ = channel.incoming(packet.as_slice());
+    hand(channel, packet.as_slice());
     Ok(())
 }
 

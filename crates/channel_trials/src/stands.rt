@@ -65,12 +65,17 @@ pub fn is_silent(channel: &mut Chat) -> bool {
     channel.outgoing().is_none() && channel.happened().is_none()
 }
 
+/// Hands bytes to a channel, whatever it answers.
+pub fn hand(channel: &mut Chat, bytes: &[u8]) {
+    let _ = channel.incoming(bytes);
+}
+
 // Hands the next packet of a channel to another; whether there was one.
 fn carry(from: &mut Chat, to: &mut Chat) -> bool {
     let Some(packet) = from.outgoing() else {
         return false;
     };
-    let _ = to.incoming(packet.bytes.as_slice());
+    hand(to, packet.bytes.as_slice());
     true
 }
 
@@ -92,7 +97,7 @@ fn meet(first: &mut Chat, second: &mut Chat) {
 // It asks 1.1 to be let in, and promises the view with it.
 fn promise(channel: &mut Chat, flush: &[u8]) {
     let _ = channel.connect_to(GROUP, first_at(1));
-    let _ = channel.incoming(flush);
+    hand(channel, flush);
     drain(channel);
 }
 
