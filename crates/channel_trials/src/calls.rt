@@ -1,32 +1,19 @@
 //! The calls of a channel, each with its line.
 
+use crate::next::number;
+use crate::stands::{Chat, first_at};
 use crate::told::Told;
-use address::{Address, Node};
-use channel::{Channel, Error};
-use chat_log::ChatLog;
-use state_transfer::Receiver;
+use address::Address;
+use channel::Error;
 use std::alloc::{AllocError, Global};
 use trace_props::Event;
 use wire::decode;
-
-/// A channel with a chat.
-pub type Chat = Channel<ChatLog>;
 
 /// What each message says.
 const PAYLOAD: &[u8] = b"hello";
 
 /// How many messages are sent.
 const SENDS: u8 = 12;
-
-/// The first address at the node of a number.
-pub fn first_at(number: u16) -> Address {
-    Address::first_at(Node::new(number).unwrap_or(Node::new(1).unwrap()))
-}
-
-/// The channel of the first address at a node, not connected yet.
-pub fn apart(alloc: Global, number: u16) -> Result<Chat, AllocError> {
-    Ok(Channel::new(alloc, first_at(number), ChatLog::opening(alloc)?))
-}
 
 /// The payloads of all messages.
 pub fn payloads(alloc: Global) -> Result<Vec<Vec<u8>>, AllocError> {
@@ -37,18 +24,10 @@ pub fn payloads(alloc: Global) -> Result<Vec<Vec<u8>>, AllocError> {
     Ok(payloads)
 }
 
-/// The number of a refusal; 0 where there is none.
-fn number(answer: Result<(), Error>) -> u64 {
-    match answer {
-        Ok(()) => 0,
-        Err(error) => u64::from(error.number()),
-    }
-}
-
 /// A line of a call that answers nothing but a refusal.
 fn put(told: &mut Told, node: u16, call: &str, answer: Result<(), Error>) {
     told.begin(node, call);
-    told.put_number(number(answer));
+    told.put_number(u64::from(number(answer)));
     told.end();
 }
 

@@ -17,8 +17,9 @@ mod story;
 mod tally;
 mod told;
 
-use calls::{Chat, apart, payloads};
+use calls::payloads;
 use catch_up::{LEVEL, caught_up};
+use stands::{Chat, apart};
 use std::alloc::{AllocError, Global};
 use std::env;
 use std::io::{self, Write};

@@ -1,9 +1,10 @@
 //! The story.
 
 use crate::calls::{
-    Chat, carry, carry_one, connect_new, connect_to, disconnect, happened, lose, merge_hint, send,
-    state, suspect, tick, watched,
+    carry, carry_one, connect_new, connect_to, disconnect, happened, lose, merge_hint, send, state,
+    suspect, tick, watched,
 };
+use crate::stands::Chat;
 use crate::told::Told;
 
 /// What both are and what happened to them.

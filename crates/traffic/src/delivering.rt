@@ -5,7 +5,7 @@ ghost use Rattle.law_acts.specs.Acts.{delivery};
 ghost use Rattle.step_output.specs.Outputs.{Grows};
 ghost use Rattle.traffic.specs.ViewStates.{after_delivery};
 
-use address::{Bytes, ViewId};
+use address::ViewId;
 use nak_stream::Entry;
 use sequencer::Forwards;
 use state_transfer::Receiver;
@@ -23,7 +23,7 @@ fn delivery(who: &Identity, view: ViewId, entry: &Entry) -> Result<Event, AllocE
         message: Message {
             sender: entry.sender,
             number: entry.number.get(),
-            payload: Bytes::from_slice(who.alloc, entry.payload.lent().as_slice())?,
+            payload: entry.payload.bytes(who.alloc)?,
         },
     }))
 }
