@@ -326,12 +326,13 @@ impl HttpDesk {
         Ok(Some(has_more))
     }
 
-    /// Serves a connection; answers whether it has more to do at once. It is not kept if it is over.
-    pub(crate) fn serve_one(&mut self, mut client: Client) -> Result<bool, AllocError> {
-        let served = self.advance(&mut client);
-        if matches!(served, Ok(Some(_))) && !self.is_idle(&client) {
-            self.clients.push_back(client)?;
-        }
-        Ok(served?.unwrap_or(false))
+    /// Serves a connection; answers whether it has more to do at once, and notes at it whether it is over.
+    pub(crate) fn serve_one(&mut self, client: &mut Client) -> Result<bool, AllocError> {
+        client.is_over = true;
+        let Some(has_more) = self.advance(client)? else {
+            return Ok(false);
+        };
+        client.is_over = self.is_idle(client);
+        Ok(has_more)
     }
 }

@@ -74,6 +74,8 @@ pub(crate) struct Client {
     pub(crate) hold: Hold,
     /// Whether there may be something to do for it.
     pub(crate) is_due: bool,
+    /// Whether it is over, and not kept.
+    pub(crate) is_over: bool,
     // Whether a read may find something.
     is_readable: bool,
     /// When something was last read.
@@ -119,6 +121,7 @@ impl Client {
             asked: None,
             hold: Hold::Nothing,
             is_due: true,
+            is_over: false,
             is_readable: true,
             heard: now,
             buffer,

@@ -15,9 +15,9 @@ use http::StatusCode;
 use keyed_state::Token;
 use replicated_map::{Command, ReplicatedMap};
 use std::alloc::{AllocError, Global};
-use std::collections::VecDeque;
 use std::hash::RandomState;
 use std::io;
+use std::mem::replace;
 use std::net::{Net, SocketAddr};
 use std::os::fd::RawFd;
 use std::random::RandomSource;
@@ -36,7 +36,9 @@ pub struct HttpDesk {
     says_again: bool,
     door: Door,
     keys: RandomState,
-    pub(crate) clients: VecDeque<Client>,
+    clients: Vec<Client>,
+    // How many connections there were as their turn began.
+    connections: usize,
     pub(crate) kept: Kept,
     pub(crate) changes: Changes,
     pub(crate) history: History,
@@ -84,7 +86,8 @@ impl HttpDesk {
             says_again,
             door: Door::bind(alloc, rt, at)?,
             keys: RandomState::new(rt)?,
-            clients: VecDeque::new(alloc),
+            clients: Vec::new(alloc),
+            connections: 0,
             kept: Kept::new(alloc, keeps, own)?,
             changes: Changes::new(alloc),
             history: History::new(alloc),
@@ -317,7 +320,7 @@ impl HttpDesk {
             counts: &self.counts,
             kept: &self.kept,
             writes: &self.writes,
-            clients: self.clients.len() + 1,
+            clients: self.connections,
             stable: self.stable,
             uptime: self.now,
         }
@@ -356,7 +359,7 @@ impl HttpDesk {
                 if self.clients.len() < CLIENTS {
                     let keeps = self.kept.keeps();
                     let client = Client::new(self.alloc, self.keys, keeps, id, stream, self.now)?;
-                    self.clients.push_back(client)?;
+                    self.clients.push(client)?;
                 } else {
                     self.door.turn_away(stream);
                 }
@@ -380,22 +383,36 @@ impl HttpDesk {
         Ok(())
     }
 
+    // Serves these connections; answers whether one has more to do at once.
+    fn serve_all(&mut self, clients: &mut Vec<Client>) -> Result<bool, AllocError> {
+        let mut has_more = false;
+        for client in clients.iter_mut() {
+            let more = self.serve_one(client)?;
+            has_more = has_more || more;
+        }
+        Ok(has_more)
+    }
+
+    // Each connection has its turn, and those that are over are let go.
+    fn give_turns(&mut self) -> Result<bool, AllocError> {
+        self.connections = self.clients.len();
+        let mut clients = replace(&mut self.clients, Vec::new(self.alloc));
+        let served = self.serve_all(&mut clients);
+        clients.retain(|client| !client.is_over);
+        self.clients = clients;
+        served
+    }
+
     /// Serves all connections, each for a bounded number of steps. It does not wait.
     pub fn serve(&mut self, now: Duration) -> Result<(), AllocError> {
         self.now = now;
         self.look();
         self.settle_all()?;
         self.accept()?;
-        let mut has_more = self.door.has_callers;
-        for _ in 0..self.clients.len() {
-            if let Some(client) = self.clients.pop_front() {
-                let more = self.serve_one(client)?;
-                has_more = has_more || more;
-            }
-        }
+        let has_more = self.give_turns()?;
         self.replies.clear();
         self.forget_gone()?;
-        self.has_more = has_more;
+        self.has_more = has_more || self.door.has_callers;
         Ok(())
     }
 }
