@@ -6,7 +6,7 @@ use std::alloc::{AllocError, Global};
 use std::collections::VecDeque;
 
 /// The last changes of the map, each with the place behind which it stands.
-#[derive(Debug, Drop)]
+#[derive(Drop)]
 pub(crate) struct Changes {
     alloc: Global,
     // The place behind which they begin, and the one of the last.
@@ -16,7 +16,7 @@ pub(crate) struct Changes {
 }
 
 /// What changed behind a place.
-#[derive(Debug, Drop)]
+#[derive(Drop)]
 pub(crate) enum Since {
     /// Nothing.
     Nothing,

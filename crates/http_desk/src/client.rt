@@ -24,7 +24,7 @@ const READ: usize = 8_192;
 const STEPS: u32 = 16;
 
 /// How far a connection went.
-#[derive(Clone, Copy, Debug, PartialEq, Eq)]
+#[derive(Clone, Copy, PartialEq, Eq)]
 pub(crate) enum Step {
     /// It asks something, and waits for its answer.
     Asks,

@@ -8,7 +8,7 @@ use trace_props::{Event, Install};
 use view::Addresses;
 
 /// What happened at the node so far, and how it stands.
-#[derive(Debug, Drop)]
+#[derive(Drop)]
 pub(crate) struct Counts {
     alloc: Global,
     own: Address,

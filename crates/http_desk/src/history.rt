@@ -8,7 +8,7 @@ use view::View;
 use vsync_text::{append_event, put, put_number, put_view_id};
 
 /// A place in the order: so many messages of a view are delivered there.
-#[derive(Debug, Drop)]
+#[derive(Drop)]
 pub(crate) struct Tag {
     pub(crate) view: ViewId,
     pub(crate) place: u64,
@@ -98,7 +98,7 @@ fn copy_of(alloc: Global, event: &Event) -> Result<Option<Event>, AllocError> {
 }
 
 /// The last events.
-#[derive(Debug, Drop)]
+#[derive(Drop)]
 pub(crate) struct History {
     alloc: Global,
     events: Vec<Event>,

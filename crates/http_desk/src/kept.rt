@@ -12,7 +12,7 @@ use std::alloc::{AllocError, Global};
 use trace_props::Event;
 
 /// What a node keeps for which a desk answers.
-#[derive(Clone, Copy, Debug, PartialEq, Eq)]
+#[derive(Clone, Copy, PartialEq, Eq)]
 pub enum Keeps {
     /// The map.
     Map,
@@ -23,7 +23,7 @@ pub enum Keeps {
 }
 
 /// The service of what a node keeps.
-#[derive(Debug, Drop)]
+#[derive(Drop)]
 pub(crate) enum Kept {
     Map(MapService),
     Locks(LockService),

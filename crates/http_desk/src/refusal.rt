@@ -3,7 +3,7 @@
 use http::StatusCode;
 
 /// What is wrong with a request that a desk does not carry out.
-#[derive(Clone, Copy, Debug, PartialEq, Eq)]
+#[derive(Clone, Copy, PartialEq, Eq)]
 pub(crate) enum Refusal {
     BadKey,
     BadValue,

@@ -12,7 +12,7 @@ use replicated_map::Held;
 use std::alloc::{AllocError, Global};
 
 /// What a body is.
-#[derive(Clone, Copy, Debug, PartialEq, Eq)]
+#[derive(Clone, Copy, PartialEq, Eq)]
 pub(crate) enum Media {
     Bytes,
     Text,

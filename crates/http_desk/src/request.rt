@@ -9,7 +9,7 @@ use http::Request;
 use std::alloc::{AllocError, Global};
 
 /// A command that is to be sent.
-#[derive(Debug, PartialEq, Eq, Drop)]
+#[derive(PartialEq, Eq, Drop)]
 pub(crate) struct Order {
     /// The line that says it, by which its message is known when it is sent (`Kept::said`).
     pub(crate) line: Vec<u8>,
@@ -20,7 +20,7 @@ pub(crate) struct Order {
 }
 
 /// What a request asks.
-#[derive(Debug, PartialEq, Eq, Drop)]
+#[derive(PartialEq, Eq, Drop)]
 pub(crate) enum Asked {
     /// The value of a key.
     Value(Vec<u8>),

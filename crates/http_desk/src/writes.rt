@@ -6,7 +6,7 @@ use std::collections::VecDeque;
 use std::time::Duration;
 
 /// A write that was asked for: who waits for it, and the line that says it.
-#[derive(Debug, Drop)]
+#[derive(Drop)]
 pub(crate) struct Write {
     pub(crate) ticket: u64,
     line: Vec<u8>,
@@ -37,7 +37,7 @@ impl Write {
 }
 
 /// Those whose lines the node has not taken, those that it is to send, and those that it sent, each in their order.
-#[derive(Debug, Drop)]
+#[derive(Drop)]
 pub(crate) struct Writes {
     asked: VecDeque<Write>,
     told: VecDeque<Write>,

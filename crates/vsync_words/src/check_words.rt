@@ -13,7 +13,7 @@ use clap::{Arg, ArgAction, ArgMatches, Error};
 use std::alloc::{AllocError, Global};
 
 /// The words of `check --processes FILE..`: the paths of the texts, and perhaps flags that say what the members keep (docs/CLI.md, "Texts of several processes").
-#[derive(Debug, Drop)]
+#[derive(Drop)]
 pub struct ProcessesWords<'a> {
     /// The path of each process's text, in their order; `-` is the standard input.
     pub paths: Vec<&'a str>,

@@ -22,7 +22,7 @@ pub const MOST_MERGE: u64 = 10_000;
 pub const MOST_QUORUM: u64 = MEMBERS as u64;
 
 /// How a member runs, by its options.
-#[derive(Debug, Drop)]
+#[derive(Drop)]
 pub struct MemberOptions<'a> {
     /// `--tick MS`: the time between two rounds, 1 to `MOST_TICK` milliseconds.
     pub tick: Option<u16>,

@@ -11,7 +11,7 @@ use clap::{Arg, ArgMatches};
 use std::alloc::{AllocError, Global};
 
 /// What a command does with its text.
-#[derive(Clone, Copy, Debug)]
+#[derive(Clone, Copy)]
 pub enum Task {
     /// The script is run, and the trace of what happened is printed.
     World,
@@ -33,7 +33,7 @@ pub enum Task {
 
 /// A command over one text, a script or a trace: `world`, `chat`, `packets` or `settle`, each perhaps with `--long`; `map` or `locks`;
 /// `check`, or `draw` perhaps with `--packets` or `--trace`, each perhaps with `--long`, `--map` and `--locks`.
-#[derive(Clone, Copy, Debug)]
+#[derive(Clone, Copy)]
 pub struct TextCommand<'a> {
     /// What is done with the text.
     pub task: Task,

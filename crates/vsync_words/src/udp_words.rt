@@ -18,7 +18,7 @@ use std::alloc::{AllocError, Global};
 use thiserror::Error;
 
 /// The words of `udp CONFIG SCRIPT`.
-#[derive(Clone, Copy, Debug)]
+#[derive(Clone, Copy)]
 pub struct UdpWords<'a> {
     /// The path of the settings.
     pub config: &'a str,
@@ -27,7 +27,7 @@ pub struct UdpWords<'a> {
 }
 
 /// The words of `member CONFIG NODE INCARNATION ROUNDS` and of its options, as clap matches them.
-#[derive(Debug, Drop)]
+#[derive(Drop)]
 pub struct MemberWords<'a> {
     /// The path of the settings.
     pub config: &'a str,

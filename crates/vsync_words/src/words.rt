@@ -23,7 +23,7 @@ use clap::{ArgMatches, Error};
 use std::alloc::{AllocError, Global};
 
 /// What the words of a command line ask for.
-#[derive(Debug, Drop)]
+#[derive(Drop)]
 pub enum Invocation<'a> {
     /// Something is done with one text.
     Text(TextCommand<'a>),
