@@ -1,6 +1,6 @@
 //! Four runners, and what is counted of their rounds.
 
-use address::{Address, Node};
+use crate::stories::first_at;
 use channel::Channel;
 use chat_log::ChatLog;
 use state_transfer::Receiver;
@@ -49,11 +49,6 @@ struct Four<'a> {
     members: Vec<Member<'a>>,
     text: Vec<u8>,
     after: Vec<After>,
-}
-
-/// The first address at the node of a number.
-fn first_at(number: u16) -> Address {
-    Address::first_at(Node::new(number).unwrap_or(Node::new(1).unwrap()))
 }
 
 /// The channel of a node: that of node 1 has a group of its own, and any other asks 1.1 to be let in.

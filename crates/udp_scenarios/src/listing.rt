@@ -1,10 +1,11 @@
 //! A script over nets that list what happens at them.
 
-use crate::lines::put_number;
+use crate::lines::{put_number, put_truth};
 use crate::shelf::Shelf;
+use crate::stories::first_at;
 use chat_log::ChatLog;
 use std::alloc::{AllocError, Global};
-use udp_net::{FOUR, Listed, MemoryNet, settings_of};
+use udp_net::{FOUR, Listed, MemoryNet, Net, settings_of};
 use udp_runs::run_udp;
 
 /// Two nodes; the second joins the first in vain, for the nets carry nothing.
@@ -33,6 +34,27 @@ pub fn all(alloc: Global, text: &mut Vec<u8>) -> Result<(), AllocError> {
     put_number(text, "status", u64::from(status.code()))?;
     for returned in shelf.returned() {
         put_listed(text, &returned.net)?;
+    }
+    Ok(())
+}
+
+/// What a net with one datagram of two answers where its first receive fails, and what it lists of two sends of which the first fails.
+pub fn failing(alloc: Global, text: &mut Vec<u8>) -> Result<(), AllocError> {
+    let mut net = MemoryNet::new(alloc);
+    net.put(b"hi")?;
+    net.fail_receive(1);
+    net.fail_send(1);
+    let mut buffer = [0; 8];
+    for asked in ["the first receive finds a datagram", "the second does"] {
+        put_truth(text, asked, net.receive(&mut buffer) == Ok(Some(2)))?;
+    }
+    for _ in 0..2u8 {
+        net.send(first_at(1).node(), b"there");
+    }
+    for listed in net.listed().ok_or(AllocError)? {
+        if let Some(offered) = listed.offered() {
+            put_truth(text, "a send is lost", offered.is_lost)?;
+        }
     }
     Ok(())
 }

@@ -1,11 +1,7 @@
-//! Runs stories of channels, of members over nets in memory, and of members over sockets of this machine, and prints what was asked in each and what was answered. `stdout` has
-//! what must be printed.
+//! Runs stories of nodes over nets in memory, some of which fail, and over sockets of this machine, and prints what was asked in each and what was answered. `stdout` has what must be printed.
 #![tactic(auto)]
 
-mod alone;
 mod bursts;
-mod calls;
-mod channels;
 mod documents;
 mod failing;
 mod failing_four;
@@ -13,16 +9,11 @@ mod failing_nodes;
 mod failing_runners;
 mod files;
 mod hub;
-mod lan;
 mod lines;
 mod listing;
 mod long;
-mod members;
-mod pair;
 mod scripts;
-mod seeking;
 mod shelf;
-mod silent;
 mod sockets;
 mod stories;
 mod words;
@@ -47,41 +38,6 @@ fn print(
     Ok(())
 }
 
-/// Prints the stories of one channel.
-fn print_alone(rt: &HostRuntime, text: &mut Vec<u8>) -> io::Result<()> {
-    let told = alone::row(rt.alloc(), text);
-    print(
-        rt,
-        "a channel alone, from before its connect until after its end",
-        told,
-        text,
-    )?;
-    let told = alone::events(rt.alloc(), text);
-    print(rt, "a send is delivered", told, text)?;
-    let told = calls::before(rt.alloc(), text);
-    print(rt, "calls before a connect", told, text)?;
-    let told = calls::within(rt.alloc(), text);
-    print(rt, "calls in a view", told, text)?;
-    let told = calls::after(rt.alloc(), text);
-    print(rt, "calls after the end", told, text)
-}
-
-/// Prints the stories of two channels.
-fn print_pair(rt: &HostRuntime, text: &mut Vec<u8>) -> io::Result<()> {
-    let told = pair::let_in(rt.alloc(), text);
-    print(rt, "a second is let in", told, text)?;
-    let told = pair::sends(rt.alloc(), text);
-    print(rt, "the second sends", told, text)?;
-    let told = pair::blocked(rt.alloc(), text);
-    print(rt, "the coordinator while it lets one in", told, text)?;
-    let told = pair::asks_again(rt.alloc(), text);
-    print(rt, "another contact is asked", told, text)?;
-    let told = pair::leaves(rt.alloc(), text);
-    print(rt, "a member that left", told, text)?;
-    let told = pair::suspected(rt.alloc(), text);
-    print(rt, "a member that is suspected", told, text)
-}
-
 /// Prints which documents are settings.
 fn print_settings(rt: &HostRuntime, text: &mut Vec<u8>) -> io::Result<()> {
     let told = documents::found(rt.alloc(), text);
@@ -91,34 +47,6 @@ fn print_settings(rt: &HostRuntime, text: &mut Vec<u8>) -> io::Result<()> {
     print(rt, "documents", told, text)
 }
 
-/// Prints the stories of members over nets in memory.
-fn print_members(rt: &HostRuntime, text: &mut Vec<u8>) -> io::Result<()> {
-    let told = members::four(rt.alloc(), text);
-    print(rt, "four members", told, text)?;
-    let told = members::odd_datagrams(rt.alloc(), text);
-    print(rt, "datagrams that are no packets", told, text)?;
-    let told = members::edges(rt.alloc(), text);
-    print(rt, "rounds at the edges", told, text)?;
-    let told = members::failed_receives(rt.alloc(), text);
-    print(rt, "a receive of a member fails", told, text)?;
-    let told = members::failed_sends(rt.alloc(), text);
-    print(rt, "a send of a member fails", told, text)?;
-    let told = seeking::found_again(rt.alloc(), text);
-    print(rt, "two lose each other", told, text)?;
-    let told = seeking::counted(rt.alloc(), text);
-    print(rt, "datagrams of no use", told, text)
-}
-
-/// Prints the stories of who is not heard.
-fn print_silence(rt: &HostRuntime, text: &mut Vec<u8>) -> io::Result<()> {
-    let told = silent::fourth(rt.alloc(), text);
-    print(rt, "a silent member", told, text)?;
-    let told = silent::signs(rt.alloc(), text);
-    print(rt, "signs of life", told, text)?;
-    let told = silent::while_blocked(rt.alloc(), text);
-    print(rt, "silence while blocked", told, text)
-}
-
 /// Prints what the commands over datagrams write.
 fn print_commands(rt: &HostRuntime, text: &mut Vec<u8>) -> io::Result<()> {
     let file = bytes_of(rt, "scripts.txt")?;
@@ -126,6 +54,8 @@ fn print_commands(rt: &HostRuntime, text: &mut Vec<u8>) -> io::Result<()> {
     print(rt, "scripts of nodes over datagrams", told, text)?;
     let told = listing::all(rt.alloc(), text);
     print(rt, "nets that list what happens at them", told, text)?;
+    let told = listing::failing(rt.alloc(), text);
+    print(rt, "a net whose calls fail", told, text)?;
     let told = scripts::members(rt.alloc(), text);
     print(rt, "a node by itself", told, text)?;
     let told = scripts::lines(rt.alloc(), text);
@@ -189,11 +119,7 @@ fn print_failing(rt: &HostRuntime, text: &mut Vec<u8>) -> io::Result<()> {
 /// Prints all stories.
 fn print_all(rt: &HostRuntime) -> io::Result<()> {
     let mut text = Vec::new(rt.alloc());
-    print_alone(rt, &mut text)?;
-    print_pair(rt, &mut text)?;
     print_settings(rt, &mut text)?;
-    print_members(rt, &mut text)?;
-    print_silence(rt, &mut text)?;
     print_commands(rt, &mut text)?;
     print_words(rt, &mut text)?;
     print_nets(rt, &mut text)?;

@@ -2,10 +2,10 @@
 
 ghost use Rattle.std.specs.Prelude.{None};
 
-use crate::channels::first_at;
 use crate::files::{first_block, first_line};
 use crate::hub::Hub;
 use crate::lines::put_number;
+use crate::stories::first_at;
 use address::Node;
 use chat_log::ChatLog;
 use endings::Status;

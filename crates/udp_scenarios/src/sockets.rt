@@ -1,8 +1,7 @@
 //! Members over sockets of this machine.
 
-use crate::channels::first_at;
 use crate::lines::{put_number, put_refusal, put_truth};
-use crate::stories::{MERGE, holds, trace_of};
+use crate::stories::{MERGE, first_at, holds, trace_of};
 use address::Node;
 use application::Application;
 use chat_log::ChatLog;

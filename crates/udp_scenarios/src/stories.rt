@@ -1,5 +1,6 @@
 //! A story of four nodes over UDP, and how texts of stories are judged.
 
+use address::{Address, Node};
 use state_transfer::Receiver;
 use std::alloc::Global;
 use trace_checker::check;
@@ -9,6 +10,11 @@ use trace_reader::read_trace;
 /// Four that part into two pairs, send on each side, and merge.
 pub const MERGE: &[u8] =
     b"start 1\nstart 2\nstart 3\nstart 4\ncreate 1\njoin 2 1.1\njoin 3 1.1\njoin 4 1.1\nrounds 20\nsuspect 1 3.1\nsuspect 1 4.1\nsuspect 3 1.1\nsuspect 3 2.1\nrounds 20\nsend 1 a\nsend 3 b\nrounds 20\nhint 3 1.1\nrounds 20\n";
+
+/// The first address at the node of a number.
+pub fn first_at(number: u16) -> Address {
+    Address::first_at(Node::new(number).unwrap_or(Node::new(1).unwrap()))
+}
 
 /// The beginning of a text before its chat lines.
 pub fn trace_of(text: &[u8]) -> &[u8] {

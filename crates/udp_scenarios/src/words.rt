@@ -1,8 +1,8 @@
 //! Words over sockets of this machine, and what a socket's net drops.
 
-use crate::channels::first_at;
 use crate::lines::{put_number, put_truth};
 use crate::sockets::{bound, free_settings};
+use crate::stories::first_at;
 use address::{Address, Node, ViewId};
 use std::alloc::{AllocError, Global};
 use std::time::Duration;
