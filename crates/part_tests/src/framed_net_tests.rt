@@ -1,3 +1,5 @@
+//! Frames between nets in memory (docs/WIRE.md, "Frames"): what goes in one, and what is given where they come again, in another order, or not at all.
+
 use address::Node;
 use frames::FramedNet;
 use std::alloc::AllocGlobal;
@@ -8,21 +10,11 @@ fn node(number: u16) -> Node {
     Node::new(number).unwrap_or(Node::new(1).unwrap())
 }
 
-fn nodes() -> [NodePort; 3] {
-    [
-        NodePort {
-            node: node(1),
-            port: 1,
-        },
-        NodePort {
-            node: node(2),
-            port: 2,
-        },
-        NodePort {
-            node: node(3),
-            port: 3,
-        },
-    ]
+fn port(number: u16) -> NodePort {
+    NodePort {
+        node: node(number),
+        port: number,
+    }
 }
 
 // A net at a node, over a net in memory.
@@ -30,72 +22,76 @@ fn net_over(
     rt: &(impl Abort + AllocGlobal),
     inner: MemoryNet,
     number: u16,
-    key: &[u8],
 ) -> FramedNet<MemoryNet> {
     FramedNet::new(
         rt.alloc(),
         inner,
         node(number),
-        &nodes(),
-        key,
+        &[port(1), port(2), port(3)],
+        b"key",
         &[u8::try_from(number).unwrap_or(0); 16],
     )
     .expect(rt, "memory")
 }
 
-fn net(rt: &(impl Abort + AllocGlobal), number: u16, key: &[u8]) -> FramedNet<MemoryNet> {
-    net_over(rt, MemoryNet::new(rt.alloc()), number, key)
+// Puts a copy of some bytes behind others.
+fn put(rt: &(impl Abort + AllocGlobal), bytes: &[u8], out: &mut Vec<Vec<u8>>) {
+    let copy = Vec::from_slice(rt.alloc(), bytes).expect(rt, "memory");
+    out.push(copy).expect(rt, "memory");
 }
 
-// The frames that a net offered.
-fn frames(rt: &(impl Abort + AllocGlobal), from: FramedNet<MemoryNet>) -> Vec<Vec<u8>> {
-    let inner = from.into_inner();
+// The frames that node 1 offers where it sends these packets, each to the node before it.
+fn sent(rt: &(impl Abort + AllocGlobal), packets: &[(u16, &[u8])]) -> Vec<Vec<u8>> {
+    let mut net = net_over(rt, MemoryNet::new(rt.alloc()), 1);
+    for packet in packets {
+        net.send(node(packet.0), packet.1);
+    }
+    net.flush();
+    let inner = net.into_inner();
     let mut frames = Vec::new(rt.alloc());
     for listed in inner.listed().unwrap_or(&[]) {
         if let Some(offered) = listed.offered() {
-            frames
-                .push(Vec::from_slice(rt.alloc(), offered.bytes.as_slice()).expect(rt, "memory"))
-                .expect(rt, "memory");
+            put(rt, offered.bytes.as_slice(), &mut frames);
         }
     }
     frames
 }
 
-// A net at a node to which these frames come.
-fn hears_at(
+// Whether a net gives these packets, and no more.
+fn gives(net: &mut FramedNet<MemoryNet>, buffer: &mut [u8], packets: &[&[u8]]) -> bool {
+    for packet in packets {
+        let Ok(Some(count)) = net.receive(buffer) else {
+            return false;
+        };
+        if &buffer[..count] != *packet {
+            return false;
+        }
+    }
+    matches!(net.receive(buffer), Ok(None))
+}
+
+// The net in memory to which these frames come.
+fn hearing(rt: &(impl Abort + AllocGlobal), frames: &[Vec<u8>]) -> MemoryNet {
+    let mut net = MemoryNet::new(rt.alloc());
+    for frame in frames {
+        net.put(frame.as_slice()).expect(rt, "memory");
+    }
+    net
+}
+
+// How many frames a node refuses to which these come, if it is given these packets, and no more.
+fn refused(
     rt: &(impl Abort + AllocGlobal),
     number: u16,
     frames: &[Vec<u8>],
-    key: &[u8],
-) -> FramedNet<MemoryNet> {
-    let mut inner = MemoryNet::new(rt.alloc());
-    for frame in frames {
-        inner.put(frame.as_slice()).expect(rt, "memory");
-    }
-    net_over(rt, inner, number, key)
-}
-
-// One at node 2.
-fn hears(rt: &(impl Abort + AllocGlobal), frames: &[Vec<u8>], key: &[u8]) -> FramedNet<MemoryNet> {
-    hears_at(rt, 2, frames, key)
-}
-
-// What a net gives next.
-fn next(rt: &(impl Abort + AllocGlobal), net: &mut FramedNet<MemoryNet>) -> Option<Vec<u8>> {
+    packets: &[&[u8]],
+) -> Option<u64> {
     let mut buffer = vec![in rt.alloc(); 0; 40_001].expect(rt, "memory");
-    match net.receive(buffer.as_mut_slice()) {
-        Ok(Some(count)) => Some(Vec::from_slice(rt.alloc(), &buffer.as_slice()[..count]).expect(
-            rt, "memory",
-        )),
-        _ => None,
-    }
-}
-
-// Whether a net gives these bytes next.
-fn gives(rt: &(impl Abort + AllocGlobal), net: &mut FramedNet<MemoryNet>, bytes: &[u8]) -> bool {
-    match next(rt, net) {
-        Some(found) => found.as_slice() == bytes,
-        None => false,
+    let mut net = net_over(rt, hearing(rt, frames), number);
+    if gives(&mut net, buffer.as_mut_slice(), packets) {
+        Some(net.refused())
+    } else {
+        None
     }
 }
 
@@ -108,107 +104,6 @@ fn long(rt: &(impl Abort + AllocGlobal), length: usize) -> Vec<u8> {
     bytes
 }
 
-// 400 such bytes with this one before them.
-fn beginning(rt: &(impl Abort + AllocGlobal), first: u8) -> Vec<u8> {
-    let mut bytes = Vec::from_slice(rt.alloc(), &[first]).expect(rt, "memory");
-    bytes
-        .extend_from_slice(long(rt, 400).as_slice())
-        .expect(rt, "memory");
-    bytes
-}
-
-#[test]
-fn small_packets_go_together(rt: HostRuntime) {
-    let mut sender = net(&rt, 1, b"key");
-    sender.send(node(2), b"one");
-    sender.send(node(1), b"other");
-    sender.send(node(2), b"two");
-    sender.send(node(4), b"nobody");
-    sender.send(node(2), b"");
-    let found = frames(&rt, sender);
-    assert!(rt; found.len() == 2);
-    assert!(rt; found.as_slice()[1].len() == 28 + 6 + 6 + 3 + 16);
-    let mut receiver = hears(&rt, found.as_slice(), b"key");
-    assert!(rt; gives(&rt, &mut receiver, b"one"));
-    assert!(rt; gives(&rt, &mut receiver, b"two"));
-    assert!(rt; gives(&rt, &mut receiver, b""));
-    assert!(rt; next(&rt, &mut receiver).is_none());
-    assert!(rt; receiver.refused() == 1);
-}
-
-#[test]
-fn a_full_frame_goes(rt: HostRuntime) {
-    let mut sender = net(&rt, 1, b"key");
-    for first in 0..7 {
-        sender.send(node(2), beginning(&rt, first).as_slice());
-    }
-    let found = frames(&rt, sender);
-    assert!(rt; found.len() == 3);
-    let mut receiver = hears(&rt, found.as_slice(), b"key");
-    for first in 0..7 {
-        assert!(rt; gives(&rt, &mut receiver, beginning(&rt, first).as_slice()));
-    }
-    assert!(rt; next(&rt, &mut receiver).is_none());
-}
-
-#[test]
-fn a_long_packet_goes_in_pieces(rt: HostRuntime) {
-    let mut sender = net(&rt, 1, b"key");
-    let (first, second) = (long(&rt, 38_159), long(&rt, 1_355));
-    sender.send(node(2), b"before");
-    sender.send(node(2), first.as_slice());
-    sender.send(node(2), second.as_slice());
-    sender.send(node(2), b"behind");
-    let found = frames(&rt, sender);
-    assert!(rt; found.len() == 1 + 29 + 2 + 1);
-    assert!(rt; found.as_slice()[1].len() == 1_400);
-    let mut receiver = hears(&rt, found.as_slice(), b"key");
-    assert!(rt; gives(&rt, &mut receiver, b"before"));
-    assert!(rt; gives(&rt, &mut receiver, first.as_slice()));
-    assert!(rt; gives(&rt, &mut receiver, second.as_slice()));
-    assert!(rt; gives(&rt, &mut receiver, b"behind"));
-    let mut lossy = Vec::new(rt.alloc());
-    for place in 0..found.len() {
-        if place != 7 {
-            lossy
-                .push(Vec::from_slice(rt.alloc(), found.as_slice()[place].as_slice()).expect(
-                    &rt, "memory",
-                ))
-                .expect(&rt, "memory");
-        }
-    }
-    let mut receiver = hears(&rt, lossy.as_slice(), b"key");
-    assert!(rt; gives(&rt, &mut receiver, b"before"));
-    assert!(rt; gives(&rt, &mut receiver, second.as_slice()));
-    assert!(rt; gives(&rt, &mut receiver, b"behind"));
-    assert!(rt; next(&rt, &mut receiver).is_none());
-}
-
-// These frames, the last one first.
-fn turned(rt: &(impl Abort + AllocGlobal), frames: &[Vec<u8>]) -> Vec<Vec<u8>> {
-    let mut turned = Vec::new(rt.alloc());
-    for frame in frames.iter().rev() {
-        turned
-            .push(Vec::from_slice(rt.alloc(), frame.as_slice()).expect(rt, "memory"))
-            .expect(rt, "memory");
-    }
-    turned
-}
-
-#[test]
-fn pieces_come_in_any_order(rt: HostRuntime) {
-    let mut sender = net(&rt, 1, b"key");
-    let (first, second) = (long(&rt, 38_159), long(&rt, 30_000));
-    sender.send(node(2), first.as_slice());
-    sender.send(node(2), second.as_slice());
-    let found = turned(&rt, frames(&rt, sender).as_slice());
-    assert!(rt; found.len() == 29 + 23);
-    let mut receiver = hears(&rt, found.as_slice(), b"key");
-    assert!(rt; gives(&rt, &mut receiver, second.as_slice()));
-    assert!(rt; gives(&rt, &mut receiver, first.as_slice()));
-    assert!(rt; next(&rt, &mut receiver).is_none());
-}
-
 // These frames without those at two places.
 fn without(
     rt: &(impl Abort + AllocGlobal),
@@ -219,103 +114,92 @@ fn without(
     let mut left = Vec::new(rt.alloc());
     for place in 0..frames.len() {
         if place != one && place != other {
-            left.push(Vec::from_slice(rt.alloc(), frames[place].as_slice()).expect(rt, "memory"))
-                .expect(rt, "memory");
+            put(rt, frames[place].as_slice(), &mut left);
         }
     }
     left
 }
 
-#[test]
-fn a_packet_that_goes_again_fills_what_was_lost(rt: HostRuntime) {
-    let mut sender = net(&rt, 1, b"key");
-    let (first, second) = (long(&rt, 38_159), long(&rt, 38_160));
-    sender.send(node(2), first.as_slice());
-    sender.send(node(2), second.as_slice());
-    sender.send(node(2), first.as_slice());
-    let found = frames(&rt, sender);
-    assert!(rt; found.len() == 3 * 29);
-    // A piece of the first time is lost, and another one of the second time.
-    let left = without(&rt, found.as_slice(), 5, 2 * 29 + 20);
-    let mut receiver = hears(&rt, left.as_slice(), b"key");
-    assert!(rt; gives(&rt, &mut receiver, second.as_slice()));
-    assert!(rt; gives(&rt, &mut receiver, first.as_slice()));
-    assert!(rt; next(&rt, &mut receiver).is_none());
-    // The same piece is lost both times.
-    let left = without(&rt, found.as_slice(), 5, 2 * 29 + 5);
-    let mut receiver = hears(&rt, left.as_slice(), b"key");
-    assert!(rt; gives(&rt, &mut receiver, second.as_slice()));
-    assert!(rt; next(&rt, &mut receiver).is_none());
-}
-
-#[test]
-fn a_frame_is_taken_once(rt: HostRuntime) {
-    let mut sender = net(&rt, 1, b"key");
-    sender.send(node(2), b"one");
-    sender.flush();
-    sender.send(node(2), b"two");
-    let found = frames(&rt, sender);
-    let mut inner = MemoryNet::new(rt.alloc());
-    for frame in found.as_slice().iter().rev() {
-        for _ in 0..3 {
-            inner.put(frame.as_slice()).expect(&rt, "memory");
+// Each of these frames so many times, the last one first.
+fn turned(rt: &(impl Abort + AllocGlobal), frames: &[Vec<u8>], times: u8) -> Vec<Vec<u8>> {
+    let mut turned = Vec::new(rt.alloc());
+    for frame in frames.iter().rev() {
+        for _ in 0..times {
+            put(rt, frame.as_slice(), &mut turned);
         }
     }
-    let mut receiver = net_over(&rt, inner, 2, b"key");
-    assert!(rt; gives(&rt, &mut receiver, b"two"));
-    assert!(rt; gives(&rt, &mut receiver, b"one"));
-    assert!(rt; next(&rt, &mut receiver).is_none());
-    assert!(rt; receiver.refused() == 4);
+    turned
 }
 
 #[test]
-fn what_is_damaged_is_not_given(rt: HostRuntime) {
-    let mut sender = net(&rt, 1, b"key");
-    sender.send(node(2), b"one");
-    let found = frames(&rt, sender);
-    assert!(rt; found.len() >= 1);
-    assert!(rt; next(&rt, &mut hears(&rt, found.as_slice(), b"kex")).is_none());
-    let frame = found.as_slice()[0].as_slice();
-    let mut inner = MemoryNet::new(rt.alloc());
-    for place in 0..frame.len() {
-        let mut bytes = Vec::from_slice(rt.alloc(), frame).expect(&rt, "memory");
-        bytes.as_mut_slice()[place] ^= 1;
-        inner.put(bytes.as_slice()).expect(&rt, "memory");
-        inner.put(&frame[..place]).expect(&rt, "memory");
-    }
-    let mut receiver = net_over(&rt, inner, 2, b"key");
-    assert!(rt; next(&rt, &mut receiver).is_none());
-    assert!(rt; next(&rt, &mut receiver).is_none());
-    assert!(rt; receiver.refused() == 2 * frame.len() as u64);
+fn small_packets_go_together(rt: HostRuntime) {
+    let (one, two): (&[u8], &[u8]) = (b"one", b"two");
+    let packets = [(2, one), (1, b"other"), (2, two), (4, b"nobody"), (2, b"")];
+    let found = sent(&rt, &packets);
+    assert_eq!(rt; found.len(), 2, "how many frames there are");
+    assert_eq!(rt; found[1].len(), 28 + 6 + 6 + 3 + 16, "its length");
+    let refused = refused(&rt, 2, &found, &[one, two, b""]);
+    assert!(rt; refused == Some(1), "the frame for another node");
 }
 
-// The frames of packets for nodes 2 and 3 that are the same but for the node, and of one more for node 1.
-fn for_several(rt: &(impl Abort + AllocGlobal)) -> Vec<Vec<u8>> {
-    let mut sender = net(rt, 1, b"key");
-    sender.send(node(1), b"of another length");
-    sender.send(node(2), b"for node 2: one");
-    sender.send(node(3), b"for node 3: one");
-    sender.send(node(2), b"for node 2: two");
-    sender.send(node(3), b"for node 3: two");
-    frames(rt, sender)
+#[test]
+fn a_long_packet_goes_in_pieces(rt: HostRuntime) {
+    let (first, second) = (long(&rt, 38_159), long(&rt, 1_355));
+    let (one, two) = (first.as_slice(), second.as_slice());
+    let found = sent(&rt, &[(2, b"before"), (2, one), (2, two), (2, b"behind")]);
+    assert_eq!(rt; found.len(), 1 + 29 + 2 + 1, "how many frames");
+    assert_eq!(rt; found[1].len(), 1_400, "the length of a piece's");
+    let refused = refused(&rt, 2, &found, &[b"before", one, two, b"behind"]);
+    assert!(rt; refused == Some(0), "all are given");
+}
+
+#[test]
+fn frames_come_in_any_order_and_are_taken_once(rt: HostRuntime) {
+    let (first, second) = (long(&rt, 38_159), long(&rt, 30_000));
+    let (one, two) = (first.as_slice(), second.as_slice());
+    let found = sent(&rt, &[(2, one), (2, two)]);
+    assert_eq!(rt; found.len(), 29 + 23, "how many frames there are");
+    let found = turned(&rt, &found, 1);
+    let once = refused(&rt, 2, &found, &[two, one]);
+    assert!(rt; once == Some(0), "the last piece comes first");
+    let found = sent(&rt, &[(2, one), (2, b"behind")]);
+    let found = turned(&rt, &found, 2);
+    let twice = refused(&rt, 2, &found, &[b"behind", one]);
+    assert!(rt; twice == Some(30), "each of 30 frames comes twice");
+}
+
+#[test]
+fn a_packet_that_goes_again_fills_what_was_lost(rt: HostRuntime) {
+    let (first, second) = (long(&rt, 38_159), long(&rt, 38_160));
+    let (one, two) = (first.as_slice(), second.as_slice());
+    let found = sent(&rt, &[(2, one), (2, two), (2, one)]);
+    assert_eq!(rt; found.len(), 3 * 29, "how many frames there are");
+    let left = without(&rt, &found, 5, 2 * 29 + 20);
+    let other = refused(&rt, 2, &left, &[two, one]);
+    assert!(rt; other.is_some(), "another piece is lost then");
+    let left = without(&rt, &found, 5, 2 * 29 + 5);
+    let same = refused(&rt, 2, &left, &[two]);
+    assert!(rt; same.is_some(), "the same piece is lost then");
 }
 
 #[test]
 fn one_frame_goes_to_several(rt: HostRuntime) {
-    let found = for_several(&rt);
-    assert!(rt; found.len() == 3);
-    assert!(rt; found.as_slice()[1].as_slice() == found.as_slice()[2].as_slice());
-    assert!(rt; found.as_slice()[1].len() == 28 + (2 + 8) + (3 + 15) + (3 + 3) + 16);
-    let mut second = hears_at(&rt, 2, found.as_slice(), b"key");
-    assert!(rt; gives(&rt, &mut second, b"for node 2: one"));
-    assert!(rt; gives(&rt, &mut second, b"for node 2: two"));
-    assert!(rt; next(&rt, &mut second).is_none());
-    let mut third = hears_at(&rt, 3, found.as_slice(), b"key");
-    assert!(rt; gives(&rt, &mut third, b"for node 3: one"));
-    assert!(rt; gives(&rt, &mut third, b"for node 3: two"));
-    assert!(rt; next(&rt, &mut third).is_none());
-    assert!(rt; third.refused() == 2);
-    let mut other = hears_at(&rt, 4, found.as_slice(), b"key");
-    assert!(rt; next(&rt, &mut other).is_none());
-    assert!(rt; other.refused() == 3);
+    let packets: [(u16, &[u8]); 5] = [
+        (1, b"of another length"),
+        (2, b"for node 2: one"),
+        (3, b"for node 3: one"),
+        (2, b"for node 2: two"),
+        (3, b"for node 3: two"),
+    ];
+    let found = sent(&rt, &packets);
+    assert_eq!(rt; found.len(), 3, "how many frames there are");
+    assert!(rt; found[1].as_slice() == found[2].as_slice(), "two");
+    let length = 28 + (2 + 8) + (3 + 15) + (3 + 3) + 16;
+    assert_eq!(rt; found[1].len(), length, "the length of both");
+    let second = refused(&rt, 2, &found, &[packets[1].1, packets[3].1]);
+    assert!(rt; second.is_some(), "those for node 2");
+    let third = refused(&rt, 3, &found, &[packets[2].1, packets[4].1]);
+    assert!(rt; third == Some(2), "those for node 3");
+    let fourth = refused(&rt, 4, &found, &[]);
+    assert!(rt; fourth == Some(3), "a stranger is given nothing");
 }

@@ -21,12 +21,6 @@ fn is_started(events: &[Event]) -> bool {
     }
 }
 
-#[test]
-fn a_trace_has_what_was_recorded(rt: HostRuntime) {
-    let trace = started(rt.alloc()).ok().expect(&rt, "a trace");
-    assert!(rt; is_started(trace.events()));
-}
-
 /// One message handed back, whose payload is a copy.
 fn one_back(alloc: Global) -> Result<HandedBack, AllocError> {
     let payload = Bytes::from_slice(alloc, b"hi")?.copied(alloc)?;
@@ -36,18 +30,15 @@ fn one_back(alloc: Global) -> Result<HandedBack, AllocError> {
 }
 
 #[test]
-fn nothing_handed_back_is_no_message(rt: HostRuntime) {
-    assert_eq!(rt; HandedBack::nothing(rt.alloc()).as_slice().len(), 0);
-}
-
-#[test]
-fn what_is_handed_back_is_recorded(rt: HostRuntime) {
+fn what_happened_is_recorded(rt: HostRuntime) {
+    let trace = started(rt.alloc()).ok().expect(&rt, "a trace");
+    assert!(rt; is_started(trace.events()), "a start");
+    let nothing = HandedBack::nothing(rt.alloc());
+    assert!(rt; nothing.as_slice().is_empty(), "nothing handed back");
     let back = one_back(rt.alloc()).ok().expect(&rt, "a message");
     let messages = back.as_slice();
     assert_eq!(rt; messages.len(), 1, "how many messages there are");
     assert_eq!(rt; messages[0].number, 4, "the number");
-    assert!(rt;
-        messages[0].payload.as_slice() == b"hi".as_slice(),
-        "the payload"
-    );
+    let payload = messages[0].payload.as_slice();
+    assert!(rt; payload == b"hi".as_slice(), "the payload");
 }

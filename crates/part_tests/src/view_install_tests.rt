@@ -32,87 +32,17 @@ fn installed(promise: &mut Promise, counter: u64, node: u16) -> bool
 }
 
 #[test]
-fn nothing_is_promised_at_first(rt: HostRuntime) {
-    let promise = Promise::new(first_of(2));
-    assert!(rt; promise.proposal().is_none());
-}
-
-/// The promise of 2.1 that was offered 5, 5, 4 and 6.
-fn of_six() -> Promise {
+fn the_greatest_offer_is_promised_and_installed(rt: HostRuntime) {
     let mut promise = Promise::new(first_of(2));
-    for counter in [5, 5, 4, 6] {
-        offered(&mut promise, counter);
-    }
-    promise
-}
-
-#[test]
-fn a_lower_offer_is_behind(rt: HostRuntime) {
-    let mut promise = Promise::new(first_of(2));
-    offered(&mut promise, 5);
-    assert!(rt;
-        offered(&mut promise, 4) == OfferAnswer::Behind(5),
-        "4 behind 5"
-    );
-    assert!(rt;
-        offered(&mut promise, 6) == OfferAnswer::Accept,
-        "6 after 5"
-    );
-    assert!(rt;
-        offered(&mut promise, 5) == OfferAnswer::Behind(6),
-        "5 behind 6"
-    );
-}
-
-#[test]
-fn the_greatest_offer_is_promised(rt: HostRuntime) {
-    let mut promise = of_six();
-    assert!(rt;
-        offered(&mut promise, 5) == OfferAnswer::Behind(6),
-        "a lower one is behind"
-    );
+    assert!(rt; offered(&mut promise, 5) == OfferAnswer::Accept, "5");
+    let answer = offered(&mut promise, 4);
+    assert!(rt; answer == OfferAnswer::Behind(5), "4 behind 5");
+    assert!(rt; offered(&mut promise, 6) == OfferAnswer::Accept, "6");
     assert!(rt; promise.is_frozen(), "the promise binds");
-    assert!(rt;
-        promise
-            .proposal()
-            .is_some_and(|roster| roster.id().counter() == 6),
-        "the greatest is promised"
-    );
-}
-
-#[test]
-fn nothing_is_installed_without_a_promise(rt: HostRuntime) {
-    let mut promise = Promise::new(first_of(2));
-    assert!(rt; !installed(&mut promise, 5, 2));
-}
-
-#[test]
-fn only_the_promised_view_is_installed(rt: HostRuntime) {
-    let mut promise = Promise::new(first_of(2));
-    offered(&mut promise, 5);
-    assert!(rt; !installed(&mut promise, 4, 2), "a lower view is not");
-    assert!(rt;
-        !installed(&mut promise, 5, 3),
-        "a view without the member is not"
-    );
-    assert!(rt; promise.is_frozen(), "the promise still binds");
-    assert!(rt; installed(&mut promise, 5, 2), "the promised view is");
-}
-
-/// The promise of 2.1 that was offered 5 and installed it.
-fn installed_five() -> Promise {
-    let mut promise = Promise::new(first_of(2));
-    installed(&mut promise, 5, 2);
-    offered(&mut promise, 5);
-    installed(&mut promise, 4, 2);
-    installed(&mut promise, 5, 3);
-    installed(&mut promise, 5, 2);
-    promise
-}
-
-#[test]
-fn an_installed_view_frees_the_promise(rt: HostRuntime) {
-    let promise = installed_five();
-    assert!(rt; !promise.is_frozen());
+    let promised = promise.proposal().map(|roster| roster.id().counter());
+    assert!(rt; promised == Some(6), "the greatest is promised");
+    assert!(rt; !installed(&mut promise, 6, 3), "another list is not");
+    assert!(rt; installed(&mut promise, 6, 2), "the promised view is");
+    assert!(rt; !promise.is_frozen(), "it frees the promise");
     promises_rise();
 }

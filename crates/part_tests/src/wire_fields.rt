@@ -1,12 +1,14 @@
-//! The fields of packets by themselves (docs/WIRE.md): each is read off the front, what is left is left, and what is short or out of range is refused
-//! with its number.
+//! The fields of packets by themselves (docs/WIRE.md): each is read off the front, and what is left is left.
 
-use crate::wire_samples::{FLUSH, INSTALL, JOIN, ORDER, REPORT, STATE, second_view, unhex};
+use crate::fixtures::address;
+use crate::wire_samples::{
+    ACK, FLUSH, FORWARD, INSTALL, JOIN, ORDER, REPORT, STATE, second_view, unhex,
+};
 use address::limits::GREATEST_NUMBER;
 use std::alloc::Global;
 use wire_values::{
-    Reader, WireError, chunk_at, count_at, entry_at, group_at, install_at, number_at, payload_at,
-    report_at, view_at,
+    GivenState, Held, Reader, WireError, chunk_at, count_at, entry_at, group_at, install_at,
+    number_at, payload_at, report_at, view_at,
 };
 
 /// How many bytes stand before the body in a packet of the group `world`.
@@ -27,33 +29,14 @@ fn behind(alloc: Global, text: &[u8], front: usize) -> Vec<u8> {
 
 #[test]
 fn numbers_are_read_one_behind_the_other(rt: HostRuntime) {
-    let mut from = Reader::new(&[7, 1, 2, 0, 0, 1, 0, 0, 0, 0, 0, 0, 0, 0, 9, 8]);
-    assert!(rt; from.u8(1, 9, WireError::Kind) == Ok(7), "one byte");
-    assert!(rt;
-        from.u16(1, 999, WireError::Kind) == Ok(258),
-        "two bytes, the high one first"
-    );
-    assert!(rt; from.u32(1, 999, WireError::Kind) == Ok(256), "four bytes");
-    assert!(rt; from.u64(1, 999, WireError::Kind) == Ok(9), "eight bytes");
-    assert!(rt; from.rest() == [8].as_slice(), "one byte is left");
-    assert!(rt;
-        from.u8(1, 7, WireError::Kind) == Err(WireError::Kind),
-        "8 is no number up to 7"
-    );
-}
-
-#[test]
-fn bytes_are_taken_or_too_few(rt: HostRuntime) {
-    let mut from = Reader::new(b"abc");
-    assert!(rt;
-        from.bytes(4) == Err(WireError::Short),
-        "three are fewer than four"
-    );
-    assert!(rt;
-        from.bytes(2) == Ok(b"ab".as_slice()),
-        "none was taken, and two are"
-    );
-    assert!(rt; from.rest() == b"c".as_slice(), "one is left");
+    let mut from = Reader::new(&[7, 1, 2, 0, 0, 1, 0, 0, 0, 0, 0, 0, 0, 0, 9, 8, 6]);
+    let kind = WireError::Kind;
+    assert!(rt; from.u8(1, 9, kind) == Ok(7), "one byte");
+    assert!(rt; from.u16(1, 999, kind) == Ok(258), "two bytes");
+    assert!(rt; from.u32(1, 999, kind) == Ok(256), "four bytes");
+    assert!(rt; from.u64(1, 999, kind) == Ok(9), "eight bytes");
+    assert!(rt; from.bytes(1) == Ok([8].as_slice()), "as it is");
+    assert!(rt; from.rest() == [6].as_slice(), "one byte is left");
 }
 
 #[test]
@@ -61,15 +44,8 @@ fn a_group_and_an_address_are_read(rt: HostRuntime) {
     let bytes = behind(rt.alloc(), JOIN, 4);
     let mut from = Reader::new(&bytes);
     let group = group_at(&mut from).expect(&rt, "a name");
-    assert!(rt;
-        group.as_slice() == b"world".as_slice(),
-        "the name of the group"
-    );
-    let source = from.address().expect(&rt, "an address");
-    assert!(rt;
-        source.node().number() == 2 && source.incarnation() == 1,
-        "2.1"
-    );
+    assert!(rt; group.as_slice() == b"world".as_slice(), "its name");
+    assert!(rt; from.address() == Ok(address(2, 1)), "the source");
 }
 
 #[test]
@@ -78,63 +54,65 @@ fn an_order_is_read_field_by_field(rt: HostRuntime) {
     let mut from = Reader::new(&bytes);
     assert!(rt; from.view_id() == Ok(second_view()), "its view");
     let place = number_at(1, GREATEST_NUMBER, &mut from).expect(&rt, "its place");
-    assert!(rt; place.get() == 1, "the first place");
+    assert_eq!(rt; place.get(), 1, "the first place");
     let entry = entry_at(&mut from).expect(&rt, "its entry");
-    assert!(rt; entry.number.get() == 1, "the first message of its sender");
-    assert!(rt; entry.payload.as_slice() == b"a".as_slice(), "its payload");
+    assert_eq!(rt; entry.number.get(), 1, "the first of its sender");
+    let payload = entry.payload.as_slice();
+    assert!(rt; payload == b"a".as_slice(), "its payload");
     assert!(rt; from.rest().is_empty(), "nothing is left");
 }
 
 #[test]
-fn counts_and_payloads_out_of_range_are_refused(rt: HostRuntime) {
-    let zero = [0u8; 8];
-    let number = number_at(1, 9, &mut Reader::new(&zero));
-    assert!(rt;
-        number.is_err_and(|error| error.number() == 25),
-        "0 is no number"
-    );
-    let count = count_at(0, 9, &mut Reader::new(&zero)).expect(&rt, "a count");
-    assert!(rt; count.get() == 0, "0 is a count");
-    let payload = payload_at(&mut Reader::new(&[2, 1]));
-    assert!(rt;
-        payload.is_err_and(|error| error.number() == 24),
-        "513 bytes are too many"
-    );
-}
-
-#[test]
-fn views_reports_and_installs_are_read(rt: HostRuntime) {
+fn a_count_a_payload_and_a_chunk_are_read(rt: HostRuntime) {
     let alloc = rt.alloc();
-    let bytes = behind(alloc, FLUSH, BODY);
-    let view = view_at(&mut Reader::new(&bytes)).expect(&rt, "a view");
-    assert!(rt;
-        view.id() == second_view() && view.members().len() == 2,
-        "2@1.1 with two"
-    );
-    let bytes = behind(alloc, REPORT, BODY + 14);
-    let report = report_at(&mut Reader::new(&bytes)).expect(&rt, "a report");
-    assert!(rt;
-        report.stable().get() == 4 && report.held().len() == 2,
-        "stable to 4, two held"
-    );
-    let bytes = behind(alloc, INSTALL, BODY);
-    let install = install_at(&mut Reader::new(&bytes)).expect(&rt, "an install");
-    assert!(rt;
-        install.base().get() == 6 && install.items().len() == 1,
-        "base 6, one message"
-    );
+    let bytes = behind(alloc, ACK, BODY + 14);
+    let count = count_at(0, GREATEST_NUMBER, &mut Reader::new(&bytes)).expect(&rt, "a count");
+    assert_eq!(rt; count.get(), 9, "how many were delivered");
+    let bytes = behind(alloc, FORWARD, BODY + 22);
+    let payload = payload_at(&mut Reader::new(&bytes)).expect(&rt, "a payload");
+    assert!(rt; payload.as_slice() == b"hi".as_slice(), "its bytes");
+    let bytes = behind(alloc, STATE, BODY + 14);
+    let chunk = chunk_at(&mut Reader::new(&bytes)).expect(&rt, "a chunk");
+    assert_eq!(rt; chunk.total().get(), 32_769, "the total");
+    assert_eq!(rt; chunk.index(), 2, "its index");
+    assert!(rt; chunk.as_slice() == [7].as_slice(), "its byte");
 }
 
 #[test]
-fn a_chunk_is_read(rt: HostRuntime) {
-    let mut bytes = behind(rt.alloc(), STATE, BODY + 14);
-    assert!(rt; bytes.push(8).is_ok(), "a byte is put behind it");
-    let mut from = Reader::new(&bytes);
-    let chunk = chunk_at(&mut from).expect(&rt, "a chunk");
-    assert!(rt;
-        chunk.total().get() == 32_769 && chunk.index() == 2,
-        "the last of a state of 32,769 bytes"
-    );
-    assert!(rt; chunk.as_slice() == [7].as_slice(), "its byte");
-    assert!(rt; from.rest() == [8].as_slice(), "one byte is left");
+fn a_view_and_an_install_are_read(rt: HostRuntime) {
+    let bytes = behind(rt.alloc(), FLUSH, BODY);
+    let view = view_at(&mut Reader::new(&bytes)).expect(&rt, "a view");
+    assert!(rt; view.id() == second_view(), "its id");
+    assert_eq!(rt; view.members().len(), 2, "how many members it has");
+    let bytes = behind(rt.alloc(), INSTALL, BODY);
+    let install = install_at(&mut Reader::new(&bytes)).expect(&rt, "an install");
+    assert_eq!(rt; install.base().get(), 6, "its base");
+    assert_eq!(rt; install.items().len(), 1, "how many messages");
+    let state = match install.state() {
+        GivenState::Whole(state) => state.as_slice(),
+        _ => &[],
+    };
+    assert!(rt; state == [1, 2, 3].as_slice(), "its state");
+}
+
+/// Whether the next entry held has a place, a number and a payload.
+fn holds(held: &mut Held<'_>, place: u64, number: u64, payload: &[u8]) -> bool {
+    match held.take_first() {
+        Some((at, entry)) => {
+            at.get() == place && entry.number.get() == number && entry.payload.as_slice() == payload
+        }
+        None => false,
+    }
+}
+
+#[test]
+fn a_report_is_read(rt: HostRuntime) {
+    let bytes = behind(rt.alloc(), REPORT, BODY + 14);
+    let report = report_at(&mut Reader::new(&bytes)).expect(&rt, "a report");
+    assert_eq!(rt; report.stable().get(), 4, "how many are stable");
+    assert_eq!(rt; report.delivered().get(), 5, "and delivered");
+    let mut held = report.held();
+    assert_eq!(rt; held.len(), 2, "how many entries are held");
+    assert!(rt; holds(&mut held, 5, 1, b"a"), "the first entry held");
+    assert!(rt; holds(&mut held, 8, 2, b""), "the second entry held");
 }

@@ -1,5 +1,6 @@
-use crate::wire_samples::{address, is_exact, second_view};
-use address::{Address, Node};
+use crate::fixtures::{address, listed};
+use crate::wire_samples::{is_exact, second_view};
+use address::Address;
 use std::alloc::Global;
 use wire::{encode, put_entry};
 use wire_values::{
@@ -50,64 +51,48 @@ fn entries(alloc: Global, have_places: bool) -> Option<Vec<u8>> {
     Some(text)
 }
 
-/// The report of these entries, with so many delivered.
-fn report(text: &[u8], delivered: u64) -> Option<Report<'_>> {
+/// The report of these entries, with all of the 64 delivered.
+fn report(text: &[u8]) -> Option<Body<'_>> {
     let held = Held::new(64, text)?;
-    Report::new(second_view(), Count::zero(), Count::new(delivered)?, held)
+    Some(Body::Report {
+        proposal: second_view(),
+        report: Report::new(second_view(), Count::zero(), Count::new(64)?, held)?,
+    })
 }
 
 #[test]
 fn the_longest_report_has_34399_bytes(rt: HostRuntime) {
     let text = entries(rt.alloc(), true).expect(&rt, "the entries");
-    let body = Body::Report {
-        proposal: second_view(),
-        report: report(&text, 64).expect(&rt, "the report of 64 delivered"),
-    };
+    let body = report(&text).expect(&rt, "the report");
     assert!(rt; has_length(rt.alloc(), body, 11, 34_399));
 }
 
-/// The first addresses of the nodes 1 to 16.
-fn sixteen(alloc: Global) -> Option<Vec<Address>> {
-    let mut members = Vec::new(alloc);
-    for node in 1..=16 {
-        members.push(Address::first_at(Node::new(node)?)).ok()?;
-    }
-    Some(members)
-}
-
 /// The install of all members with these entries and a state.
-fn install<'a>(members: &[Address], text: &'a [u8], state: &'a [u8]) -> Option<Install<'a>> {
+fn install<'a>(members: &[Address], text: &'a [u8], state: &'a [u8]) -> Option<Body<'a>> {
     let view = Roster::new(second_view(), members)?;
     let together = Members::from_slice(members)?;
     let items = Items::new(64, text)?;
     let given = GivenState::Whole(State::new(state)?);
-    Install::new(view, together, Count::zero(), items, given)
-}
-
-/// Whether these entries, with 16 members and the longest state that an INSTALL carries, make the longest install.
-fn is_longest_install(alloc: Global, members: &[Address], text: &[u8]) -> bool {
-    match install(members, text, &[9; 4_096]) {
-        Some(install) => has_length(alloc, Body::Install(install), 12, 38_159),
-        None => false,
-    }
+    let install = Install::new(view, together, Count::zero(), items, given)?;
+    Some(Body::Install(install))
 }
 
 #[test]
 fn the_longest_install_has_38159_bytes(rt: HostRuntime) {
-    let members = sixteen(rt.alloc()).expect(&rt, "the members");
+    let nodes = [1, 2, 3, 4, 5, 6, 7, 8, 9, 10, 11, 12, 13, 14, 15, 16];
+    let members = listed(rt.alloc(), &nodes).expect(&rt, "the members");
     let text = entries(rt.alloc(), false).expect(&rt, "the entries");
-    assert!(rt; is_longest_install(rt.alloc(), &members, &text));
+    let state = [9; 4_096];
+    let body = install(members.as_slice(), &text, &state).expect(&rt, "the install");
+    assert!(rt; has_length(rt.alloc(), body, 12, 38_159));
 }
 
-/// Whether a chunk of 32,768 bytes, the last of the longest state, makes the longest STATE.
-fn is_longest_state(alloc: Global, bytes: &[u8]) -> bool {
-    match Total::new(1_048_576).and_then(|total| Chunk::new(total, 32, bytes)) {
-        Some(chunk) => {
-            let proposal = second_view();
-            has_length(alloc, Body::State { proposal, chunk }, 14, 32_836)
-        }
-        None => false,
-    }
+/// The last chunk of the longest state.
+fn last_chunk(bytes: &[u8]) -> Option<Body<'_>> {
+    Some(Body::State {
+        proposal: second_view(),
+        chunk: Chunk::new(Total::new(1_048_576)?, 32, bytes)?,
+    })
 }
 
 #[test]
@@ -115,5 +100,6 @@ fn the_longest_state_has_32836_bytes(rt: HostRuntime) {
     let bytes = vec![in rt.alloc(); 9u8; 32_768]
         .ok()
         .expect(&rt, "the bytes");
-    assert!(rt; is_longest_state(rt.alloc(), &bytes));
+    let body = last_chunk(&bytes).expect(&rt, "the chunk");
+    assert!(rt; has_length(rt.alloc(), body, 14, 32_836));
 }

@@ -1,10 +1,8 @@
-ghost use Rattle.std.specs.Prelude.{◌≤◌, length};
-ghost use Rattle.address.specs.declared.limits.TheConstants.{GREATEST_NUMBER, PAYLOAD};
-
-use address::{Address, Node, ViewId};
+use crate::fixtures::address;
+use address::ViewId;
 use std::alloc::{AllocError, Global};
 use wire::{decode, encode};
-use wire_values::{Entry, Number, Packet, Payload};
+use wire_values::Packet;
 
 // One packet of each kind in the group `world`, between 1.1 and 2.1, spelled by hand from the tables of
 // docs/WIRE.md. JOIN, ORDER and FLUSH are vectors of the format. STATE is the last of the two chunks of 32,769 bytes.
@@ -89,38 +87,9 @@ pub fn unhex(alloc: Global, text: &[u8]) -> Result<Vec<u8>, AllocError> {
     Ok(out)
 }
 
-/// The address of an incarnation at a node.
-pub fn address(node: u16, incarnation: u32) -> Address
-    requires node { 1 ≤ node }
-    requires incarnation { 1 ≤ incarnation }
-{
-    Address::new(Node::new(node).unwrap(), incarnation).unwrap()
-}
-
 /// The view id 2@1.1.
 pub fn second_view() -> ViewId {
     ViewId::new(2, address(1, 1)).unwrap()
-}
-
-/// A number of a message.
-pub fn number(value: u64) -> Number
-    requires low { 1 ≤ value }
-    requires high { value ≤ GREATEST_NUMBER }
-{
-    Number::new(value).unwrap()
-}
-
-/// The entry of 1.1 at a number, with a payload.
-pub fn entry(value: u64, payload: &[u8]) -> Entry<'_>
-    requires low { 1 ≤ value }
-    requires high { value ≤ GREATEST_NUMBER }
-    requires short { length payload.now ≤ PAYLOAD }
-{
-    Entry {
-        sender: address(1, 1),
-        number: number(value),
-        payload: Payload::new(payload).unwrap(),
-    }
 }
 
 /// The number with which bytes are refused; 0 where they are a packet.
