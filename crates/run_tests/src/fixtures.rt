@@ -1,20 +1,24 @@
 ghost use Rattle.std.specs.Prelude.{◌≤◌};
 
-use address::{Address, Node};
-use std::alloc::{AllocError, Global};
+use address::{Address, Node, ViewId};
+use keyed_state::Token;
 
-/// The address of an incarnation at a node.
-pub fn address(node: u16, incarnation: u32) -> Address
-    requires node { 1 ≤ node }
-    requires incarnation { 1 ≤ incarnation }
+/// The first member of a node.
+pub fn first_at(node: u16) -> Address
+    requires { 1 ≤ node }
 {
-    Address::new(Node::new(node).unwrap(), incarnation).unwrap()
+    Address::first_at(Node::new(node).unwrap())
 }
 
-/// Whether a text is there and is this one.
-pub fn is(text: Result<Vec<u8>, AllocError>, wanted: &[u8]) -> bool {
-    match text {
-        Ok(text) => text.as_slice() == wanted,
-        Err(_) => false,
+/// The view 1@1.1.
+pub fn first_view() -> ViewId {
+    ViewId::first_of(first_at(1))
+}
+
+/// The token of a count in the view 1@1.1.
+pub fn token(count: u64) -> Token {
+    Token {
+        view: first_view(),
+        count,
     }
 }

@@ -1,90 +1,122 @@
-use crate::events::{delivery, first, install, second, view};
-use map_service::{Answer, Fate, MapService, answers, follows, forgets_nobody};
+//! What services tell the one for whom the ticket 70 was noted, whose message is the first of node 1's first view.
+
+use crate::fixtures::{first_at, first_view, token};
+use address::Bytes;
+use application::{Waiting, take_ticket};
+use lock_service::LockService;
+use map_service::MapService;
 use replicated_map::Outcome;
 use std::alloc::{AllocError, Global};
+use trace_props::{BoxedInstall, Delivery, Event, HandedBack, Install, Message};
+use view::{Addresses, View};
 
-// By hand from the tables of docs/RECEIVERS.md: put `xy` for `a`, replace nothing of `a` by `z`, remove `b`.
-const PUT_A: &[u8] = b"\x01\x00\x00\x00\x00\x00\x00\x00\x01\x00\x01\x00\x00\x00\x01\x01a\x00\x02xy";
+// By hand from the tables of docs/RECEIVERS.md: put `xy` for `a`, and acquire `a`.
+const PUT_A: &[u8] = b"\x01\0\0\0\0\0\0\0\x01\0\x01\0\0\0\x01\x01a\0\x02xy";
 
-const REPLACE_NONE: &[u8] =
-    b"\x03\x00\x00\x00\x00\x00\x00\x00\x01\x00\x01\x00\x00\x00\x01\x00\x01a\x00\x01z";
+const ACQUIRE_A: &[u8] = b"\x01\0\0\0\0\0\0\0\x01\0\x01\0\0\0\x01\x01a";
 
-const REMOVE_B: &[u8] = b"\x02\x01b";
+// Node 1 installs its first view.
+fn install(alloc: Global) -> Result<Event, AllocError> {
+    let install = Install {
+        member: first_at(1),
+        previous: None,
+        view: View::alone(alloc, first_view())?,
+        together: Addresses::alone(alloc, first_at(1))?,
+        handed_back: HandedBack::nothing(alloc),
+        given: None,
+    };
+    Ok(Event::Installed(BoxedInstall::new(alloc, install)?))
+}
 
-// The service of node 1 after these: it enters its view; 70, 71, 72 and 73 wait for its messages 1 to 4; node 2's put comes first, and then its own messages 1 to 3.
-fn told(alloc: Global) -> Result<MapService, AllocError> {
-    let mut service = MapService::new(alloc, first())?;
+// Node 1 delivers its own first message.
+fn delivery(alloc: Global, payload: &[u8]) -> Result<Event, AllocError> {
+    Ok(Event::Delivered(Delivery {
+        member: first_at(1),
+        view: first_view(),
+        message: Message {
+            sender: first_at(1),
+            number: 1,
+            payload: Bytes::from_slice(alloc, payload)?,
+        },
+    }))
+}
+
+// The service of a map hears of a put.
+fn put(alloc: Global, service: &mut MapService) -> Result<(), AllocError> {
     service.hear(&install(alloc)?)?;
-    for number in 1..5u64 {
-        service.note(number, 69 + number)?;
-    }
-    service.hear(&delivery(alloc, second(), 1, REPLACE_NONE)?)?;
-    service.hear(&delivery(alloc, first(), 1, PUT_A)?)?;
-    service.hear(&delivery(alloc, first(), 2, REPLACE_NONE)?)?;
-    service.hear(&delivery(alloc, first(), 3, REMOVE_B)?)?;
-    Ok(service)
-}
-
-// Whether an answer is to this ticket, and names this place of the view.
-fn is_at(answer: &Answer, ticket: u64, place: u64) -> bool {
-    match &answer.fate {
-        Fate::Delivered(at, number, _) => {
-            answer.ticket == ticket && *at == view() && *number == place
-        }
-        Fate::HandedBack => false,
-    }
-}
-
-// Whether a value was stored, of the second version of the view.
-fn is_put(answer: &Answer) -> bool {
-    match &answer.fate {
-        Fate::Delivered(_, _, Outcome::Stored(version)) => version.count == 2
-            && version.view == view(),
-        _ => false,
-    }
-}
-
-fn is_missing(answer: &Answer) -> bool {
-    matches!(&answer.fate, Fate::Delivered(_, _, Outcome::Missing))
-}
-
-fn has_found_xy(answer: &Answer) -> bool {
-    match &answer.fate {
-        Fate::Delivered(_, _, Outcome::Differs(Some(held))) => held.value.as_slice()
-            == b"xy".as_slice()
-            && held.version.count == 2,
-        _ => false,
-    }
+    service.note(1, 70)?;
+    service.hear(&delivery(alloc, PUT_A)?)
 }
 
 #[test]
 fn a_write_is_answered_at_its_place(rt: HostRuntime) {
-    follows();
-    answers();
-    forgets_nobody();
-    let mut service = told(rt.alloc()).ok().expect(&rt, "a service");
-    match service.copy().get(b"a") {
-        Some(held) => assert!(rt; held.value.as_slice() == b"xy".as_slice()),
-        None => assert!(rt; false, "the copy has the value"),
-    }
-    assert!(rt; service.view() == Some(view()) && service.place() == 4);
-    assert_eq!(rt; service.waits(), 1);
+    map_service::follows();
+    map_service::answers();
+    map_service::forgets_nobody();
+    let mut service = MapService::new(rt.alloc(), first_at(1))
+        .ok()
+        .expect(&rt, "a service");
+    assert!(rt; put(rt.alloc(), &mut service).is_ok(), "there is memory");
+    assert!(rt;
+        service.view() == Some(first_view()) && service.place() == 1,
+        "its place"
+    );
     let answers = service.take_answers();
-    assert_eq!(rt; answers.len(), 3);
-    assert!(rt; is_at(&answers[0], 70, 2) && is_put(&answers[0]));
-    assert!(rt; is_at(&answers[1], 71, 3) && has_found_xy(&answers[1]));
-    assert!(rt; is_at(&answers[2], 72, 4) && is_missing(&answers[2]));
-    assert_eq!(rt; service.take_answers().len(), 0);
+    assert_eq!(rt; answers.len(), 1);
+    assert!(rt; answers[0].ticket == 70, "the ticket");
+    match &answers[0].fate {
+        map_service::Fate::Delivered(view, place, Outcome::Stored(version)) => assert!(rt;
+            *view == first_view() && *place == 1 && *version == token(1),
+            "what became of it"
+        ),
+        _ => assert!(rt; false, "it was stored"),
+    }
+}
+
+// The service of a table of locks hears of an acquire.
+fn acquire(alloc: Global, service: &mut LockService) -> Result<(), AllocError> {
+    service.hear(&install(alloc)?)?;
+    service.note(1, 70)?;
+    service.hear(&delivery(alloc, ACQUIRE_A)?)
 }
 
 #[test]
-fn a_write_is_handed_back_with_its_view(rt: HostRuntime) {
-    let mut service = told(rt.alloc()).ok().expect(&rt, "a service");
-    let event = install(rt.alloc()).ok().expect(&rt, "an install");
-    assert!(rt; service.hear(&event).is_ok());
+fn a_free_lock_is_granted_at_its_place(rt: HostRuntime) {
+    lock_service::follows();
+    lock_service::grants();
+    lock_service::misses_no_grant();
+    lock_service::forgets_nobody();
+    let mut service = LockService::new(rt.alloc(), first_at(1))
+        .ok()
+        .expect(&rt, "a service");
+    assert!(rt;
+        acquire(rt.alloc(), &mut service).is_ok(),
+        "there is memory"
+    );
+    assert!(rt;
+        service.view() == Some(first_view()) && service.place() == 1,
+        "its place"
+    );
     let answers = service.take_answers();
-    assert_eq!(rt; answers.len(), 4);
-    assert_eq!(rt; answers[3].ticket, 73);
-    assert!(rt; matches!(&answers[3].fate, Fate::HandedBack));
-    assert!(rt; service.waits() == 0 && service.place() == 0);
+    assert_eq!(rt; answers.len(), 1);
+    assert!(rt;
+        answers[0].ticket == 70 && answers[0].place == 1,
+        "the ticket"
+    );
+    match &answers[0].fate {
+        lock_service::Fate::Granted(granted) => assert!(rt; *granted == token(1), "its token"),
+        _ => assert!(rt; false, "it is granted"),
+    }
+}
+
+#[test]
+fn a_ticket_is_taken_once(rt: HostRuntime) {
+    let mut waiting = Vec::new(rt.alloc());
+    let waits = Waiting {
+        number: 1,
+        ticket: 70,
+    };
+    assert!(rt; waiting.push(waits).is_ok(), "there is memory");
+    assert!(rt; take_ticket(&mut waiting, 1) == Some(70), "it is taken");
+    assert!(rt; take_ticket(&mut waiting, 1).is_none(), "it is gone");
 }

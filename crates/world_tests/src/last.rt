@@ -7,14 +7,11 @@ use std::alloc::{AllocError, Global};
 use std::marker::Model;
 use view::View;
 
-/// A receiver whose state is the first byte of the last message. It counts what else it is given, and of the byte 255 it says that
-/// memory was refused.
+/// A receiver whose state is the first byte of the last message. It counts what else it is told.
 #[derive(Drop)]
 pub struct Last {
     /// The first byte of the last message that had one; 0 before.
     pub value: u8,
-    /// How many members the views had that it was given.
-    pub views: usize,
     /// How many views it was given.
     pub installs: usize,
     /// How often it was called because its member is blocked.
@@ -51,7 +48,6 @@ impl Receiver for Last {
     fn opening(_alloc: Global) -> Result<Last, AllocError> {
         Ok(Last {
             value: 0,
-            views: 0,
             installs: 0,
             blocks: 0,
         })
@@ -59,16 +55,12 @@ impl Receiver for Last {
 
     fn receive(&mut self, _from: Address, payload: &[u8]) -> Result<(), AllocError> {
         if payload.len() > 0 {
-            if payload[0] == 255 {
-                return Err(AllocError);
-            }
             self.value = payload[0];
         }
         Ok(())
     }
 
-    fn view_accepted(&mut self, view: &View) {
-        self.views = self.views.wrapping_add(view.members().len());
+    fn view_accepted(&mut self, _view: &View) {
         self.installs = self.installs.wrapping_add(1);
     }
 

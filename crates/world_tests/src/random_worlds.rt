@@ -1,8 +1,8 @@
-//! Random worlds: a change of view that can complete does, also by rounds that raise its proposal; one that cannot is left alone; and suspicions bring each member
-//! into a view of itself alone.
+//! Random worlds: where `World::settle` does nothing, the same events by hand complete no change of view either (docs/GUARANTEES.md, "Views settle").
 
-use address::{Address, Bytes, Node, ViewId};
-use chat_log::ChatLog;
+use crate::last::Last;
+use crate::two_members::node;
+use address::{Address, Node, ViewId};
 use law_dead_ends::nothing_is_a_dead_end;
 use settling::low_proposals_rise;
 use trace_props::{Event, Install};
@@ -20,12 +20,6 @@ const EVENTS: u64 = 8;
 
 /// How many nodes it has.
 const NODES: u16 = 4;
-
-/// How many later incarnations of a node are suspected.
-const INCARNATIONS: u32 = 4;
-
-/// How often each other address is suspected, at most.
-const PASSES: u8 = 4;
 
 /// Numbers that look random: Knuth's linear congruential generator, its upper bits.
 #[derive(Clone, Copy, Debug)]
@@ -54,43 +48,28 @@ impl Random {
     }
 }
 
-/// A node's number as a node.
-fn node(number: u16) -> Node {
-    Node::new(number).unwrap_or(Node::new(1).unwrap())
-}
-
-/// The address of the member that runs at a node, or that of the first that would.
-fn address(world: &World<ChatLog>, at: Node) -> Address {
-    world.running(at).unwrap_or(Address::first_at(at))
-}
-
 /// A random event: mostly a delivery of one of the last packets.
-fn random_event(random: &mut Random, world: &World<ChatLog>) -> WorldEvent {
+fn random_event(random: &mut Random, world: &World<Last>) -> WorldEvent {
     let at = random.node();
     let other = random.node();
-    let choice = random.below(100);
-    if choice < 4 {
-        WorldEvent::Start(at)
-    } else if choice < 8 {
-        WorldEvent::Create(at)
-    } else if choice < 16 {
-        WorldEvent::Join(at, address(world, other))
-    } else if choice < 22 {
-        WorldEvent::Tick(at)
-    } else if choice < 27 {
-        WorldEvent::Suspect(at, address(world, other))
-    } else if choice < 34 {
-        WorldEvent::MergeHint(at, address(world, other))
-    } else if choice < 36 {
-        WorldEvent::Crash(at)
-    } else {
-        let packets = world.packets().len() as u64;
-        WorldEvent::Deliver(packets.saturating_sub(random.below(packets.min(12))))
+    let address = world.running(other).unwrap_or(Address::first_at(other));
+    match random.below(100) {
+        0..=3 => WorldEvent::Start(at),
+        4..=7 => WorldEvent::Create(at),
+        8..=15 => WorldEvent::Join(at, address),
+        16..=21 => WorldEvent::Tick(at),
+        22..=26 => WorldEvent::Suspect(at, address),
+        27..=33 => WorldEvent::MergeHint(at, address),
+        34..=35 => WorldEvent::Crash(at),
+        _ => {
+            let packets = world.packets().len() as u64;
+            WorldEvent::Deliver(packets.saturating_sub(random.below(packets.min(12))))
+        }
     }
 }
 
 /// The last view that the member that runs at a node installed.
-fn last_install<'a>(world: &'a World<ChatLog>, at: Node) -> Option<&'a Install> {
+fn last_install<'a>(world: &'a World<Last>, at: Node) -> Option<&'a Install> {
     let member = world.running(at)?;
     let mut last = None;
     for event in world.trace().events() {
@@ -104,44 +83,24 @@ fn last_install<'a>(world: &'a World<ChatLog>, at: Node) -> Option<&'a Install> 
     last
 }
 
-/// Whether the member that runs at a node is in a view of this id.
-fn is_in(world: &World<ChatLog>, member: Address, view: ViewId) -> bool {
-    match last_install(world, member.node()) {
-        None => false,
-        Some(install) => install.member == member && install.view.id() == view,
-    }
-}
-
-/// Whether the member at a node is in a view that it made, with all members of the view.
-fn are_together(world: &World<ChatLog>, at: Node) -> bool {
-    let Some(install) = last_install(world, at) else {
-        return false;
-    };
+/// The view that the member at a node made, if all of its members are in it.
+fn shared_view(world: &World<Last>, at: Node) -> Option<ViewId> {
+    let install = last_install(world, at)?;
     let view = install.view.id();
-    let mut all = view.creator() == install.member;
-    for member in install.view.members().as_slice() {
-        all = all && is_in(world, *member, view);
+    if view.creator() != install.member {
+        return None;
     }
-    all
-}
-
-/// How many views of several members the member at a node made and installed.
-fn made(world: &World<ChatLog>, at: Node) -> usize {
-    let mut count: usize = 0;
-    for event in world.trace().events() {
-        if let Event::Installed(boxed) = event {
-            let install = boxed.get();
-            let own = install.member.node() == at && install.view.id().creator() == install.member;
-            if own && install.view.members().as_slice().len() > 1 {
-                count = count.wrapping_add(1);
-            }
+    for member in install.view.members().as_slice() {
+        let other = last_install(world, member.node())?;
+        if other.member != *member || other.view.id() != view {
+            return None;
         }
     }
-    count
+    Some(view)
 }
 
 /// Delivers each packet past so many that is there now.
-fn deliver_past(world: &mut World<ChatLog>, past: usize) -> bool {
+fn deliver_past(world: &mut World<Last>, past: usize) -> bool {
     let last = world.packets().len();
     for index in past..last {
         let number = (index as u64).wrapping_add(1);
@@ -152,30 +111,32 @@ fn deliver_past(world: &mut World<ChatLog>, past: usize) -> bool {
     true
 }
 
-/// Whether a tick of the member at a node, and the deliveries of what comes of it, bring all members of a view that it made into that view.
-fn comes_by_hand(world: &mut World<ChatLog>, at: Node) -> bool {
-    let before = made(world, at);
-    let known = world.packets().len();
-    let ticked = world.run(&[WorldEvent::Tick(at)]).is_ok();
-    let announced = world.packets().len();
-    let flushed = ticked && deliver_past(world, known);
-    let reported = world.packets().len();
-    let told = flushed && deliver_past(world, announced);
-    told && deliver_past(world, reported) && made(world, at) > before && are_together(world, at)
+/// Whether a tick of the member at a node, and the deliveries of what comes of it, bring all members of a new view that it made into that view.
+fn comes_by_hand(world: &mut World<Last>, at: Node) -> bool {
+    let before = match last_install(world, at) {
+        None => None,
+        Some(install) => Some(install.view.id()),
+    };
+    let mut known = world.packets().len();
+    if world.run(&[WorldEvent::Tick(at)]).is_err() {
+        return false;
+    }
+    // Each FLUSH, then each REPORT, then each STATE and INSTALL.
+    for _ in 0..3 {
+        let past = known;
+        known = world.packets().len();
+        if !deliver_past(world, past) {
+            return false;
+        }
+    }
+    let view = shared_view(world, at);
+    view.is_some() && view != before
 }
 
-/// A tick of the member at a node, and the deliveries of each FLUSH and each REPORT that come of it; what it sends by the last of these is lost.
-fn loses_installs(world: &mut World<ChatLog>, at: Node) -> bool {
-    let known = world.packets().len();
-    let ticked = world.run(&[WorldEvent::Tick(at)]).is_ok();
-    let announced = world.packets().len();
-    ticked && deliver_past(world, known) && deliver_past(world, announced)
-}
-
-/// Whether the member at a node is in a view that others of it are not in, and a tick of each of them, and the deliveries of the last packet that it sends and of
-/// what comes of that, bring all of them into it.
-fn comes_by_reports(world: &mut World<ChatLog>, at: Node) -> bool {
-    if are_together(world, at) {
+/// Whether the member at a node is in a view that others of it are not in, and a tick of each of them, and the deliveries of the last packet that it sends
+/// and of what comes of that, bring all of them into it.
+fn comes_by_reports(world: &mut World<Last>, at: Node) -> bool {
+    if shared_view(world, at).is_some() {
         return false;
     }
     for number in 1..=NODES {
@@ -189,158 +150,39 @@ fn comes_by_reports(world: &mut World<ChatLog>, at: Node) -> bool {
             }
         }
     }
-    are_together(world, at)
+    shared_view(world, at).is_some()
 }
 
-/// One of the two, in turn: what the one leaves may well complete by the other.
-fn comes_by_either(world: &mut World<ChatLog>, at: Node) -> bool {
-    if world.events().len() % 2 == 0 {
-        comes_by_reports(world, at)
-    } else {
-        comes_by_hand(world, at)
-    }
+/// How many settlings completed a change, and how many did nothing.
+#[derive(Clone, Copy, Debug)]
+struct Tally {
+    settled: u64,
+    rested: u64,
 }
 
-/// Whether some bytes spell a BEHIND: its kind is 10 (docs/WIRE.md).
-fn is_behind(packet: Option<&Bytes>) -> bool {
-    match packet {
-        None => false,
-        Some(bytes) => bytes.as_slice().get(3) == Some(&10),
-    }
-}
-
-/// Whether a BEHIND is among the packets past so many.
-fn has_behind(world: &World<ChatLog>, past: usize) -> bool {
-    let packets = world.packets();
-    for index in past..packets.len() {
-        if is_behind(packets.get(index)) {
-            return true;
-        }
-    }
-    false
-}
-
-/// What a settling came to.
-#[derive(Clone, Copy, Debug, PartialEq, Eq)]
-enum Outcome {
-    /// The change completed.
-    Settled,
-    /// The member was in the view, and so are the others now.
-    Entered,
-    /// Its proposal was too low, and completed by rounds.
-    Raised,
-    /// It cannot complete, and nothing was done.
-    Rested,
-    /// Anything else.
-    Wrong,
-}
-
-/// What comes where a settling does nothing: the same events by hand complete nothing either.
-fn settle_by_hand(world: &mut World<ChatLog>, at: Node) -> Outcome {
-    if comes_by_either(world, at) {
-        Outcome::Wrong
-    } else {
-        Outcome::Rested
-    }
-}
-
-/// Settles at a node. Rounds are known by the BEHIND that answers the one who is asked: else a settling brings none.
-fn settle(world: &mut World<ChatLog>, at: Node) -> Outcome {
-    let carried = world.events().len();
-    let views = made(world, at);
-    let known = world.packets().len();
-    match world.settle(at) {
-        Ok(true) if !are_together(world, at) => Outcome::Wrong,
-        Ok(true) if made(world, at) == views => Outcome::Entered,
-        Ok(true) if has_behind(world, known) => Outcome::Raised,
-        Ok(true) => Outcome::Settled,
-        Ok(false) if world.events().len() == carried => settle_by_hand(world, at),
-        _ => Outcome::Wrong,
-    }
-}
-
-/// Whether the member at a node is in a view of itself alone, and not blocked.
-fn is_alone(world: &World<ChatLog>, at: Node) -> bool {
-    let Some(member) = world.running(at) else {
-        return false;
-    };
-    let mut alone = false;
-    for event in world.trace().events() {
-        match event {
-            Event::Installed(boxed) if boxed.get().member == member => {
-                alone = boxed.get().view.members().as_slice().len() == 1;
+impl Tally {
+    /// Settles at a node. Where that does nothing, one of the two ways by hand does not either: in turn, as what the one leaves may complete by the other.
+    fn settles_if_it_can(&mut self, world: &mut World<Last>, at: Node) -> bool {
+        match world.settle(at) {
+            Err(_) => false,
+            Ok(true) => {
+                self.settled = self.settled.wrapping_add(1);
+                true
             }
-            Event::Blocked(blocked) if *blocked == member => alone = false,
-            _ => {}
-        }
-    }
-    alone
-}
-
-/// The member at a node suspects each other address.
-fn suspect_all(world: &mut World<ChatLog>, at: Node) {
-    let own = address(world, at);
-    for number in 1..=NODES {
-        for incarnation in 1..=INCARNATIONS {
-            if let Some(other) = Address::new(node(number), incarnation) {
-                if other != own {
-                    let _ = world.run(&[WorldEvent::Suspect(at, other)]);
+            Ok(false) => {
+                self.rested = self.rested.wrapping_add(1);
+                if world.events().len() % 2 == 0 {
+                    !comes_by_reports(world, at)
+                } else {
+                    !comes_by_hand(world, at)
                 }
             }
         }
     }
 }
 
-/// Whether the member at a node comes to stand alone by suspicions.
-fn comes_alone(world: &mut World<ChatLog>, at: Node) -> bool {
-    for _ in 0..PASSES {
-        if is_alone(world, at) {
-            return true;
-        }
-        suspect_all(world, at);
-    }
-    is_alone(world, at)
-}
-
-/// How many settlings came to what.
-#[derive(Clone, Copy, Debug)]
-struct Tally {
-    settled: u64,
-    entered: u64,
-    raised: u64,
-    rested: u64,
-}
-
-impl Tally {
-    /// Settles at a node, and counts it; false if anything else came of it than is promised.
-    fn count(&mut self, world: &mut World<ChatLog>, at: Node) -> bool {
-        match settle(world, at) {
-            Outcome::Settled => self.settled = self.settled.wrapping_add(1),
-            Outcome::Entered => self.entered = self.entered.wrapping_add(1),
-            Outcome::Raised => self.raised = self.raised.wrapping_add(1),
-            Outcome::Rested => self.rested = self.rested.wrapping_add(1),
-            Outcome::Wrong => return false,
-        }
-        true
-    }
-}
-
-/// Starts a member at each node, two of which create views.
-fn start_all(world: &mut World<ChatLog>, random: &mut Random) -> bool {
-    for number in 1..=NODES {
-        if world.run(&[WorldEvent::Start(node(number))]).is_err() {
-            return false;
-        }
-    }
-    let creates = [
-        WorldEvent::Create(random.node()),
-        WorldEvent::Create(random.node()),
-    ];
-    world.run(&creates).is_ok()
-}
-
 /// Some random events.
-fn go_on(world: &mut World<ChatLog>, random: &mut Random) -> bool {
+fn go_on(world: &mut World<Last>, random: &mut Random) -> bool {
     for _ in 0..EVENTS {
         let event = random_event(random, world);
         if world.run(&[event]).is_err() {
@@ -350,51 +192,48 @@ fn go_on(world: &mut World<ChatLog>, random: &mut Random) -> bool {
     true
 }
 
+/// Starts a member at each node, two of which create views, and goes on; whether all changes settle that can.
+fn settles(world: &mut World<Last>, random: &mut Random, tally: &mut Tally) -> bool {
+    let events = [
+        WorldEvent::Start(node(1)),
+        WorldEvent::Start(node(2)),
+        WorldEvent::Start(node(3)),
+        WorldEvent::Start(node(4)),
+        WorldEvent::Create(random.node()),
+        WorldEvent::Create(random.node()),
+    ];
+    if world.run(&events).is_err() {
+        return false;
+    }
+    for _ in 0..ROUNDS {
+        if !(go_on(world, random) && tally.settles_if_it_can(world, random.node())) {
+            return false;
+        }
+    }
+    for number in 1..=NODES {
+        if !tally.settles_if_it_can(world, node(number)) {
+            return false;
+        }
+    }
+    true
+}
+
 #[test]
-fn changes_settle_and_members_come_to_stand_alone(rt: HostRuntime) {
+fn a_change_of_view_settles_exactly_if_it_can(rt: HostRuntime) {
     let mut random = Random { state: 2026 };
     let mut tally = Tally {
         settled: 0,
-        entered: 0,
-        raised: 0,
         rested: 0,
     };
-    let mut alone: u64 = 0;
     for _ in 0..WORLDS {
-        let mut world = World::<ChatLog>::new(rt.alloc());
-        assert!(rt; start_all(&mut world, &mut random), "all start");
-        for _ in 0..ROUNDS {
-            assert!(rt;
-                go_on(&mut world, &mut random),
-                "the events are carried out"
-            );
-            let at = random.node();
-            assert!(rt;
-                tally.count(&mut world, at),
-                "a change settles exactly if it can"
-            );
-        }
-        for number in 1..=NODES {
-            assert!(rt;
-                tally.count(&mut world, node(number)),
-                "a change settles exactly if it can"
-            );
-        }
-        for number in 1..=NODES {
-            if last_install(&world, node(number)).is_some() {
-                assert!(rt;
-                    comes_alone(&mut world, node(number)),
-                    "suspicions leave it alone"
-                );
-                alone = alone.wrapping_add(1);
-            }
-        }
+        let mut world = World::<Last>::new(rt.alloc());
+        assert!(rt;
+            settles(&mut world, &mut random, &mut tally),
+            "a change settles exactly if it can"
+        );
     }
     assert!(rt; tally.settled > 80, "many changes settled");
-    assert!(rt; tally.entered > 5, "INSTALLs that were lost came again");
-    assert!(rt; tally.raised > 2, "some that were too low were raised");
     assert!(rt; tally.rested > 1000, "more did not");
-    assert!(rt; alone > 300, "many came to stand alone");
-    nothing_is_a_dead_end::<ChatLog>();
-    low_proposals_rise::<ChatLog>();
+    nothing_is_a_dead_end::<Last>();
+    low_proposals_rise::<Last>();
 }
