@@ -8,6 +8,7 @@ ghost use Rattle.law_acts.specs.Decisions.{is_readable, gives_some, is_fitting};
 ghost use Rattle.state_chunks.specs.HeldChunks.{given_in};
 ghost use Rattle.sequencer.specs.Forwards.{AreShort};
 ghost use Rattle.traffic.specs.ViewStates.{view_of};
+ghost use Rattle.trace_props.specs.declared.event.Event.TheVariants as event;
 ghost use Rattle.step_output.specs.Outputs.{Grows};
 ghost use Rattle.membership.specs.declared.stop.Stop.TheVariants as stop;
 ghost use Rattle.membership.specs.MemberStates.{view_in, view_core_in};
@@ -134,10 +135,10 @@ pub fn view_from(alloc: Global, roster: &Roster) -> Result<View, AllocError>
 // What is left of the own messages when so many more of them were delivered.
 fn left_of(
     alloc: Global,
-    view_state: Option<ViewState>,
+    view_state: &Option<ViewState>,
     own: usize,
 ) -> Result<HandedBack, AllocError>
-    ensures value { IfOk result (λ h. h ≡ left_in view_state own) }
+    ensures value { IfOk result (λ h. h ≡ left_in view_state.now own) }
     ensures short { IfOk result AreShort }
 {
     match view_state {
@@ -159,34 +160,42 @@ fn id_in(view_state: &Option<ViewState>) -> Option<ViewId>
     }
 }
 
-// Installs the view of an INSTALL: the event is recorded.
-fn install_view(
+/// Installs a view: the event is recorded. After an error for want of memory nothing is said of the output.
+pub(crate) fn install_view(
     who: &Identity,
-    view_state: Option<ViewState>,
+    install: Installed,
+    out: &mut Output,
+) -> Result<(), AllocError>
+    requires short { AreShort install.handed_back }
+    ensures { OnOk result (Grows who.now.group out.old out.new [] (event.Installed install ∷ [])) }
+{
+    let install = BoxedInstall::new(who.alloc, install)?;
+    who.record(Event::Installed(install), out)?;
+    Ok(())
+}
+
+// Installs the view of an INSTALL.
+fn install_promised(
+    who: &Identity,
+    view_state: &Option<ViewState>,
     install: &Install<'_>,
     given: Option<Bytes>,
     own: usize,
     out: &mut Output,
 ) -> Result<(), AllocError>
-    ensures { OnOk result (Grows who.now.group out.old out.new [] (arriving who.now.address view_state install.now given own ∷ [])) }
+    ensures { OnOk result (Grows who.now.group out.old out.new [] (arriving who.now.address view_state.now install.now given own ∷ [])) }
 {
-    let previous = id_in(&view_state);
-    let view = view_from(who.alloc, install.view())?;
     let together = Vec::from_slice(who.alloc, install.together().as_slice())?;
-    let together = Addresses::from_vec(together);
-    let handed_back = left_of(who.alloc, view_state, own)?;
     let install = Installed {
         member: who.address,
-        previous,
-        view,
-        together,
-        handed_back,
+        previous: id_in(view_state),
+        view: view_from(who.alloc, install.view())?,
+        together: Addresses::from_vec(together),
+        handed_back: left_of(who.alloc, view_state, own)?,
         given,
     };
-    who.record(
-        Event::Installed(BoxedInstall::new(who.alloc, install)?),
-        out,
-    )
+    install_view(who, install, out)?;
+    Ok(())
 }
 
 impl<R: Receiver> MemberState<R> {
@@ -222,7 +231,7 @@ impl<R: Receiver> MemberState<R> {
     ) -> Result<(), AllocError>
         ensures { OnOk result (Arrives (who_of who.now) view_state install.now given own (in_step self.old out.old) (in_step self.new out.new)) }
     {
-        install_view(who, view_state, install, given, own, out)?;
+        install_promised(who, &view_state, install, given, own, out)?;
         let view = view_from(who.alloc, install.view())?;
         let _ = self.promise.install(install.view());
         self.notes.clear();

@@ -19,16 +19,18 @@ ghost use Rattle.step_output.specs.Steps.{who_of};
 
 use crate::SentInstall;
 use crate::beginning::others_of;
+use crate::entering::install_view;
 use crate::giving::{form_of, given_state, is_chunked, kept_of, put_given};
+use crate::installing::view_of;
 use crate::sent_install::copied;
 use address::{Address, Bytes, ViewId};
 use flush::Flush;
 use state_transfer::Receiver;
 use std::alloc::{AllocError, Global};
 use step_output::{Identity, Output};
-use trace_props::{BoxedInstall, Delivery, Event, Install as Installed, Message};
-use traffic::ViewState;
-use view::{Addresses, View};
+use trace_props::{Install as Installed, Message};
+use traffic::{ViewState, deliver};
+use view::Addresses;
 use wire::put_entry;
 use wire_values::{Body, Count, Entry, GivenState, Install, Items, Members, Roster};
 
@@ -77,8 +79,8 @@ fn cut_text(alloc: Global, flush: &Flush, previous: &Option<ViewId>) -> Result<C
     }
 }
 
-// Delivers a message.
-fn deliver<R: Receiver>(
+// Delivers a message that a packet lends.
+fn deliver_lent<R: Receiver>(
     who: &Identity,
     view: ViewId,
     entry: &Entry<'_>,
@@ -88,21 +90,13 @@ fn deliver<R: Receiver>(
     ensures state { OnOk result (receiver.new ≡ R.meaning.apply receiver.old entry.now.sender entry.now.payload) }
     ensures out { OnOk result (Grows who.now.group out.old out.new [] (delivery who.now.address view entry.now ∷ [])) }
 {
-    receiver.receive(entry.sender, entry.payload.as_slice())?;
-    let payload = Bytes::from_slice(who.alloc, entry.payload.as_slice())?;
     let message = Message {
         sender: entry.sender,
         number: entry.number.get(),
-        payload,
+        payload: Bytes::from_slice(who.alloc, entry.payload.as_slice())?,
     };
-    who.record(
-        Event::Delivered(Delivery {
-            member: who.address,
-            view,
-            message,
-        }),
-        out,
-    )
+    deliver(who, view, message, receiver, out)?;
+    Ok(())
 }
 
 // Delivers messages, one after the other.
@@ -119,7 +113,7 @@ pub(crate) fn deliver_all<R: Receiver>(
     match entries.split_first() {
         None => Ok(()),
         Some((first, rest)) => {
-            deliver(who, view, first, receiver, out)?;
+            deliver_lent(who, view, first, receiver, out)?;
             deliver_all(who, view, rest, receiver, out)?;
             Ok(())
         }
@@ -288,34 +282,27 @@ fn deliver_cut<R: Receiver>(
     Ok(own_of(&who.address, lacking))
 }
 
-// The creator of a flush installs the view that it proposed: the event is recorded.
-fn install_view(
+// The creator of a flush installs the view that it proposed.
+fn install_proposed(
     who: &Identity,
     flush: &Flush,
-    view_state: ViewState,
+    view_state: &ViewState,
     own: usize,
     out: &mut Output,
 ) -> Result<(), AllocError>
     requires list { view_refusal flush.now.proposal flush.now.members ≡ None }
-    ensures { OnOk result (Grows who.now.group out.old out.new [] (going who.now.address flush.now view_state own ∷ [])) }
+    ensures { OnOk result (Grows who.now.group out.old out.new [] (going who.now.address flush.now view_state.now own ∷ [])) }
 {
-    let previous = view_state.view().id();
-    let members = flush.members().copied(who.alloc)?;
-    let view = View::new(flush.proposal(), members).unwrap();
-    let together = flush.together(who.alloc, &who.address)?;
-    let handed_back = view_state.handed_back(own)?;
     let install = Installed {
         member: who.address,
-        previous: Some(previous),
-        view,
-        together,
-        handed_back,
+        previous: Some(view_state.view().id()),
+        view: view_of(who.alloc, flush)?,
+        together: flush.together(who.alloc, &who.address)?,
+        handed_back: view_state.handed_back(own)?,
         given: None,
     };
-    who.record(
-        Event::Installed(BoxedInstall::new(who.alloc, install)?),
-        out,
-    )
+    install_view(who, install, out)?;
+    Ok(())
 }
 
 // Finishes a flush to which all of its list have reported: what its creator delivers and installs, and what it says to the others. The INSTALLs go
@@ -340,7 +327,7 @@ pub(crate) fn finish<R: Receiver>(
     let own = deliver_cut(who, flush, &view_state, receiver, out)?;
     let given = given_state(who, flush, view, receiver)?;
     let others = others_of(who.alloc, &who.address, flush.members().as_slice())?;
-    install_view(who, flush, view_state, own, out)?;
+    install_proposed(who, flush, &view_state, own, out)?;
     instruct_all(who, flush, view, &given, others.as_slice(), sent, out)?;
     Ok(kept_of(given))
 }

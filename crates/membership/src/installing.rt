@@ -27,8 +27,8 @@ use traffic::ViewState;
 use view::View;
 use wire_values::Roster;
 
-// The view of a flush.
-fn view_of(alloc: Global, flush: &Flush) -> Result<View, AllocError>
+// The view that a flush proposes.
+pub(crate) fn view_of(alloc: Global, flush: &Flush) -> Result<View, AllocError>
     requires list { view_refusal flush.now.proposal flush.now.members ≡ None }
     ensures { IfOk result (λ v. v ≡ proposed flush.now) }
 {

@@ -1,8 +1,10 @@
 //! A message is delivered.
 
-ghost use Rattle.std.specs.Prelude.{◌≡◌, [], ◌∷◌, IfOk, OnOk};
+ghost use Rattle.std.specs.Prelude.{◌≡◌, ◌≤◌, [], ◌∷◌, length, OnOk};
+ghost use Rattle.address.specs.declared.limits.TheConstants.{PAYLOAD};
 ghost use Rattle.law_acts.specs.Acts.{delivery};
 ghost use Rattle.step_output.specs.Outputs.{Grows};
+ghost use Rattle.trace_props.specs.declared.event.Event.TheVariants.{Delivered};
 ghost use Rattle.traffic.specs.ViewStates.{after_delivery};
 
 use address::ViewId;
@@ -13,23 +15,30 @@ use std::alloc::AllocError;
 use step_output::{Identity, Output};
 use trace_props::{Delivery, Event, Message};
 
-// The event of a message that is delivered.
-fn delivery(who: &Identity, view: ViewId, entry: &Entry) -> Result<Event, AllocError>
-    ensures { IfOk result (λ h. h ≡ delivery who.now.address view entry.now) }
+/// Delivers a message that was sent in a view: to the receiver, and as an event. After an error for want of memory nothing is said of either.
+pub fn deliver<R: Receiver>(
+    who: &Identity,
+    view: ViewId,
+    message: Message,
+    receiver: &mut R,
+    out: &mut Output,
+) -> Result<(), AllocError>
+    requires short { length message.payload ≤ PAYLOAD }
+    ensures state { OnOk result (receiver.new ≡ R.meaning.apply receiver.old message.sender message.payload) }
+    ensures happens { OnOk result (Grows who.now.group out.old out.new [] (Delivered (record { member = who.now.address; view = view; message = message }) ∷ [])) }
 {
-    Ok(Event::Delivered(Delivery {
+    receiver.receive(message.sender, message.payload.as_slice())?;
+    let delivery = Delivery {
         member: who.address,
         view,
-        message: Message {
-            sender: entry.sender,
-            number: entry.number.get(),
-            payload: entry.payload.bytes(who.alloc)?,
-        },
-    }))
+        message,
+    };
+    who.record(Event::Delivered(delivery), out)?;
+    Ok(())
 }
 
-/// Delivers a message: to the receiver, and as an event. An own one is outstanding no longer.
-pub(crate) fn deliver<R: Receiver>(
+/// Delivers a message that is kept, whose payload the event shares. An own one is outstanding no longer.
+pub(crate) fn deliver_kept<R: Receiver>(
     who: &Identity,
     view: ViewId,
     entry: &Entry,
@@ -41,9 +50,12 @@ pub(crate) fn deliver<R: Receiver>(
     ensures happens { OnOk result (Grows who.now.group out.old out.new [] (delivery who.now.address view entry.now ∷ [])) }
     ensures left { OnOk result (forwards.new ≡ after_delivery who.now.address entry.now forwards.old) }
 {
-    receiver.receive(entry.sender, entry.payload.lent().as_slice())?;
-    let delivery = delivery(who, view, entry)?;
-    who.record(delivery, out)?;
+    let message = Message {
+        sender: entry.sender,
+        number: entry.number.get(),
+        payload: entry.payload.bytes(who.alloc)?,
+    };
+    deliver(who, view, message, receiver, out)?;
     if entry.sender == who.address {
         forwards.oldest_delivered();
     }

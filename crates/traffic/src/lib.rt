@@ -12,5 +12,6 @@ mod taking;
 mod view_state;
 
 pub use coordinator::Coordinator;
+pub use delivering::deliver;
 pub use follower::Follower;
 pub use view_state::ViewState;

@@ -17,7 +17,7 @@ ghost use Rattle.step_output.specs.Steps.{who_of};
 ghost use Rattle.traffic.specs.InViews.{in_view};
 
 use crate::Coordinator;
-use crate::delivering::deliver;
+use crate::delivering::deliver_kept;
 use address::Address;
 use nak_stream::{Entry, OwnedPayload};
 use state_transfer::Receiver;
@@ -61,7 +61,7 @@ impl Coordinator {
         let Some((place, entry)) = self.orderer.ready(self.window.stable()) else {
             return Ok(None);
         };
-        deliver(
+        deliver_kept(
             who,
             self.view.id(),
             &entry,

@@ -19,7 +19,7 @@ ghost use Rattle.step_output.specs.Steps.{who_of};
 ghost use Rattle.traffic.specs.InViews.{in_view};
 
 use crate::Follower;
-use crate::delivering::deliver;
+use crate::delivering::deliver_kept;
 use crate::sending::say;
 use address::limits::WINDOW;
 use nak_stream::OwnedPayload;
@@ -47,7 +47,7 @@ impl Follower {
         let Some(entry) = self.window.entry(self.window.delivered()) else {
             unreachable!();
         };
-        deliver(
+        deliver_kept(
             who,
             self.view.id(),
             entry,

@@ -46,9 +46,9 @@ returns-clause-out g c =
     ap (λ (u : ViewId). flat_map (instructing me f u c.in_ok-given.given) c.as_slice-2.result.now) view
     ∙ ap (λ (o : Option (List ℕ)). flat_map (instructing me f v o) c.as_slice-2.result.now) given-it
     ∙ ap (flat_map (instructing me f v given)) others in
-    let goes : Grows group c.deliver_cut.new.out c.install_view.new.out [] (going me f t (own_of me (delivered_by f t)) ∷ []) =
-    subst (λ (n : ℕ). Grows group c.deliver_cut.new.out c.install_view.new.out [] (going me f t n ∷ [])) c.in_ok-own.ensures.own c.in_ok-install_view.ensures in
-    let says : Grows group c.install_view.new.out c.instruct_all.new.out (flat_map (instructing me f v given) (others_of me f.members)) [] =
-    subst (λ ps. Grows group c.install_view.new.out c.instruct_all.new.out ps []) to_others c.in_ok-instruct_all.ensures.out in
+    let goes : Grows group c.deliver_cut.new.out c.install_proposed.new.out [] (going me f t (own_of me (delivered_by f t)) ∷ []) =
+    subst (λ (n : ℕ). Grows group c.deliver_cut.new.out c.install_proposed.new.out [] (going me f t n ∷ [])) c.in_ok-own.ensures.own c.in_ok-install_proposed.ensures in
+    let says : Grows group c.install_proposed.new.out c.instruct_all.new.out (flat_map (instructing me f v given) (others_of me f.members)) [] =
+    subst (λ ps. Grows group c.install_proposed.new.out c.instruct_all.new.out ps []) to_others c.in_ok-instruct_all.ensures.out in
     grows-then group c.args.out.now c.deliver_cut.new.out c.instruct_all.new.out [] (flat_map (instructing me f v given) (others_of me f.members)) (map (delivery me v) (delivered_by f t)) (going me f t (own_of me (delivered_by f t)) ∷ [])
-    c.in_ok-own.ensures.out (grows-then group c.deliver_cut.new.out c.install_view.new.out c.instruct_all.new.out [] (flat_map (instructing me f v given) (others_of me f.members)) (going me f t (own_of me (delivered_by f t)) ∷ []) [] goes says)
+    c.in_ok-own.ensures.out (grows-then group c.deliver_cut.new.out c.install_proposed.new.out c.instruct_all.new.out [] (flat_map (instructing me f v given) (others_of me f.members)) (going me f t (own_of me (delivered_by f t)) ∷ []) [] goes says)
