@@ -155,8 +155,8 @@ fn a_long_packet_goes_in_pieces(rt: HostRuntime) {
 
 #[test]
 fn frames_come_in_any_order_and_are_taken_once(rt: HostRuntime) {
-    let (first, second) = (long(&rt, 38_159), long(&rt, 30_000));
-    let (one, two) = (first.as_slice(), second.as_slice());
+    let both = long(&rt, 38_159 + 30_000);
+    let (one, two) = both.as_slice().split_at(both.len().min(38_159));
     let found = sent(&rt, &[(2, one), (2, two)]);
     assert_eq!(rt; found.len(), 29 + 23, "how many frames there are");
     let found = turned(&rt, &found, 1);
@@ -170,8 +170,8 @@ fn frames_come_in_any_order_and_are_taken_once(rt: HostRuntime) {
 
 #[test]
 fn a_packet_that_goes_again_fills_what_was_lost(rt: HostRuntime) {
-    let (first, second) = (long(&rt, 38_159), long(&rt, 38_160));
-    let (one, two) = (first.as_slice(), second.as_slice());
+    let both = long(&rt, 38_159 + 38_160);
+    let (one, two) = both.as_slice().split_at(both.len().min(38_159));
     let found = sent(&rt, &[(2, one), (2, two), (2, one)]);
     assert_eq!(rt; found.len(), 3 * 29, "how many frames there are");
     let left = without(&rt, &found, 5, 2 * 29 + 20);

@@ -11,13 +11,19 @@ use wire_values::{
 };
 
 /// Whether a packet of the group `world` from one address to another is written as a text says in hexadecimal.
-fn is_written(alloc: Global, way: (Address, Address), body: Body<'_>, text: &[u8]) -> bool {
+fn is_written(
+    alloc: Global,
+    source: Address,
+    destination: Address,
+    body: Body<'_>,
+    text: &[u8],
+) -> bool {
     match (GroupName::new(b"world"), unhex(alloc, text)) {
         (Some(group), Ok(bytes)) => {
             let packet = Packet {
                 group,
-                source: way.0,
-                destination: way.1,
+                source,
+                destination,
                 body,
             };
             is_spelled(alloc, &packet, &bytes)
@@ -65,40 +71,39 @@ fn order() -> Option<Body<'static>> {
 fn joins_reports_and_orders_are_written(rt: HostRuntime) {
     let alloc = rt.alloc();
     let (one, two) = (address(1, 1), address(2, 1));
-    let up = (two, one);
-    assert!(rt; is_written(alloc, up, Body::Join, JOIN), "the JOIN");
+    assert!(rt; is_written(alloc, two, one, Body::Join, JOIN), "the JOIN");
     let body = Body::Report {
         proposal: second_view(),
         report: Report::nothing(),
     };
     assert!(rt;
-        is_written(alloc, up, body, REPORT_OF_NONE),
+        is_written(alloc, two, one, body, REPORT_OF_NONE),
         "the REPORT of nothing"
     );
     let body = order().expect(&rt, "the order");
-    assert!(rt; is_written(alloc, (one, two), body, ORDER), "the ORDER");
+    assert!(rt; is_written(alloc, one, two, body, ORDER), "the ORDER");
 }
 
 #[test]
 fn views_and_states_are_written(rt: HostRuntime) {
     let alloc = rt.alloc();
-    let way = (address(1, 1), address(2, 1));
+    let (one, two) = (address(1, 1), address(2, 1));
     let body = Body::Flush(of_two().expect(&rt, "a view"));
-    assert!(rt; is_written(alloc, way, body, FLUSH), "the FLUSH");
+    assert!(rt; is_written(alloc, one, two, body, FLUSH), "the FLUSH");
     let zero = State::new(b"\x00").expect(&rt, "a state");
     let body = install(GivenState::Whole(zero)).expect(&rt, "whole");
     assert!(rt;
-        is_written(alloc, way, body, INSTALL_WITH_STATE),
+        is_written(alloc, one, two, body, INSTALL_WITH_STATE),
         "a whole state"
     );
     let total = Total::new(1_048_576).expect(&rt, "a total");
     let body = install(GivenState::Chunked(total)).expect(&rt, "cut");
     assert!(rt;
-        is_written(alloc, way, body, INSTALL_IN_CHUNKS),
+        is_written(alloc, one, two, body, INSTALL_IN_CHUNKS),
         "a state in chunks"
     );
     let body = state().expect(&rt, "the chunk");
-    assert!(rt; is_written(alloc, way, body, STATE), "the STATE");
+    assert!(rt; is_written(alloc, one, two, body, STATE), "the STATE");
 }
 
 /// Whether a text is a packet of a kind, and is written back.

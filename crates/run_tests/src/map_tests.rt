@@ -28,6 +28,22 @@ fn a_put_that_is_stamped_anew_spells_that_view(rt: HostRuntime) {
     assert!(rt; payload.as_slice() == PUT_A, "the payload");
 }
 
+// Whether a message will be stored under the first version.
+fn will_be_stored(alloc: Global, map: &ReplicatedMap, payload: &[u8]) -> bool {
+    match map.outcome(alloc, payload) {
+        Ok(Outcome::Stored(version)) => version == token(1),
+        _ => false,
+    }
+}
+
+// Whether a key has a value of the first version.
+fn has(map: &ReplicatedMap, key: &[u8], value: &[u8]) -> bool {
+    match map.get(key) {
+        Some(held) => held.value.as_slice() == value && held.version == token(1),
+        None => false,
+    }
+}
+
 #[test]
 fn a_put_is_an_entry_with_the_next_version(rt: HostRuntime) {
     let alloc = rt.alloc();
@@ -37,17 +53,8 @@ fn a_put_is_an_entry_with_the_next_version(rt: HostRuntime) {
     sizes();
     let mut map = ReplicatedMap::opening(alloc).ok().expect(&rt, "a map");
     assert!(rt; map.is_empty(), "no entry yet");
-    match map.outcome(alloc, PUT_A) {
-        Ok(Outcome::Stored(version)) => assert!(rt; version == token(1), "its version"),
-        _ => assert!(rt; false, "it will be stored"),
-    }
+    assert!(rt; will_be_stored(alloc, &map, PUT_A), "what comes of it");
     assert!(rt; map.receive(first_at(1), PUT_A).is_ok(), "there is memory");
-    match map.get(b"a") {
-        Some(held) => assert!(rt;
-            held.value.as_slice() == b"xy".as_slice() && held.version == token(1),
-            "the entry"
-        ),
-        None => assert!(rt; false, "there is an entry"),
-    }
+    assert!(rt; has(&map, b"a", b"xy"), "the entry");
     assert!(rt; map.last() == token(1), "the last version");
 }
