@@ -6,6 +6,7 @@ use replicated_map::{
     sizes, stamps_spell, versions,
 };
 use state_transfer::Receiver;
+use std::alloc::Global;
 
 // By hand from the tables of docs/RECEIVERS.md: put `xy` for `a`, sent in the view 1@1.1.
 const PUT_A: &[u8] = b"\x01\x00\x00\x00\x00\x00\x00\x00\x01\x00\x01\x00\x00\x00\x01\x01a\x00\x02xy";
@@ -30,8 +31,9 @@ fn a_put_that_is_stamped_anew_spells_that_view(rt: HostRuntime) {
 
 // Whether a message will be stored under the first version.
 fn will_be_stored(alloc: Global, map: &ReplicatedMap, payload: &[u8]) -> bool {
-    match map.outcome(alloc, payload) {
-        Ok(Outcome::Stored(version)) => version == token(1),
+    let outcome = map.outcome(alloc, payload);
+    match &outcome {
+        Ok(Outcome::Stored(version)) => *version == token(1),
         _ => false,
     }
 }
