@@ -1,3 +1,2 @@
 pub mod Ids
 pub mod Refusals
-pub mod HeldBytes

@@ -4,6 +4,7 @@ ghost use Rattle.address.specs.declared.limits.TheConstants.{PAYLOAD};
 ghost use Rattle.sequencer.specs.Forwards.{ForwardsModel, no_forwards, pushed, delivered_to, one_delivered, push_refusal, IsForwards, AreShort};
 
 use crate::Forward;
+use address::Bytes;
 use address::limits::{GREATEST_NUMBER, OUTSTANDING, Refusal};
 use nak_stream::OwnedPayload;
 use std::alloc::{AllocError, Global};
@@ -124,7 +125,7 @@ fn numbered(alloc: Global, forward: &Forward) -> Result<Numbered, AllocError>
 {
     Ok(Numbered {
         number: forward.number.get(),
-        payload: forward.payload.bytes(alloc)?,
+        payload: Bytes::from_slice(alloc, forward.payload.lent().as_slice())?,
     })
 }
 

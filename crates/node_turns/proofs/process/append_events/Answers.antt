@@ -13,11 +13,5 @@ loop-event-preserved-in_ok-append_event-2 g c = took-one _ _ _ _ _ _ c.in-Some.e
 pub loop-event-preserved-in_ok-append_event-3 : goal.loop-event-preserved-in_ok-append_event-3
 loop-event-preserved-in_ok-append_event-3 g c = took-one _ _ _ _ _ _ c.in-Some.event c.loop-event.invariant c.in-Some.ensures.first c.happened.ensures.others c.in_ok-append_event.ensures.text
 
-pub loop-event-preserved-in_ok-append_event-4 : goal.loop-event-preserved-in_ok-append_event-4
-loop-event-preserved-in_ok-append_event-4 g c = took-one _ _ _ _ _ _ c.in-Some.event c.loop-event.invariant c.in-Some.ensures.first c.happened.ensures.others c.in_ok-append_event.ensures.text
-
-pub loop-event-preserved-in_ok-append_event-5 : goal.loop-event-preserved-in_ok-append_event-5
-loop-event-preserved-in_ok-append_event-5 g c = took-one _ _ _ _ _ _ c.in-Some.event c.loop-event.invariant c.in-Some.ensures.first c.happened.ensures.others c.in_ok-append_event.ensures.text
-
 pub loop-event-preserved : goal.loop-event-preserved
 loop-event-preserved g c = took-one _ _ _ _ _ _ c.in-Some.event c.loop-event.invariant c.in-Some.ensures.first c.happened.ensures.others c.in_ok-append_event.ensures.text

@@ -35,18 +35,6 @@ loop-event-preserved-in_ok-append-3 g c = (
   (noted-keeps _ _ _ c.in-Some.event c.loop-event.invariant.1.0 c.in_ok-append.ensures.unsaid, c.hear.ensures ∙ c.loop-event.invariant.1.1),
 )
 
-pub loop-event-preserved-in_ok-append-4 : goal.loop-event-preserved-in_ok-append-4
-loop-event-preserved-in_ok-append-4 g c = (
-  told-one _ _ _ _ _ _ _ _ _ c.in-Some.event c.loop-event.invariant.0 c.in-Some.ensures.first c.happened.ensures.others c.in_ok-append.ensures.text c.append.ensures.voice,
-  (noted-keeps _ _ _ c.in-Some.event c.loop-event.invariant.1.0 c.in_ok-append.ensures.unsaid, c.hear.ensures ∙ c.loop-event.invariant.1.1),
-)
-
-pub loop-event-preserved-in_ok-append-5 : goal.loop-event-preserved-in_ok-append-5
-loop-event-preserved-in_ok-append-5 g c = (
-  told-one _ _ _ _ _ _ _ _ _ c.in-Some.event c.loop-event.invariant.0 c.in-Some.ensures.first c.happened.ensures.others c.in_ok-append.ensures.text c.append.ensures.voice,
-  (noted-keeps _ _ _ c.in-Some.event c.loop-event.invariant.1.0 c.in_ok-append.ensures.unsaid, c.hear.ensures ∙ c.loop-event.invariant.1.1),
-)
-
 pub loop-event-preserved : goal.loop-event-preserved
 loop-event-preserved g c = (
   told-one _ _ _ _ _ _ _ _ _ c.in-Some.event c.loop-event.invariant.0 c.in-Some.ensures.first c.happened.ensures.others c.in_ok-append.ensures.text c.append.ensures.voice,

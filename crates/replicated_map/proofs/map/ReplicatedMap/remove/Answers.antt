@@ -18,17 +18,3 @@ invariant_of-self c =
     let value : length c.as_slice-in-Held-2.result.now ≡ length x.value.value = ap length c.as_slice-in-Held-2.ensures in
     let r = removes-held c.self.inside.last s c.remove-entry.new.self.items k i x c.self.inside.size held stands less c.self.invariant in
     (r.0, omega (arith, key, value, r.1))
-
-pub invariant_of-self-in-Held-2 : goal.invariant_of-self-in-Held-2
-invariant_of-self-in-Held-2 c =
-    let s = c.self.inside.entries.items in
-    let k = c.args.key.now in
-    let i = c.in-Held.i in
-    let x = c.remove-entry.result in
-    let held : IsHeldAt k s i = rw (c.as_slice.ensures.value) at c.in-Held.ensures in
-    let stands : slice_get s i ≡ Some x = slice_get_read s (length s) i x refl held.within c.remove-entry.ensures.value in
-    let less : c.remove-entry.new.self.items ≡ remove s i = c.remove-entry.ensures.items in
-    let key : length c.as_slice-in-Held.result.now ≡ length x.key = ap length c.as_slice-in-Held.ensures in
-    let value : length c.as_slice-in-Held-2.result.now ≡ length x.value.value = ap length c.as_slice-in-Held-2.ensures in
-    let r = removes-held c.self.inside.last s c.remove-entry.new.self.items k i x c.self.inside.size held stands less c.self.invariant in
-    (r.0, omega (arith, key, value, r.1))
