@@ -142,20 +142,21 @@ def star_around_another(group):
 
 @accident(3, limit=90)
 def coordinator_sleeps_again_and_again(group):
-    """The coordinator of the view sleeps six times for one to three seconds. What the two others say is told to all, once."""
+    """The coordinator of the view sleeps six times for one to three seconds. What the two others say is told to all, once; but one that parted from the other too, and gave way, began
+    again, and what it said alone may be lost."""
     group.come_together()
     group.talk()
     said = []
     for turn in range(6):
         first = next(node for node in group.all() if node.address == group[1].members[0])
-        others = [node.number for node in group.all() if node is not first]
+        others = [(node, node.address, f"turn {turn} of {node.number}") for node in group.all() if node is not first]
         first.stop()
-        for number in others:
-            said.append(f"turn {turn} of {number}")
-            group[number].say(said[-1])
+        for node, _, line in others:
+            node.say(line)
         group.wait(1 + turn % 3)
         first.go_on()
         group.one_view(within=15)
+        said += [line for node, address, line in others if node.address == address]
         group.told(said, within=10)
     group.expect(all(node.count(line) == 1 for node in group.all() for line in said), "a line is there twice")
     group.talk()
