@@ -10,7 +10,6 @@ use trace_props::{Delivery, Install};
 
 /// What a node knows by the events of its member: the member's view, how many messages it delivered there, a copy of the state at that place, and
 /// which ticket waits for which of its own messages.
-#[derive(Debug, Drop)]
 pub struct FollowedMember<R: Replica> {
     alloc: Global,
     own: Address,
@@ -18,6 +17,19 @@ pub struct FollowedMember<R: Replica> {
     place: u64,
     copy: R,
     waiting: Vec<Waiting>,
+}
+
+impl<R: Replica> Drop for FollowedMember<R> {
+    fn drop(self) {
+        let FollowedMember {
+            alloc: _,
+            own: _,
+            view: _,
+            place: _,
+            copy: _,
+            waiting: _,
+        } = self;
+    }
 }
 
 impl<R: Replica> Model for FollowedMember<R> {

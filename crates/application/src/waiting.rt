@@ -4,7 +4,7 @@ ghost use Rattle.std.specs.Prelude.{◌≡◌, position};
 ghost use Rattle.application.specs.Waits.{waits_for, ticket_of, others_of};
 
 /// A ticket that waits for a message of its member: the message's number in the view, and the ticket for which it was sent.
-#[derive(Clone, Copy, Debug, Drop)]
+#[derive(Clone, Copy, Drop)]
 pub struct Waiting {
     pub number: u64,
     pub ticket: u64,

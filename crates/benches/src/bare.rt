@@ -25,7 +25,6 @@ const NODES: usize = 5;
 
 /// What carries datagrams, with no member. What a datagram is, is told by its length; its first byte is the number of who sent it. Node 1 orders no more than members do of what
 /// lacks an acknowledgement, so that no socket's buffer overflows.
-#[derive(Drop)]
 pub(crate) struct Bare<N: Carrier> {
     net: N,
     node: Node,
@@ -37,6 +36,21 @@ pub(crate) struct Bare<N: Carrier> {
     acknowledged: [u64; NODES],
     buffer: Vec<u8>,
     packet: Vec<u8>,
+}
+
+impl<N: Carrier> Drop for Bare<N> {
+    fn drop(self) {
+        let Bare {
+            net: _,
+            node: _,
+            outstanding: _,
+            forwarded: _,
+            ordered: _,
+            acknowledged: _,
+            buffer: _,
+            packet: _,
+        } = self;
+    }
 }
 
 // The node of a number.

@@ -18,11 +18,20 @@ use udp_net::{Settings, SocketNet};
 const LISTENS: u64 = 64;
 
 /// A member over a socket, with a chat as its receiver.
-#[derive(Drop)]
 pub(crate) struct Member<C: Carrier> {
     alloc: Global,
     member: Runner<C, ChatLog>,
     listens: u64,
+}
+
+impl<C: Carrier> Drop for Member<C> {
+    fn drop(self) {
+        let Member {
+            alloc: _,
+            member: _,
+            listens: _,
+        } = self;
+    }
 }
 
 // Connects the channel of a node: that of node 1 makes the group, and the others join it.
@@ -120,12 +129,11 @@ impl<C: Carrier> Member<C> {
     /// Takes what happened; for each message that was delivered is appended whether it is its own.
     pub(crate) fn deliver(&mut self, delivered: &mut Vec<bool>) -> io::Result<()> {
         for _ in 0..u64::MAX {
-            match self.member.channel().happened() {
-                Some(Event::Delivered(delivery)) => {
-                    delivered.push(delivery.message.sender == delivery.member)?;
-                }
-                Some(_other) => {}
-                None => break,
+            let Some(event) = self.member.channel().happened() else {
+                break;
+            };
+            if let Event::Delivered(delivery) = &event {
+                delivered.push(delivery.message.sender == delivery.member)?;
             }
         }
         Ok(())

@@ -23,10 +23,18 @@ const AFTER: u64 = 300;
 type Member = Runner<SocketNet, LongChat>;
 
 /// The members of this process, with a pause between two rounds of each or none.
-#[derive(Drop)]
 struct Party {
     members: Vec<Member>,
     has_pauses: bool,
+}
+
+impl Drop for Party {
+    fn drop(self) {
+        let Party {
+            members: _,
+            has_pauses: _,
+        } = self;
+    }
 }
 
 // The member of a node over its socket: that of node 1 makes the group, and the others join it.

@@ -13,13 +13,22 @@ use udp_net::{Settings, SocketNet};
 const TICK: u64 = 20;
 
 /// A member that waits for datagrams.
-#[derive(Drop)]
 pub(crate) struct Live<C: Carrier> {
     member: Member<C>,
     // When its next round is due.
     due: Duration,
     // Whether it heard or sent something since it last went to sleep.
     is_busy: bool,
+}
+
+impl<C: Carrier> Drop for Live<C> {
+    fn drop(self) {
+        let Live {
+            member: _,
+            due: _,
+            is_busy: _,
+        } = self;
+    }
 }
 
 impl<C: Carrier> Party for Live<C> {

@@ -57,7 +57,6 @@ struct Delivered {
 }
 
 /// A node of this process: the nanoseconds at which it sent each of its messages, how many of these were delivered to it, and all that were.
-#[derive(Drop)]
 pub(crate) struct Runs<P: Party> {
     number: u16,
     party: P,
@@ -66,6 +65,19 @@ pub(crate) struct Runs<P: Party> {
     delivered: Vec<Delivered>,
     // Whether it is its own, of each that was just delivered.
     heard: Vec<bool>,
+}
+
+impl<P: Party> Drop for Runs<P> {
+    fn drop(self) {
+        let Runs {
+            number: _,
+            party: _,
+            sent: _,
+            own: _,
+            delivered: _,
+            heard: _,
+        } = self;
+    }
 }
 
 // The nanoseconds since some moment that is the same for all processes.

@@ -17,7 +17,7 @@ pub fn known_bytes(bytes: &[u8])
 
 /// What is left of some bytes. Each call takes a value off the front, and the reader goes on behind it. Where there is no such value the call
 /// answers `None` and leaves the reader as it was.
-#[derive(Debug, Drop)]
+#[derive(Drop)]
 pub struct Reader<'a> {
     rest: &'a [u8],
 }

@@ -26,13 +26,24 @@ use view::View;
 /// `address`, `outgoing` and `happened` answer always.
 ///
 /// An error changes nothing, but two: after 6 and 7 the channel has ended, what the step would have put out is dropped, and what waited before waits on.
-#[derive(Drop)]
 pub struct Channel<R: Receiver> {
     alloc: Global,
     address: Address,
     stage: Stage<R>,
     outgoing: VecDeque<Outgoing>,
     happened: VecDeque<Event>,
+}
+
+impl<R: Receiver> Drop for Channel<R> {
+    fn drop(self) {
+        let Channel {
+            alloc: _,
+            address: _,
+            stage: _,
+            outgoing: _,
+            happened: _,
+        } = self;
+    }
 }
 
 impl<R: Receiver> Model for Channel<R> {

@@ -18,7 +18,7 @@ const FLUSH: &[u8] = b"56530309 05 776f726c64 000100000001 000200000001
     0000000000000002 000100000001 02 000100000001 000200000001";
 
 /// How a channel stands.
-#[derive(Clone, Copy, Debug, PartialEq, Eq)]
+#[derive(Clone, Copy)]
 pub enum Stand {
     /// 1.1 in the view 2@1.1 with 2.1.
     Coordinator,

@@ -14,7 +14,7 @@ use std::alloc::{AllocError, Global};
 use std::collections::VecDeque;
 
 /// A line, its payload in lent bytes.
-#[derive(Debug, Drop)]
+#[derive(Drop)]
 struct LentLine<'a> {
     sender: Address,
     payload: &'a [u8],

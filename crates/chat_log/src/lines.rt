@@ -6,7 +6,7 @@ use std::alloc::AllocError;
 use std::collections::VecDeque;
 
 /// A line of the chat: who said it, and what, at most `PAYLOAD` bytes (docs/RECEIVERS.md, "The chat's state").
-#[derive(Debug, Drop)]
+#[derive(Drop)]
 pub struct Line {
     /// Who said it.
     pub sender: Address,

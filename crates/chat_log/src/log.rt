@@ -25,7 +25,7 @@ pub type LongChat = LastLines<Long>;
 
 /// A copy of a chat: the last lines that were said, at most as many as its size says, the oldest first. Contracts see it
 /// as that list (docs/RECEIVERS.md, "The chat's state").
-#[derive(Debug, Drop)]
+#[derive(Drop)]
 pub struct LastLines<L: ChatSize> {
     lines: VecDeque<Line>,
     size: PhantomData<L>,

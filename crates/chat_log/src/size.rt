@@ -22,7 +22,7 @@ pub trait ChatSize: Drop {
 }
 
 /// The size of a `ChatLog`: `LINES` lines, their number in one byte.
-#[derive(Debug, Drop)]
+#[derive(Drop)]
 pub struct Short;
 
 impl ChatSize for Short {
@@ -38,7 +38,7 @@ impl ChatSize for Short {
 }
 
 /// The size of a `LongChat`: `LONG_LINES` lines, their number in two bytes.
-#[derive(Debug, Drop)]
+#[derive(Drop)]
 pub struct Long;
 
 impl ChatSize for Long {

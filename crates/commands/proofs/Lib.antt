@@ -1,4 +1,3 @@
-pub mod RunsPrint
 pub mod SettledRuns
 pub mod StateLinesFollow
 pub mod ChecksEnd

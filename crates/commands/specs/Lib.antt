@@ -1,4 +1,3 @@
-pub mod Outcomes
 pub mod Checks
 pub mod States
 pub mod Packets

@@ -6,7 +6,7 @@ use Rattle.script_reader.specs.declared.script.Script.{Script}
 use Rattle.endings.specs.declared.status.Status.{Status}
 use Rattle.script_reader.specs.Script.{as_written}
 use Rattle.endings.specs.Outcomes.{IsScriptText, IsAnswer}
-use Rattle.commands.specs.Outcomes.{IsEndText}
+use Rattle.script_runs.specs.Outcomes.{IsEndText}
 
 -- the texts of the packets that were put out in a script's run, in order
 abbrev pub IsPacketText : {S : Type 0} → Meaning S → Script → Status → List ℕ → Type 0

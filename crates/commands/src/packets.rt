@@ -3,9 +3,9 @@ ghost use Rattle.vsync_text.specs.PacketText.{packet_lines};
 ghost use Rattle.endings.specs.Outcomes.{Written, IsLinesText};
 ghost use Rattle.commands.specs.Packets.{IsPacketText, RunsPackets};
 
-use crate::scripts::script_from;
 use endings::{Status, end_in_memory, end_with_lines};
 use script_reader::{AsWritten, Script};
+use script_runs::script_from;
 use state_transfer::Receiver;
 use std::alloc::Global;
 use std::io::{Read, Write};

@@ -21,7 +21,7 @@ use trace_props::{Event, Rule, Trace, Verdict};
 use vsync_text::append_event;
 
 /// Why texts are not read.
-#[derive(Clone, Copy, Debug)]
+#[derive(Clone, Copy)]
 pub enum UnreadIn {
     /// The number of the first of them with a fault, from 1, and its first one, with the number of its line.
     Fault {

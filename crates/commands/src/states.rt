@@ -5,11 +5,11 @@ ghost use Rattle.std.specs.List.{concat};
 ghost use Rattle.endings.specs.Outcomes.{Written, IsLinesText};
 ghost use Rattle.commands.specs.States.{state_line_at, state_lines_of, IsStatesText, RunsStates};
 
-use crate::scripts::script_from;
 use address::Node;
 use application::{Application, append_line};
 use endings::{Status, end_in_memory, end_with_lines};
 use script_reader::Script;
+use script_runs::script_from;
 use std::alloc::{AllocError, Global};
 use std::io::{Read, Write};
 use world::World;

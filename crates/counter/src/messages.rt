@@ -62,7 +62,7 @@ impl Unsent {
 /// Takes all that happened in a channel. What an installed view hands back waits to be sent again.
 pub fn taken_back(channel: &mut Channel<Counter>, unsent: &mut Unsent) -> io::Result<()> {
     while let Some(event) = channel.happened() {
-        if let Event::Installed(install) = event {
+        if let Event::Installed(install) = &event {
             unsent.take_back(&install.get().handed_back)?;
         }
     }

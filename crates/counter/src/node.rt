@@ -21,12 +21,22 @@ const LISTENS: u32 = 4_096;
 const SEEK: u64 = 50;
 
 /// A node that counts with its group.
-#[derive(Drop)]
 pub struct CountingNode<N: Net> {
     runner: Runner<N, Counter>,
     unsent: Unsent,
     has_ended: bool,
     shown: Option<u64>,
+}
+
+impl<N: Net> Drop for CountingNode<N> {
+    fn drop(self) {
+        let CountingNode {
+            runner: _,
+            unsent: _,
+            has_ended: _,
+            shown: _,
+        } = self;
+    }
 }
 
 impl<N: Net> CountingNode<N> {

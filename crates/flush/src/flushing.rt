@@ -16,12 +16,22 @@ use view::Addresses;
 use wire_values::{Count, Entry, Report};
 
 /// A flush: a proposal, its list, and the reports of those of the list who reported, in order of arrival (docs/PROTOCOL.md, "Flush").
-#[derive(Drop)]
 pub struct Flush {
     alloc: Global,
     proposal: ViewId,
     members: Addresses,
     reports: IndexMap<Address, OwnedReport>,
+}
+
+impl Drop for Flush {
+    fn drop(self) {
+        let Flush {
+            alloc: _,
+            proposal: _,
+            members: _,
+            reports: _,
+        } = self;
+    }
 }
 
 impl Model for Flush {

@@ -28,7 +28,6 @@ use udp_net::{Fault, Net, NodePort};
 /// packets for a node wait and go together: with a flush, before a wait, and when no more of them have a place in the frame. What waits for several nodes at a flush, and is the same but
 /// for six bytes, goes in one frame that is sealed once. A packet that has no place in one frame goes in pieces, and is given when all of them came; one that was lost may come when the
 /// packet is sent again.
-#[derive(Drop)]
 pub struct FramedNet<N: Net> {
     alloc: Global,
     inner: N,
@@ -40,6 +39,22 @@ pub struct FramedNet<N: Net> {
     buffer: Vec<u8>,
     refused: u64,
     lost: u64,
+}
+
+impl<N: Net> Drop for FramedNet<N> {
+    fn drop(self) {
+        let FramedNet {
+            alloc: _,
+            inner: _,
+            seal: _,
+            outlets: _,
+            several: _,
+            opener: _,
+            buffer: _,
+            refused: _,
+            lost: _,
+        } = self;
+    }
 }
 
 impl<N: Net> Model for FramedNet<N> {
@@ -273,10 +288,20 @@ impl<N: Net> FramedNet<N> {
     }
 
     /// The net that it is over, once what waits is offered.
-    pub fn into_inner(self) -> N {
-        let mut net = self;
-        net.flush();
-        net.inner
+    pub fn into_inner(mut self) -> N {
+        self.flush();
+        let FramedNet {
+            alloc: _,
+            inner,
+            seal: _,
+            outlets: _,
+            several: _,
+            opener: _,
+            buffer: _,
+            refused: _,
+            lost: _,
+        } = self;
+        inner
     }
 
     // Gives the first packet that was opened, if one waits.

@@ -23,7 +23,6 @@ use hmac::Key;
 use std::alloc::{AllocError, Global};
 
 /// The frames that came for a node: who sent them, the long packets of which some pieces came, and the packets that were opened and not given yet.
-#[derive(Drop)]
 pub(crate) struct Opener {
     alloc: Global,
     node: Node,
@@ -34,6 +33,20 @@ pub(crate) struct Opener {
     opened: Row,
     // The last packet that was read of a content.
     last: Vec<u8>,
+}
+
+impl Drop for Opener {
+    fn drop(self) {
+        let Opener {
+            alloc: _,
+            node: _,
+            peers: _,
+            several: _,
+            partials: _,
+            opened: _,
+            last: _,
+        } = self;
+    }
 }
 
 impl Opener {

@@ -38,7 +38,6 @@ pub(crate) struct Seal {
 }
 
 /// The way to a node: how many frames and which long packets went there, and the packets that wait to go together in the next frame.
-#[derive(Drop)]
 pub(crate) struct Outlet {
     node: Node,
     frames: u64,
@@ -46,6 +45,18 @@ pub(crate) struct Outlet {
     waiting: Row,
     // What they are in a frame.
     content: Vec<u8>,
+}
+
+impl Drop for Outlet {
+    fn drop(self) {
+        let Outlet {
+            node: _,
+            frames: _,
+            longs: _,
+            waiting: _,
+            content: _,
+        } = self;
+    }
 }
 
 impl Model for Outlet {

@@ -8,7 +8,6 @@ use std::alloc::{AllocError, Global};
 use std::marker::Model;
 
 /// Packets, which lie one behind another in one vector, so that none of them takes memory of its own. Contracts see the list of those that were not given yet.
-#[derive(Drop)]
 pub(crate) struct Row {
     bytes: Vec<u8>,
     lengths: Vec<usize>,
@@ -17,6 +16,18 @@ pub(crate) struct Row {
     start: usize,
     // Where the last one begins.
     last: usize,
+}
+
+impl Drop for Row {
+    fn drop(self) {
+        let Row {
+            bytes: _,
+            lengths: _,
+            given: _,
+            start: _,
+            last: _,
+        } = self;
+    }
 }
 
 impl Model for Row {

@@ -23,7 +23,6 @@ const TOO_MANY: &[u8] =
     b"HTTP/1.1 503 Service Unavailable\r\nconnection: close\r\nretry-after: 1\r\ncontent-length: 0\r\n\r\n";
 
 /// The socket that listens, and the wait for it and for all connections.
-#[derive(Drop)]
 pub(crate) struct Door {
     poll: Poll,
     events: Events,
@@ -31,6 +30,18 @@ pub(crate) struct Door {
     next: usize,
     /// Whether somebody may stand before it.
     pub(crate) has_callers: bool,
+}
+
+impl Drop for Door {
+    fn drop(self) {
+        let Door {
+            poll: _,
+            events: _,
+            listener: _,
+            next: _,
+            has_callers: _,
+        } = self;
+    }
 }
 
 impl Door {

@@ -6,13 +6,23 @@ use std::alloc::{AllocError, Global};
 use std::collections::VecDeque;
 
 /// The last changes of the map, each with the place behind which it stands.
-#[derive(Drop)]
 pub(crate) struct Changes {
     alloc: Global,
     // The place behind which they begin, and the one of the last.
     first: Option<Tag>,
     last: Option<Tag>,
     log: VecDeque<(Tag, Vec<u8>)>,
+}
+
+impl Drop for Changes {
+    fn drop(self) {
+        let Changes {
+            alloc: _,
+            first: _,
+            last: _,
+            log: _,
+        } = self;
+    }
 }
 
 /// What changed behind a place.

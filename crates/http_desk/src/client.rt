@@ -24,7 +24,7 @@ const READ: usize = 8_192;
 const STEPS: u32 = 16;
 
 /// How far a connection went.
-#[derive(Clone, Copy, PartialEq, Eq)]
+#[derive(Clone, Copy)]
 pub(crate) enum Step {
     /// It asks something, and waits for its answer.
     Asks,
@@ -60,7 +60,6 @@ pub(crate) enum Hold {
 }
 
 /// A connection, and what its peer waits for.
-#[derive(Drop)]
 pub(crate) struct Client {
     alloc: Global,
     keeps: Keeps,
@@ -81,6 +80,26 @@ pub(crate) struct Client {
     /// When something was last read.
     pub(crate) heard: Duration,
     buffer: Vec<u8>,
+}
+
+impl Drop for Client {
+    fn drop(self) {
+        let Client {
+            alloc: _,
+            keeps: _,
+            id: _,
+            stream: _,
+            ahead: _,
+            server: _,
+            asked: _,
+            hold: _,
+            is_due: _,
+            is_over: _,
+            is_readable: _,
+            heard: _,
+            buffer: _,
+        } = self;
+    }
 }
 
 fn config() -> Config {

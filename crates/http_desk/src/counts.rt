@@ -8,7 +8,6 @@ use trace_props::{Event, Install};
 use view::Addresses;
 
 /// What happened at the node so far, and how it stands.
-#[derive(Drop)]
 pub(crate) struct Counts {
     alloc: Global,
     own: Address,
@@ -30,6 +29,27 @@ pub(crate) struct Counts {
     pub(crate) requests: u64,
     /// How many requests were carried out as messages.
     pub(crate) writes: u64,
+}
+
+impl Drop for Counts {
+    fn drop(self) {
+        let Counts {
+            alloc: _,
+            own: _,
+            view: _,
+            place: _,
+            members: _,
+            blocked: _,
+            sent: _,
+            delivered: _,
+            views: _,
+            merges: _,
+            lost: _,
+            seen: _,
+            requests: _,
+            writes: _,
+        } = self;
+    }
 }
 
 impl Counts {

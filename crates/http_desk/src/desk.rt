@@ -28,7 +28,6 @@ use trace_props::{Delivery, Event};
 const ACCEPTS: u32 = 16;
 
 /// Answers requests of HTTP for a node (docs/HTTP.md).
-#[derive(Drop)]
 pub struct HttpDesk {
     pub(crate) alloc: Global,
     pub(crate) own: Address,
@@ -52,6 +51,31 @@ pub struct HttpDesk {
     pub(crate) has_ended: bool,
     has_more: bool,
     pub(crate) now: Duration,
+}
+
+impl Drop for HttpDesk {
+    fn drop(self) {
+        let HttpDesk {
+            alloc: _,
+            own: _,
+            says_again: _,
+            door: _,
+            keys: _,
+            clients: _,
+            connections: _,
+            kept: _,
+            changes: _,
+            history: _,
+            counts: _,
+            writes: _,
+            stable: _,
+            replies: _,
+            tickets: _,
+            has_ended: _,
+            has_more: _,
+            now: _,
+        } = self;
+    }
 }
 
 // The keys that a message may change.

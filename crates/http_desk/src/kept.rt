@@ -12,7 +12,7 @@ use std::alloc::{AllocError, Global};
 use trace_props::Event;
 
 /// What a node keeps for which a desk answers.
-#[derive(Clone, Copy, PartialEq, Eq)]
+#[derive(Clone, Copy)]
 pub enum Keeps {
     /// The map.
     Map,
@@ -23,11 +23,20 @@ pub enum Keeps {
 }
 
 /// The service of what a node keeps.
-#[derive(Drop)]
 pub(crate) enum Kept {
     Map(MapService),
     Locks(LockService),
     Nothing,
+}
+
+impl Drop for Kept {
+    fn drop(self) {
+        match self {
+            Kept::Map(_) => {}
+            Kept::Locks(_) => {}
+            Kept::Nothing => {}
+        }
+    }
 }
 
 // The line that says a command to the locks; nothing for a roll, which nobody asks for.

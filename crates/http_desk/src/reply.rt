@@ -12,7 +12,7 @@ use replicated_map::Held;
 use std::alloc::{AllocError, Global};
 
 /// What a body is.
-#[derive(Clone, Copy, PartialEq, Eq)]
+#[derive(Clone, Copy)]
 pub(crate) enum Media {
     Bytes,
     Text,
@@ -37,7 +37,6 @@ impl Media {
 }
 
 /// An answer.
-#[derive(Drop)]
 pub(crate) struct Reply {
     pub(crate) status: StatusCode,
     pub(crate) media: Media,
@@ -46,6 +45,18 @@ pub(crate) struct Reply {
     /// The view and the place that it speaks of.
     pub(crate) place: Option<Vec<u8>>,
     pub(crate) body: Vec<u8>,
+}
+
+impl Drop for Reply {
+    fn drop(self) {
+        let Reply {
+            status: _,
+            media: _,
+            tag: _,
+            place: _,
+            body: _,
+        } = self;
+    }
 }
 
 // What a status says in words.

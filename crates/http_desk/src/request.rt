@@ -20,7 +20,7 @@ pub(crate) struct Order {
 }
 
 /// What a request asks.
-#[derive(PartialEq, Eq, Drop)]
+#[derive(PartialEq, Eq)]
 pub(crate) enum Asked {
     /// The value of a key.
     Value(Vec<u8>),
@@ -46,6 +46,25 @@ pub(crate) enum Asked {
     Page,
     /// Nothing that a desk does.
     Refused(Refusal),
+}
+
+impl Drop for Asked {
+    fn drop(self) {
+        match self {
+            Asked::Value(_) => {}
+            Asked::Write(_) => {}
+            Asked::Entries => {}
+            Asked::Changes(_) => {}
+            Asked::Lock(_) => {}
+            Asked::Locks => {}
+            Asked::Status => {}
+            Asked::Metrics => {}
+            Asked::Events => {}
+            Asked::Picture => {}
+            Asked::Page => {}
+            Asked::Refused(_) => {}
+        }
+    }
 }
 
 /// What can only be read.

@@ -37,11 +37,20 @@ impl Write {
 }
 
 /// Those whose lines the node has not taken, those that it is to send, and those that it sent, each in their order.
-#[derive(Drop)]
 pub(crate) struct Writes {
     asked: VecDeque<Write>,
     told: VecDeque<Write>,
     sent: VecDeque<Write>,
+}
+
+impl Drop for Writes {
+    fn drop(self) {
+        let Writes {
+            asked: _,
+            told: _,
+            sent: _,
+        } = self;
+    }
 }
 
 // Puts those of a queue that go on behind another one.

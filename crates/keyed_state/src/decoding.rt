@@ -10,7 +10,7 @@ use std::alloc::{AllocError, Global};
 use std::cmp::Ordering;
 
 /// The last token that was given, and the entries, their keys rising.
-#[derive(Debug, Drop)]
+#[derive(Drop)]
 pub struct Contents<V> {
     /// The last token that was given.
     pub last: Token,

@@ -12,7 +12,7 @@ use std::cmp::Ordering;
 pub const KEY: usize = 64;
 
 /// A key and its value.
-#[derive(Debug, Drop)]
+#[derive(Drop)]
 pub struct KeyedEntry<V> {
     /// The key.
     pub key: Bytes,
@@ -21,7 +21,7 @@ pub struct KeyedEntry<V> {
 }
 
 /// Where the entry of a key stands among others, or where it would.
-#[derive(Clone, Copy, Debug)]
+#[derive(Clone, Copy)]
 pub enum Place {
     /// An entry of the key stands at this index.
     Held(usize),

@@ -8,7 +8,7 @@ use big_endian::{Reader, put, put_u8};
 use std::marker::Model;
 
 /// A key in lent bytes, 1 to `KEY` of them.
-#[derive(Debug, Drop)]
+#[derive(Drop)]
 pub struct KeyBytes<'a> {
     key: &'a [u8],
 }

@@ -9,7 +9,7 @@ use std::marker::Model;
 
 /// Keeps the greatest token that it served, and refuses each lower one (docs/RECEIVERS.md, "The table of locks"). Contracts see it as that token; `None` before the first.
 /// A server of a locked resource has one guard for each resource, and asks it at each request.
-#[derive(Debug, Drop)]
+#[derive(Drop)]
 pub struct Guard {
     greatest: Option<Token>,
 }

@@ -40,7 +40,7 @@ pub struct Answer {
 }
 
 /// Who waits until the member holds the lock of this name.
-#[derive(Debug, Drop)]
+#[derive(Drop)]
 pub struct Queued {
     pub ticket: u64,
     pub name: Bytes,

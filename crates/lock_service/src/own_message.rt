@@ -11,7 +11,7 @@ use lock_table::{Command, LockTable};
 use std::alloc::{AllocError, Global};
 
 // What an own message comes to, as far as the table right before it says so.
-#[derive(Debug, Drop)]
+#[derive(Drop)]
 pub(crate) enum Early {
     // Its ticket is told so.
     Told(Fate),

@@ -15,12 +15,22 @@ use trace_props::{Delivery, Event, Install};
 
 /// What a node knows by the events of its member, with a copy of the table of locks; which ticket waits for which lock; and the answers that nobody has
 /// taken.
-#[derive(Debug, Drop)]
 pub struct LockService {
     alloc: Global,
     followed: FollowedMember<LockTable>,
     queued: Vec<Queued>,
     answers: Vec<Answer>,
+}
+
+impl Drop for LockService {
+    fn drop(self) {
+        let LockService {
+            alloc: _,
+            followed: _,
+            queued: _,
+            answers: _,
+        } = self;
+    }
 }
 
 impl Model for LockService {

@@ -15,7 +15,7 @@ use std::alloc::{AllocError, Global};
 use view::View;
 
 /// What a message asks of the table (docs/RECEIVERS.md, "The commands of the table of locks").
-#[derive(Debug, Drop)]
+#[derive(Drop)]
 pub enum Command<'a> {
     /// Its sender asks for the lock of this name: it holds it, or waits.
     Acquire {

@@ -15,7 +15,7 @@ use std::alloc::{AllocError, Global};
 use view::View;
 
 // The last token that was granted, and the locks that are held, their names rising.
-#[derive(Debug, Drop)]
+#[derive(Drop)]
 pub(crate) struct Held {
     pub(crate) last: Token,
     pub(crate) entries: Vec<KeyedEntry<Lock>>,

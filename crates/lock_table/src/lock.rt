@@ -15,7 +15,7 @@ use std::marker::Model;
 use view::View;
 
 /// A lock that is held: who holds it, the token with which it was granted, and who waits for it, in the order of their requests.
-#[derive(Debug, Drop)]
+#[derive(Drop)]
 pub struct Lock {
     holder: Address,
     token: Token,

@@ -17,7 +17,7 @@ use view::View;
 
 /// A copy of the table of locks. Contracts see it as the last token that was granted, and the locks that are held, their names rising
 /// (docs/RECEIVERS.md, "The table of locks").
-#[derive(Debug, Drop)]
+#[derive(Drop)]
 pub struct LockTable {
     held: Held,
 }

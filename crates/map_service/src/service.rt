@@ -12,11 +12,20 @@ use std::mem::replace;
 use trace_props::{Delivery, Event, Install};
 
 /// What a node knows by the events of its member, with a copy of the map, and the answers that nobody has taken.
-#[derive(Debug, Drop)]
 pub struct MapService {
     alloc: Global,
     followed: FollowedMember<ReplicatedMap>,
     answers: Vec<Answer>,
+}
+
+impl Drop for MapService {
+    fn drop(self) {
+        let MapService {
+            alloc: _,
+            followed: _,
+            answers: _,
+        } = self;
+    }
 }
 
 impl Model for MapService {

@@ -8,7 +8,6 @@ use application::Waiting;
 use replicated_map::Outcome;
 
 /// What became of a message of one's own.
-#[derive(Debug, Drop)]
 pub enum Fate {
     /// It was delivered in this view, as the message of this place, counted from 1, and this became of its command at the map right before it.
     Delivered(ViewId, u64, Outcome),
@@ -16,8 +15,17 @@ pub enum Fate {
     HandedBack,
 }
 
+impl Drop for Fate {
+    fn drop(self) {
+        match self {
+            Fate::Delivered(_, _, _) => {}
+            Fate::HandedBack => {}
+        }
+    }
+}
+
 /// What became of the message that was noted for a ticket.
-#[derive(Debug, Drop)]
+#[derive(Drop)]
 pub struct Answer {
     pub ticket: u64,
     pub fate: Fate,

@@ -5,7 +5,7 @@ use address::{Address, ViewId};
 use wire_values::Body;
 
 /// What a packet was that a member was handed: from whom, of which kind, and about what.
-#[derive(Clone, Copy, Debug)]
+#[derive(Clone, Copy)]
 pub struct Heard {
     /// From whom it came.
     pub source: Address,

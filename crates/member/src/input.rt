@@ -3,7 +3,7 @@ use address::Address;
 /// What a member is handed: a wish of its application, a datagram, a suspect or a hint, or that time passes. Payloads and bytes are lent. After its
 /// end a member refuses all with 6. Where memory is refused the answer is 7, and it has ended. What is ignored leaves it as it was, and nothing comes
 /// of it (docs/PROTOCOL.md, "Inputs and refusals").
-#[derive(Clone, Copy, Debug)]
+#[derive(Clone, Copy)]
 pub enum Input<'a> {
     /// Makes a group of itself alone, and installs its first view (docs/PROTOCOL.md, "Joining"). Refused with 5 unless it is idle.
     Create,

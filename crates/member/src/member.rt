@@ -37,10 +37,18 @@ use wire_values::{GroupName, Roster};
 
 /// A member of a group, with the receiver that it gives messages and views. Contracts see its address, its group and, while it runs, what it keeps
 /// (docs/PROTOCOL.md, "What a member keeps") and the core by which it decides (docs/PROOF.md, "Agreement over acts").
-#[derive(Drop)]
 pub struct Member<R: Receiver> {
     identity: Identity,
     member_state: Option<MemberState<R>>,
+}
+
+impl<R: Receiver> Drop for Member<R> {
+    fn drop(self) {
+        let Member {
+            identity: _,
+            member_state: _,
+        } = self;
+    }
 }
 
 impl<R: Receiver> Model for Member<R> {

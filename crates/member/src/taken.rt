@@ -2,7 +2,7 @@ use crate::Heard;
 use step_output::Output;
 
 /// What a step by a datagram comes to.
-#[derive(Debug, Drop)]
+#[derive(Drop)]
 pub struct Taken {
     /// What it puts out.
     pub out: Output,

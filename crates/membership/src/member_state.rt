@@ -15,7 +15,6 @@ use view::View;
 use view_install::Promise;
 
 /// What a member keeps while it runs (docs/PROTOCOL.md, "What a member keeps").
-#[derive(Drop)]
 pub struct MemberState<R: Receiver> {
     /// Whom it asked last to be let in.
     pub contact: Option<Address>,
@@ -35,6 +34,22 @@ pub struct MemberState<R: Receiver> {
     pub receiver: R,
     /// What it notes for its next view.
     pub notes: ViewNotes,
+}
+
+impl<R: Receiver> Drop for MemberState<R> {
+    fn drop(self) {
+        let MemberState {
+            contact: _,
+            view_state: _,
+            promise: _,
+            flush: _,
+            sent_installs: _,
+            sent_state: _,
+            chunks: _,
+            receiver: _,
+            notes: _,
+        } = self;
+    }
 }
 
 impl<R: Receiver> MemberState<R> {

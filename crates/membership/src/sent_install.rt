@@ -4,7 +4,7 @@ use std::alloc::{AllocError, Global};
 use step_output::Outgoing;
 
 /// An INSTALL that a member put out for another of the view that it made, and whether the state that it gives goes in chunks.
-#[derive(Debug, Drop)]
+#[derive(Drop)]
 pub struct SentInstall {
     pub packet: Outgoing,
     pub in_chunks: bool,

@@ -8,7 +8,7 @@ use wire_values::{Entry as LentEntry, Number};
 
 /// A message as the view's one order has it, kept: its sender, its number among that sender's messages of the view, from 1 to `GREATEST_NUMBER`, and its
 /// payload of at most `PAYLOAD` bytes. Contracts see it as they see a lent one.
-#[derive(Debug, Drop)]
+#[derive(Drop)]
 pub struct Entry {
     /// Who sent it.
     pub sender: Address,

@@ -1,13 +1,15 @@
-ghost use Rattle.std.specs.Prelude.{◌≡◌, ◌<◌, length, IfOk, OnErr};
+ghost use Rattle.std.specs.Prelude.{◌≡◌, ◌<◌, ◌≤◌, length, IfOk, OnOk, OnErr};
+ghost use Rattle.address.specs.declared.limits.TheConstants.{PAYLOAD};
 
+use address::Bytes;
 use std::alloc::{AllocError, Global};
 use std::marker::Model;
 use wire_values::Payload;
 
-/// A message's payload that is kept: at most `PAYLOAD` bytes.
-#[derive(Debug, Drop)]
+/// A message's payload that is kept: at most `PAYLOAD` bytes, which all that keep it share.
+#[derive(Drop)]
 pub struct OwnedPayload {
-    bytes: Vec<u8>,
+    bytes: Bytes,
 }
 
 impl Model for OwnedPayload {
@@ -16,9 +18,9 @@ impl Model for OwnedPayload {
 
     ghost Value = { List ℕ };
 
-    ghost view = { λ p. p.bytes.items };
+    ghost view = { λ p. p.bytes };
 
-    ghost invariant = { λ p. length p.bytes.items ≤ PAYLOAD };
+    ghost invariant = { λ p. length p.bytes ≤ PAYLOAD };
 }
 
 impl OwnedPayload {
@@ -29,11 +31,28 @@ impl OwnedPayload {
     {
         let lent = payload.as_slice();
         if lent.is_empty() {
-            let bytes = Vec::new(alloc);
+            let bytes = Bytes::from_vec(Vec::new(alloc));
             return Ok(OwnedPayload { bytes });
         }
-        let bytes = Vec::from_slice(alloc, lent)?;
+        let bytes = Bytes::shared_from(alloc, lent)?;
         Ok(OwnedPayload { bytes })
+    }
+
+    /// It, kept once more: its bytes are shared, and not copied.
+    pub fn shared(&self, alloc: Global) -> Result<OwnedPayload, AllocError>
+        ensures { IfOk result (λ kept. kept ≡ self.now) }
+    {
+        let bytes = self.bytes.copied(alloc)?;
+        Ok(OwnedPayload { bytes })
+    }
+
+    /// Its bytes, shared, and not copied.
+    pub fn bytes(&self, alloc: Global) -> Result<Bytes, AllocError>
+        ensures bytes { IfOk result (λ bytes. bytes ≡ self.now) }
+        ensures short { OnOk result (length self.now ≤ PAYLOAD) }
+    {
+        let bytes = self.bytes.copied(alloc)?;
+        Ok(bytes)
     }
 
     /// It, lent as packets carry it. Takes no memory.

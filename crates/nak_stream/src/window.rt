@@ -19,7 +19,7 @@ use wire_values::Entry as LentEntry;
 /// The stable count is at most the delivered one. All that is held lies above the stable count and at most `WINDOW` above
 /// it, and each number from the stable count to the delivered one is held (docs/PROTOCOL.md, "Window"). They lie in a ring of `WINDOW` slots that
 /// stands from the beginning: slot i, from 0, is that of the number stable + 1 + i, and has the entry or none.
-#[derive(Debug, Drop)]
+#[derive(Drop)]
 pub struct Window {
     alloc: Global,
     stable: u64,

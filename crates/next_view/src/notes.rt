@@ -15,12 +15,22 @@ use view::{Addresses, View};
 
 /// What a member notes beside its view: the addresses that it suspects, those that asked to be let in, those of other views that may come in,
 /// and the greatest counter of a proposal that it heard of, at first 0 (docs/PROTOCOL.md, "Candidates").
-#[derive(Debug, Drop)]
 pub struct ViewNotes {
     suspects: Suspects,
     joiners: Vec<Address>,
     merging: Vec<Address>,
     heard: u64,
+}
+
+impl Drop for ViewNotes {
+    fn drop(self) {
+        let ViewNotes {
+            suspects: _,
+            joiners: _,
+            merging: _,
+            heard: _,
+        } = self;
+    }
 }
 
 impl Model for ViewNotes {

@@ -37,7 +37,7 @@ const MEMBER_SAYS: u64 = 10;
 const _: () = prove!(GIVE > 2 * FRESH);
 
 /// What a node is to do.
-#[derive(Clone, Copy, Debug, PartialEq, Eq)]
+#[derive(Clone, Copy)]
 pub enum Step {
     /// Nothing.
     Stay,
@@ -50,7 +50,7 @@ pub enum Step {
 }
 
 /// The view in which a member is.
-#[derive(Clone, Copy, Debug)]
+#[derive(Clone, Copy)]
 pub struct Standing {
     /// Its id.
     pub view: ViewId,
@@ -59,7 +59,7 @@ pub struct Standing {
 }
 
 /// Where a member is.
-#[derive(Clone, Copy, Debug)]
+#[derive(Clone, Copy)]
 pub struct Whereabouts {
     /// Its address.
     pub own: Address,
@@ -68,7 +68,7 @@ pub struct Whereabouts {
 }
 
 // Whom a node asked to be let in, and when, in milliseconds.
-#[derive(Clone, Copy, Debug)]
+#[derive(Clone, Copy)]
 struct Asked {
     contact: Address,
     at: u64,

@@ -10,7 +10,7 @@ use address::{Address, ViewId};
 use udp_net::{Neighbour, Place, Word};
 
 /// How great a view is.
-#[derive(Clone, Copy, Debug, PartialEq, Eq)]
+#[derive(Clone, Copy)]
 pub struct Rank {
     /// How many members are there, as its coordinator counts them: from 1.
     pub members: u8,
@@ -37,7 +37,7 @@ pub fn ranks_are_ordered()
 {}
 
 /// A view as its coordinator tells of it.
-#[derive(Clone, Copy, Debug, PartialEq, Eq)]
+#[derive(Clone, Copy)]
 pub struct Offer {
     /// How great it is.
     pub rank: Rank,
@@ -46,7 +46,7 @@ pub struct Offer {
 }
 
 /// Who hears words, and when.
-#[derive(Clone, Copy, Debug)]
+#[derive(Clone, Copy)]
 pub struct Moment {
     /// The address of who hears.
     pub own: Address,

@@ -7,7 +7,7 @@ use std::time::Duration;
 use trace_props::Event;
 
 /// Why no more lines come.
-#[derive(Clone, Copy, Debug, PartialEq, Eq)]
+#[derive(Clone, Copy, PartialEq, Eq)]
 pub enum LinesError {
     /// What they are read from cannot be read, or is there no longer.
     Gone,
@@ -55,7 +55,7 @@ pub trait Lines {
 }
 
 /// No lines.
-#[derive(Clone, Copy, Debug)]
+#[derive(Clone, Copy)]
 pub struct NoLines;
 
 impl Lines for NoLines {

@@ -11,7 +11,7 @@ use std::mem;
 use trace_props::{Event, Install};
 
 /// What a message was that a node sent.
-#[derive(Debug, Drop)]
+#[derive(Drop)]
 pub enum Sent {
     /// One of its lines.
     Line(Vec<u8>),
@@ -22,7 +22,6 @@ pub enum Sent {
 }
 
 /// What a node sent and has not seen delivered, and what came back to it undelivered. Contracts see the messages that are outstanding, and the lines that came back.
-#[derive(Drop)]
 pub struct Unsaid {
     alloc: Global,
     // The messages that are outstanding, the oldest first.
@@ -33,6 +32,18 @@ pub struct Unsaid {
     is_once_back: bool,
     // How many messages are outstanding, also where it is not known what they were.
     outstanding: u64,
+}
+
+impl Drop for Unsaid {
+    fn drop(self) {
+        let Unsaid {
+            alloc: _,
+            sent: _,
+            back: _,
+            is_once_back: _,
+            outstanding: _,
+        } = self;
+    }
 }
 
 // Appends a line and its line feed.

@@ -14,7 +14,7 @@ use udp_net::BindError;
 use vsync_text::put_all;
 
 /// Why what happens is written no further.
-#[derive(Clone, Copy, Debug, PartialEq, Eq)]
+#[derive(Clone, Copy, Debug)]
 pub enum Cut {
     /// Memory was refused.
     Memory,
@@ -31,7 +31,7 @@ impl From<AllocError> for Cut {
 }
 
 /// Why a script is not run to its end.
-#[derive(Clone, Copy, Debug, PartialEq, Eq)]
+#[derive(Clone, Copy, Debug)]
 pub enum Stop {
     /// What happens is written no further.
     Cut(Cut),

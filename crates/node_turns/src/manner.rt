@@ -6,7 +6,7 @@ use script_reader::Fault;
 use std::time::Duration;
 
 /// How a node that runs by itself goes about it.
-#[derive(Clone, Copy, Debug)]
+#[derive(Clone, Copy)]
 pub struct NodeManner {
     /// The time between two of its rounds, in which it handles datagrams as they come.
     pub tick: Duration,
@@ -25,7 +25,7 @@ pub struct NodeManner {
 }
 
 /// What stopped a node that sends lines.
-#[derive(Clone, Copy, Debug, PartialEq, Eq)]
+#[derive(Clone, Copy)]
 pub enum LineTrouble {
     /// The lines could not be read any more.
     NoLines,
@@ -34,7 +34,7 @@ pub enum LineTrouble {
 }
 
 /// What whoever looks after a node that runs by itself should know.
-#[derive(Clone, Copy, Debug, PartialEq, Eq)]
+#[derive(Clone, Copy)]
 pub enum Notice {
     /// A line is not sent, since it is longer than `PAYLOAD` bytes (`limits`).
     LongLine,
@@ -45,7 +45,7 @@ pub enum Notice {
 }
 
 /// How a node is that runs by itself.
-#[derive(Clone, Copy, Debug)]
+#[derive(Clone, Copy)]
 pub struct NodeStatus {
     /// The address of its member.
     pub address: Address,
@@ -62,7 +62,7 @@ pub struct NodeStatus {
 }
 
 /// What happened at a node that ran by itself, in numbers; each is at most 2^64 - 1.
-#[derive(Clone, Copy, Debug)]
+#[derive(Clone, Copy)]
 pub struct Tally {
     /// The messages that it sent.
     pub sent: u64,

@@ -35,7 +35,6 @@ pub struct Voice {
 }
 
 /// Tells what happens, as the lines of a trace or as what is said, and counts it.
-#[derive(Drop)]
 pub struct Teller {
     /// How it tells it.
     pub voice: Voice,
@@ -51,6 +50,21 @@ pub struct Teller {
     // The view of which it told last how many messages are stable, and how many.
     known_view: Option<ViewId>,
     known: u64,
+}
+
+impl Drop for Teller {
+    fn drop(self) {
+        let Teller {
+            voice: _,
+            speaker: _,
+            text: _,
+            is_blocked: _,
+            tally: _,
+            unsaid: _,
+            known_view: _,
+            known: _,
+        } = self;
+    }
 }
 
 // Counts an event.

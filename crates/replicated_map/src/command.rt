@@ -13,7 +13,7 @@ use std::alloc::AllocError;
 
 /// What a message asks of the map (docs/RECEIVERS.md, "The map's commands"). A command that gives a value spells the view in which it is sent: of that view, or of a later one, is
 /// the value's version.
-#[derive(Debug, Drop)]
+#[derive(Drop)]
 pub enum Command<'a> {
     /// The key has this value from now on.
     Put {

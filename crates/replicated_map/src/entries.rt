@@ -13,7 +13,7 @@ use keyed_state::{Kept, KeyBytes, KeyedEntry, Place, Token, find, put_token, tok
 use std::alloc::{AllocError, Global};
 
 /// What a key has: a value, and the version that it was given with.
-#[derive(Debug, Drop)]
+#[derive(Drop)]
 pub struct Held {
     /// A token above those of all values that were given before.
     pub version: Token,

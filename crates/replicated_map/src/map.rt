@@ -21,7 +21,7 @@ use std::marker::Model;
 use view::View;
 
 /// A copy of the map. Contracts see it as the last version that was given, and the list of its entries, their keys rising (docs/RECEIVERS.md, "The map's state").
-#[derive(Debug, Drop)]
+#[derive(Drop)]
 pub struct ReplicatedMap {
     last: Token,
     entries: Vec<KeyedEntry<Held>>,

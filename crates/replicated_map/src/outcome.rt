@@ -13,7 +13,6 @@ use keyed_state::{KeyBytes, Token, find};
 use std::alloc::{AllocError, Global};
 
 /// What becomes of a command at a map (docs/RECEIVERS.md, "What becomes of a command").
-#[derive(Debug, Drop)]
 pub enum Outcome {
     /// Its key has its value from now on, of this version.
     Stored(Token),
@@ -29,6 +28,20 @@ pub enum Outcome {
     Missing,
     /// The payload encodes no command, and nothing changes.
     NoCommand,
+}
+
+impl Drop for Outcome {
+    fn drop(self) {
+        match self {
+            Outcome::Stored(_) => {}
+            Outcome::Removed(_) => {}
+            Outcome::Cleared => {}
+            Outcome::Full => {}
+            Outcome::Differs(_) => {}
+            Outcome::Missing => {}
+            Outcome::NoCommand => {}
+        }
+    }
 }
 
 fn copy_of(alloc: Global, found: Option<&Held>) -> Result<Option<Held>, AllocError>

@@ -9,7 +9,7 @@ use keyed_state::{Token, known_view_id};
 use std::marker::Model;
 
 /// A value in lent bytes, at most `VALUE` of them.
-#[derive(Debug, Drop)]
+#[derive(Drop)]
 pub struct ValueBytes<'a> {
     value: &'a [u8],
 }
@@ -46,7 +46,7 @@ impl<'a> ValueBytes<'a> {
 }
 
 /// The version that a command names: a token that can be spelled.
-#[derive(Debug, Drop)]
+#[derive(Drop)]
 pub struct Version {
     token: Token,
 }

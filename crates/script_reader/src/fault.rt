@@ -44,7 +44,7 @@ pub enum Unread {
 }
 
 /// Why a line was not heard.
-#[derive(Debug, Drop)]
+#[derive(Drop)]
 pub enum Unheard {
     /// What is wrong with it.
     Fault(Fault),

@@ -1,7 +1,7 @@
 use address::Address;
 
 /// What one node does that runs by itself.
-#[derive(Clone, Copy, Debug)]
+#[derive(Clone, Copy)]
 pub struct MemberPlan<'a> {
     /// The address of its member.
     pub address: Address,

@@ -21,7 +21,7 @@ pub trait Payloads {
 }
 
 /// Payloads that are the text as it stands: any bytes, perhaps none.
-#[derive(Debug, Drop)]
+#[derive(Drop)]
 pub struct AsWritten;
 
 impl Payloads for AsWritten {

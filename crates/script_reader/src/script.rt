@@ -10,10 +10,18 @@ use std::marker::Model;
 use world_model::WorldEvent;
 
 /// The events of a script in order, and beside each the number of its line, from 1.
-#[derive(Drop)]
 pub struct Script {
     events: Vec<WorldEvent>,
     lines: Vec<u64>,
+}
+
+impl Drop for Script {
+    fn drop(self) {
+        let Script {
+            events: _,
+            lines: _,
+        } = self;
+    }
 }
 
 impl Model for Script {

@@ -15,7 +15,6 @@ use world_model::WorldEvent;
 pub const ROUNDS: u64 = 1_000_000;
 
 /// What a line of a script for nodes over UDP says.
-#[derive(Debug, Drop)]
 pub enum UdpEvent {
     /// An event of one node, neither `Deliver` nor `Tick`.
     Node(WorldEvent),
@@ -23,8 +22,17 @@ pub enum UdpEvent {
     Rounds(u64),
 }
 
+impl Drop for UdpEvent {
+    fn drop(self) {
+        match self {
+            UdpEvent::Node(_) => {}
+            UdpEvent::Rounds(_) => {}
+        }
+    }
+}
+
 /// A line of a script for nodes over UDP that says something.
-#[derive(Debug, Drop)]
+#[derive(Drop)]
 pub struct UdpLine {
     /// Its number in the script, from 1.
     pub number: u64,

@@ -1,9 +1,12 @@
 -- The queue that is served, and what it gives.
-use Rattle.std.proofs.Common.{◌≡◌, ℕ, zero, suc, get_or, Ok, Err, Bool, List, [], ◌∷◌, Option, Some, None, refl, ap, ◌∙◌, arith}
-use Rattle.std.specs.Prelude.{if◌then◌else◌, slice_set, MatchOption, Result, OnOk}
+use Rattle.std.proofs.Common.{◌≡◌, ℕ, zero, suc, get_or, Bool, true, false, cond, List, [], ◌∷◌, Option, Some, None, refl, sym, ap, ◌∙◌, arith}
+use Rattle.std.specs.Prelude.{if◌then◌else◌, slice_set, MatchOption}
 use Rattle.std.proofs.lemmas.List.{set-get_or}
 use Rattle.wire_values.specs.Values.{Entry}
-use Rattle.sequencer.specs.Queues.{Queue, has_next, next_of, served, first_next, change_first}
+use Rattle.std.specs.List.{find}
+use Rattle.std.specs.Option.{option_map_or}
+use Rattle.address.specs.Ids.{Address}
+use Rattle.sequencer.specs.Queues.{Queue, OrdererModel, has_next, next_of, served, first_next, change_first, takes, offered, is_from, is_taken, forwarded, waiting_with}
 use Rattle.sequencer.proofs.FirstThatPasses.{IsFirst, IsNone, change-at}
 
 -- the first queue whose next message waits gives the next message of all
@@ -30,7 +33,18 @@ served-at None queues i q left t e h = ap (slice_set queues i) (h ∙ e) ∙ set
 served-at (Some x) queues i q left t e h = ap (slice_set queues i) h ∙ change-at has_next served queues i q t
 
 -- what becomes of all queues, where the sender's was offered a message
-pub offered-at : {A E : Type 0} (r : Result A E) (test : Queue → Bool) (f : Queue → Queue) (queues : List Queue) (i : ℕ) (q left : Queue) → IsFirst test queues i q
-    → OnOk r (left ≡ f q) → OnOk r (slice_set queues i left ≡ change_first test f queues)
-offered-at (Ok x) test f queues i q left t h = ap (slice_set queues i) h ∙ change-at test f queues i q t
-offered-at (Err x) test f queues i q left t h = tt
+pub offered-at : (test : Queue → Bool) (f : Queue → Queue) (queues : List Queue) (i : ℕ) (q left : Queue) → IsFirst test queues i q → left ≡ f q → slice_set queues i left ≡ change_first test f queues
+offered-at test f queues i q left t h = ap (slice_set queues i) h ∙ change-at test f queues i q t
+
+-- a message that is not taken changes nothing
+unchanged : (p : Address) (n : ℕ) (x : List ℕ) (queues : List Queue) → option_map_or (takes n) (find (is_from p) queues) false ≡ false → queues ≡ change_first (is_from p) (offered n x) queues
+unchanged p n x [] h = refl
+unchanged p n x (q ∷ queues) h = by (is_from p q) (unchanged p n x queues) h
+  where
+    by : (b : Bool) → (option_map_or (takes n) (find (is_from p) queues) false ≡ false → queues ≡ change_first (is_from p) (offered n x) queues) → option_map_or (takes n) (cond b (Some q) (find (is_from p) queues)) false ≡ false
+        → q ∷ queues ≡ (if b then offered n x q ∷ queues else q ∷ change_first (is_from p) (offered n x) queues)
+    by true rest h = sym (ap (λ b. (if b then record { sender = q.sender; ordered = q.ordered; waiting = waiting_with (record { number = n; payload = x }) q.waiting } else q) ∷ queues) h)
+    by false rest h = ap (λ more. q ∷ more) (rest h)
+
+pub not-taken : (p : Address) (n : ℕ) (x : List ℕ) (w : OrdererModel) → is_taken p n w ≡ false → w ≡ forwarded p n x w
+not-taken p n x w h = let more : List Queue → OrdererModel = λ queues. record { ordered = w.ordered; queues = queues } in ap more (unchanged p n x w.queues h)

@@ -4,7 +4,7 @@ use wire_values::Number;
 
 /// A message on its way into the order: its number among its sender's messages of the view, from 1 to `GREATEST_NUMBER`, and its payload of at most `PAYLOAD`
 /// bytes.
-#[derive(Debug, Drop)]
+#[derive(Drop)]
 pub struct Forward {
     /// Its number among its sender's messages of the view, from 1.
     pub number: Number,

@@ -4,7 +4,6 @@ ghost use Rattle.address.specs.declared.limits.TheConstants.{PAYLOAD};
 ghost use Rattle.sequencer.specs.Forwards.{ForwardsModel, no_forwards, pushed, delivered_to, one_delivered, push_refusal, IsForwards, AreShort};
 
 use crate::Forward;
-use address::Bytes;
 use address::limits::{GREATEST_NUMBER, OUTSTANDING, Refusal};
 use nak_stream::OwnedPayload;
 use std::alloc::{AllocError, Global};
@@ -14,7 +13,7 @@ use wire_values::Number;
 
 /// A member's own messages of a view that were sent and not delivered here, at most `OUTSTANDING` of them, by their numbers. Numbers run from 1 to `GREATEST_NUMBER`.
 /// Room for all of them stands from the beginning.
-#[derive(Debug, Drop)]
+#[derive(Drop)]
 pub struct Forwards {
     sent: u64,
     rest: Vec<Forward>,
@@ -125,7 +124,7 @@ fn numbered(alloc: Global, forward: &Forward) -> Result<Numbered, AllocError>
 {
     Ok(Numbered {
         number: forward.number.get(),
-        payload: Bytes::from_slice(alloc, forward.payload.lent().as_slice())?,
+        payload: forward.payload.bytes(alloc)?,
     })
 }
 

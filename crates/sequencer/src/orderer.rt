@@ -6,7 +6,7 @@ ghost use Rattle.sequencer.specs.Queues.{OrdererModel, idle, has_next, is_from, 
 use crate::queue::Queue;
 use address::Address;
 use address::limits::{GREATEST_NUMBER, WINDOW};
-use nak_stream::Entry;
+use nak_stream::{Entry, OwnedPayload};
 use std::alloc::{AllocError, Global};
 use std::marker::Model;
 use view::View;
@@ -14,7 +14,7 @@ use wire_values::{Number, Payload};
 
 /// The orderer of a view, which its coordinator keeps: how many messages it ordered, 0 to `GREATEST_NUMBER`, and for each member how many
 /// of its messages were ordered and which wait (docs/PROTOCOL.md, "Order").
-#[derive(Debug, Drop)]
+#[derive(Drop)]
 pub struct Orderer {
     alloc: Global,
     ordered: u64,
@@ -68,7 +68,20 @@ impl Orderer {
         ensures err_only { OnErr result (IsTrue (is_taken sender.now number self.old)) }
         ensures err_empty { OnErr result (0 < length payload.now) }
     {
-        offer_to(&mut self.queues, self.alloc, sender, number, payload)
+        if !self.takes(sender, number) {
+            return Ok(false);
+        }
+        let payload = OwnedPayload::copy_of(self.alloc, payload)?;
+        let taken = self.take(sender, number, payload);
+        Ok(taken)
+    }
+
+    /// The same with a payload that is kept already, and not copied. Takes no memory.
+    pub fn take(&mut self, sender: &Address, number: Number, payload: OwnedPayload) -> bool
+        ensures answer { result ≡ is_taken sender.now number self.old }
+        ensures after { self.new ≡ forwarded sender.now number payload self.old }
+    {
+        offer_to(&mut self.queues, sender, number, payload)
     }
 
     /// Orders one message, where fewer than `WINDOW` lie past the `stable` ones and fewer than `GREATEST_NUMBER` were ordered: that of the member of
@@ -86,6 +99,12 @@ impl Orderer {
             unreachable!();
         };
         Some((place, entry))
+    }
+
+    fn takes(&self, sender: &Address, number: Number) -> bool
+        ensures { result ≡ is_taken sender.now number self.now }
+    {
+        takes(self.queues.as_slice(), sender, number)
     }
 
     fn may_order(&self, stable: u64) -> bool
@@ -117,23 +136,29 @@ fn first_ready(queues: &[Queue]) -> Option<usize>
     queues.iter().position(|queue| queue.has_next())
 }
 
+/// Whether the queue of its sender takes a message of this number.
+fn takes(queues: &[Queue], sender: &Address, number: Number) -> bool
+    ensures { result ≡ option_map_or (takes number) (find (is_from sender.now) queues.now) false }
+{
+    match rank_of(queues, sender) {
+        None => false,
+        Some(rank) => queues[rank].takes(number.get()),
+    }
+}
+
 /// Offers a message to the queue of its sender.
 fn offer_to(
     queues: &mut Vec<Queue>,
-    alloc: Global,
     sender: &Address,
     number: Number,
-    payload: &Payload<'_>,
-) -> Result<bool, AllocError>
-    ensures answer { IfOk result (λ answer. answer ≡ option_map_or (takes number) (find (is_from sender.now) queues.old.items) false) }
-    ensures ok { OnOk result (queues.new.items ≡ change_first (is_from sender.now) (offered number payload.now) queues.old.items) }
-    ensures err { OnErr result (queues.new.items ≡ queues.old.items) }
-    ensures err_only { OnErr result (IsTrue (option_map_or (takes number) (find (is_from sender.now) queues.old.items) false)) }
-    ensures err_empty { OnErr result (0 < length payload.now) }
+    payload: OwnedPayload,
+) -> bool
+    ensures answer { result ≡ option_map_or (takes number) (find (is_from sender.now) queues.old.items) false }
+    ensures after { queues.new.items ≡ change_first (is_from sender.now) (offered number payload) queues.old.items }
 {
     match rank_of(queues.as_slice(), sender) {
-        None => Ok(false),
-        Some(rank) => queues[rank].offer(alloc, number, payload),
+        None => false,
+        Some(rank) => queues[rank].offer(number, payload),
     }
 }
 

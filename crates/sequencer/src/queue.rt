@@ -1,4 +1,4 @@
-ghost use Rattle.std.specs.Prelude.{◌≡◌, ◌<◌, ◌∷◌, ◌++◌, [], drop, length, slice_get, slice_set, None, Some, true, nat_eq, IfOk, OnOk, OnErr, IsTrue, MatchOption};
+ghost use Rattle.std.specs.Prelude.{◌≡◌, ◌<◌, ◌∷◌, ◌++◌, [], drop, length, slice_get, slice_set, None, Some, true, nat_eq, IfOk, MatchOption};
 ghost use Rattle.std.specs.List.{list_any};
 ghost use Rattle.circular_buffer.specs.Buffer.{buffer};
 ghost use Rattle.sequencer.specs.Queues.{idle, takes, offered, has_next, next_of, served};
@@ -10,11 +10,11 @@ use circular_buffer::HeapCircularBuffer;
 use nak_stream::{Entry, OwnedPayload};
 use std::alloc::{AllocError, Global};
 use std::marker::Model;
-use wire_values::{Number, Payload};
+use wire_values::Number;
 
 /// The messages of one sender: how many were ordered, and those that wait, each once, by number. They lie in a ring of `OUTSTANDING` slots that stands from
 /// the beginning: slot i, from 0, is that of the number ordered + 1 + i, and has the message's payload or none.
-#[derive(Debug, Drop)]
+#[derive(Drop)]
 pub struct Queue {
     sender: Address,
     ordered: u64,
@@ -50,7 +50,8 @@ impl Queue {
         self.sender
     }
 
-    fn takes(&self, number: u64) -> bool
+    /// Whether a message of this number is new and at most `OUTSTANDING` past what was ordered.
+    pub fn takes(&self, number: u64) -> bool
         ensures { result ≡ takes number self.now }
     {
         self.ordered < number
@@ -58,30 +59,21 @@ impl Queue {
             && !waits(&self.slots, self.ordered, number)
     }
 
-    /// Takes a copy of the message, where it is new and at most `OUTSTANDING` past what was ordered. An empty payload takes no memory.
-    pub fn offer(
-        &mut self,
-        alloc: Global,
-        number: Number,
-        payload: &Payload<'_>,
-    ) -> Result<bool, AllocError>
-        ensures answer { IfOk result (λ answer. answer ≡ takes number self.old) }
-        ensures ok { OnOk result (self.new ≡ offered number payload.now self.old) }
-        ensures err { OnErr result (self.new ≡ self.old) }
-        ensures err_only { OnErr result (IsTrue (takes number self.old)) }
-        ensures err_empty { OnErr result (0 < length payload.now) }
+    /// Takes the message, where it is new and at most `OUTSTANDING` past what was ordered. Takes no memory.
+    pub fn offer(&mut self, number: Number, payload: OwnedPayload) -> bool
+        ensures answer { result ≡ takes number self.old }
+        ensures after { self.new ≡ offered number payload self.old }
     {
         let number = number.get();
         if !self.takes(number) {
-            return Ok(false);
+            return false;
         }
-        let payload = OwnedPayload::copy_of(alloc, payload)?;
         fill(
             &mut self.slots,
             (number - self.ordered - 1) as usize,
             payload,
         );
-        Ok(true)
+        true
     }
 
     /// Whether the next message waits.

@@ -11,14 +11,14 @@ use std::marker::Model;
 use view::View;
 
 /// The greatest count that a member acknowledged, 0 before the first.
-#[derive(Clone, Copy, Debug)]
+#[derive(Clone, Copy)]
 pub struct Ack {
     pub member: Address,
     pub count: u64,
 }
 
 /// The greatest counts that the members of a view acknowledged, which contracts see as their list by rank.
-#[derive(Debug, Drop)]
+#[derive(Drop)]
 pub struct Acks {
     items: Vec<Ack>,
 }

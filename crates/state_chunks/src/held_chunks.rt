@@ -12,7 +12,7 @@ use std::marker::Model;
 use wire_values::{Chunk, GivenState, Total};
 
 // A chunk that is held: how many bytes its state has, its index, and its bytes.
-#[derive(Debug, Drop)]
+#[derive(Drop)]
 struct HeldChunk {
     total: u32,
     index: u8,
@@ -49,7 +49,7 @@ impl HeldChunk {
 }
 
 /// The chunks that a member holds of the state that its promised proposal gives, in the order in which they came. Contracts see their list.
-#[derive(Debug, Drop)]
+#[derive(Drop)]
 pub struct HeldChunks {
     chunks: Vec<HeldChunk>,
 }

@@ -12,7 +12,7 @@ use wire::encode;
 use wire_values::{Body, Packet};
 
 /// Who a member is, its address and its group, and from where it takes memory.
-#[derive(Debug, Drop)]
+#[derive(Drop)]
 pub struct Identity {
     pub alloc: Global,
     pub address: Address,

@@ -6,7 +6,7 @@ use std::marker::Model;
 use wire_values::GroupName;
 
 /// The name of a group, kept: 1 to `GROUP_NAME` bytes.
-#[derive(Debug, Drop)]
+#[derive(Drop)]
 pub struct OwnedName {
     bytes: [u8; GROUP_NAME],
     len: usize,

@@ -6,14 +6,14 @@ use std::alloc::Global;
 use trace_props::Event;
 
 /// A packet to be put out: to whom, and its bytes, at most `DATAGRAM` of them (docs/WIRE.md).
-#[derive(Debug, Drop)]
+#[derive(Drop)]
 pub struct Outgoing {
     pub destination: Address,
     pub bytes: Bytes,
 }
 
 /// What a step of a member put out, and what happened to the member by it (docs/GUARANTEES.md, "Traces"), each in order.
-#[derive(Debug, Drop)]
+#[derive(Drop)]
 pub struct Output {
     pub packets: Vec<Outgoing>,
     pub events: Vec<Event>,

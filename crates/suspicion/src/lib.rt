@@ -13,7 +13,7 @@ use std::marker::Model;
 use view::{Addresses, View};
 
 /// The suspected addresses, each once, which contracts see as their list in the order in which they were added.
-#[derive(Debug, Drop)]
+#[derive(Drop)]
 pub struct Suspects {
     items: Vec<Address>,
 }

@@ -27,12 +27,22 @@ pub struct Lifeline {
 }
 
 /// The members in the order in which they come up, what is kept of each, and at which event each message was sent last and each view installed last.
-#[derive(Drop)]
 pub struct Known {
     pub members: Vec<Address>,
     pub lifelines: HashMap<Address, Lifeline>,
     pub sends: HashMap<MessageKey, u32>,
     pub installs: HashMap<ViewId, u32>,
+}
+
+impl Drop for Known {
+    fn drop(self) {
+        let Known {
+            members: _,
+            lifelines: _,
+            sends: _,
+            installs: _,
+        } = self;
+    }
 }
 
 /// To whom an event happens.

@@ -17,11 +17,20 @@ use trace_props::Event;
 pub const ROWS: usize = 4_294_967_295;
 
 /// The layout of a trace: a row for each event, in order, a line for each member, by column, and a row for each aside, in order.
-#[derive(Drop)]
 pub struct Layout {
     pub rows: Vec<Row>,
     pub lines: Vec<Line>,
     pub asides: Vec<AsideRow>,
+}
+
+impl Drop for Layout {
+    fn drop(self) {
+        let Layout {
+            rows: _,
+            lines: _,
+            asides: _,
+        } = self;
+    }
 }
 
 // Adds a line, if there is one.

@@ -1,7 +1,7 @@
 use address::{Address, ViewId};
 
 /// How the row of an event is laid out. Columns count the members from 0, levels the events and what was refused between them.
-#[derive(Clone, Copy, Debug, PartialEq, Eq)]
+#[derive(Clone, Copy, PartialEq, Eq)]
 pub struct Row {
     /// The column of the event's member.
     pub column: u32,
@@ -16,7 +16,7 @@ pub struct Row {
 }
 
 /// A member's line.
-#[derive(Clone, Copy, Debug, PartialEq, Eq)]
+#[derive(Clone, Copy, PartialEq, Eq)]
 pub struct Line {
     /// The member.
     pub member: Address,
@@ -33,7 +33,7 @@ pub struct Line {
 }
 
 /// A message of a view, by its sender and its number.
-#[derive(Clone, Copy, Debug, PartialEq, Eq, Hash)]
+#[derive(Clone, Copy, PartialEq, Eq, Hash)]
 pub struct MessageKey {
     pub view: ViewId,
     pub sender: Address,

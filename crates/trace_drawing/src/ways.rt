@@ -13,10 +13,18 @@ use address::Bytes;
 use std::alloc::{AllocError, Global};
 
 /// In which row each packet is put out last, and in which it is handed over last, if it is.
-#[derive(Drop)]
 pub struct Ways {
     pub sources: PacketRows,
     pub ends: PacketRows,
+}
+
+impl Drop for Ways {
+    fn drop(self) {
+        let Ways {
+            sources: _,
+            ends: _,
+        } = self;
+    }
 }
 
 // A little way from one column towards another.

@@ -9,7 +9,7 @@ use std::collections::HashSet;
 use trace_props::{Delivery, Event, Install, Sending};
 
 /// A message of a view, by its sender and its number.
-#[derive(Clone, Copy, Debug, PartialEq, Eq, Hash)]
+#[derive(Clone, Copy, PartialEq, Eq, Hash)]
 pub struct MessageKey {
     pub view: ViewId,
     pub sender: Address,
@@ -17,7 +17,7 @@ pub struct MessageKey {
 }
 
 /// What an event of one process shows, and events of others may wait for.
-#[derive(Clone, Copy, Debug, PartialEq, Eq, Hash)]
+#[derive(Clone, Copy, PartialEq, Eq, Hash)]
 pub enum Fact {
     /// A message was sent.
     Sent(MessageKey),

@@ -38,7 +38,7 @@ pub struct Delivery {
 
 /// A member installs a view: from which it comes, who comes from there with it (itself among them), its own messages of the
 /// old view that were not delivered to it, and the coordinator's state where it comes from elsewhere than the coordinator.
-#[derive(Debug, Drop)]
+#[derive(Debug)]
 pub struct Install {
     pub member: Address,
     pub previous: Option<ViewId>,
@@ -46,6 +46,19 @@ pub struct Install {
     pub together: Addresses,
     pub handed_back: HandedBack,
     pub given: Option<Bytes>,
+}
+
+impl Drop for Install {
+    fn drop(self) {
+        let Install {
+            member: _,
+            previous: _,
+            view: _,
+            together: _,
+            handed_back: _,
+            given: _,
+        } = self;
+    }
 }
 
 /// An install in a place of its own, so that all other events stay small. Contracts see the install.
@@ -81,7 +94,7 @@ impl BoxedInstall {
 }
 
 /// What happens to a member of a group (docs/GUARANTEES.md, "Traces").
-#[derive(Debug, Drop)]
+#[derive(Debug)]
 pub enum Event {
     /// It begins to run.
     Started(Address),
@@ -97,6 +110,20 @@ pub enum Event {
     Left(Address),
     /// It has crashed.
     Crashed(Address),
+}
+
+impl Drop for Event {
+    fn drop(self) {
+        match self {
+            Event::Started(_) => {}
+            Event::Sent(_) => {}
+            Event::Delivered(_) => {}
+            Event::Blocked(_) => {}
+            Event::Installed(_) => {}
+            Event::Left(_) => {}
+            Event::Crashed(_) => {}
+        }
+    }
 }
 
 /// The messages that are handed back to their sender, which contracts see as their list.

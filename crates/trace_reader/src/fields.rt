@@ -19,7 +19,7 @@ use trace_props::HandedBack;
 use view::{Addresses, View};
 
 /// What is left of a line. Each call reads the next field, or answers why it cannot.
-#[derive(Debug, Drop)]
+#[derive(Drop)]
 pub(crate) struct Fields<'a> {
     rest: Option<&'a [u8]>,
 }

@@ -19,7 +19,7 @@ use trace_props::{BoxedInstall, Delivery, Event, Install, Message, Numbered, Sen
 use view::View;
 
 /// A word with which a line of a trace begins.
-#[derive(Clone, Copy, Debug, Drop)]
+#[derive(Clone, Copy, Drop)]
 pub(crate) enum Word {
     Started,
     Sent,

@@ -1,9 +1,7 @@
 -- One stretch of acts after another.
-use Rattle.std.proofs.Common.{◌≡◌, Option, Some, List, [], ◌++◌, refl, ◌∙◌, subst}
-use Rattle.address.specs.Ids.{Address}
+use Rattle.std.proofs.Common.{◌≡◌, Option, Some, [], ◌++◌, refl, ◌∙◌, subst}
 use Rattle.view.specs.Members.{View}
 use Rattle.state_transfer.specs.Meanings.{Meaning}
-use Rattle.wire_values.specs.Values as wire
 use Rattle.law_acts.specs.Histories.{Posted}
 use Rattle.law_acts.specs.Cores.{ViewCore}
 use Rattle.law_acts.proofs.LawsOfActs.{nothing-acted, then-acted}

@@ -9,7 +9,6 @@ use Rattle.std.proofs.Math.Nat.{max-eq_right}
 use Rattle.address.specs.declared.limits.TheConstants.{PAYLOAD}
 use Rattle.address.specs.Ids.{Address}
 use Rattle.wire_values.specs.Values.{Entry, Progress, held_at}
-use Rattle.wire_values.specs.Values as wire
 use Rattle.wire_values.specs.declared.packet.Body.TheVariants as bodies
 use Rattle.state_transfer.specs.Meanings.{Meaning}
 use Rattle.trace_props.specs.declared.event.Numbered.{Numbered}

@@ -131,10 +131,10 @@ own-pushed p x f i free =
     ∙ ap (λ (ws : List Numbered). let r : Queue = record { sender = p; ordered = f.sent - len; waiting = ws } in r) last
     ∙ ap (λ (n : ℕ). let r : Queue = record { sender = p; ordered = n; waiting = more } in r) count
 
-pub settled-sent : (p : Address) (n : ℕ) (x : List ℕ) (m a b : Coordinator) → IsForwards m.forwards → push_refusal m.forwards ≡ None → IsSettled p m → n ≡ m.forwards.sent + 1 → a ≡ pushing x m → b ≡ queued p n x a
+pub settled-sent : (p : Address) (x : List ℕ) (m b : Coordinator) → IsForwards m.forwards → push_refusal m.forwards ≡ None → IsSettled p m → b ≡ queued p (m.forwards.sent + 1) x (pushing x m)
     → IsSettled p b
-settled-sent p n x m a b f free s number now end =
-    subst (λ (z : Coordinator). IsSettled p z) (sym (end ∙ ap (λ (z : Coordinator). queued p n x z) now ∙ ap (λ (z : ℕ). queued p z x (pushing x m)) number)) (record {
+settled-sent p x m b f free s end =
+    subst (λ (z : Coordinator). IsSettled p z) (sym end) (record {
       heard = s.heard;
       own_acked = s.own_acked;
       least = s.least;
@@ -231,14 +231,14 @@ delivers-own-by (e ∷ es) p x m a n out more front start done happens = record 
 }
 
 module _ {S : Type 0} (meaning : Meaning S) where
-  pub sends-orders : (p : Address) (group : List ℕ) (x : List ℕ) (n : ℕ) (m a b : Coordinator) (s : S) (out between : Output) (new : Coordinator) (t : S) (more : Output) → n ≡ m.forwards.sent + 1 → a ≡ pushing x m → b ≡ queued p n x a
+  pub sends-orders : (p : Address) (group : List ℕ) (x : List ℕ) (m b : Coordinator) (s : S) (out between : Output) (new : Coordinator) (t : S) (more : Output) → b ≡ queued p (m.forwards.sent + 1) x (pushing x m)
       → Grows group out between [] (Sent (sending p m.view.id (m.forwards.sent + 1) x) ∷ []) → Ordering meaning (who p group) (in_view b s between) (in_view new t more) → next_ordered new.window.stable new.orderer ≡ None
       → SendsOrdering meaning (who p group) x (in_view m s out) (in_view new t more)
-  sends-orders p group x n m a b s out between new t more number now end sent orders done = record {
+  sends-orders p group x m b s out between new t more end sent orders done = record {
     between = between;
     sent = sent;
     done = done;
-    orders = subst (λ (z : Coordinator). Ordering meaning (who p group) (in_view z s between) (in_view new t more)) (end ∙ ap (λ (z : Coordinator). queued p n x z) now ∙ ap (λ (z : ℕ). queued p z x (pushing x m)) number) orders;
+    orders = subst (λ (z : Coordinator). Ordering meaning (who p group) (in_view z s between) (in_view new t more)) end orders;
   }
 
   pub delivers-own-at-once : (p : Address) (group : List ℕ) (x : List ℕ) (m : Coordinator) (s : S) (out : Output) (new : Coordinator) (t : S) (more : Output) → IsForwards m.forwards → push_refusal m.forwards ≡ None → IsSettled p m

@@ -1,5 +1,5 @@
 -- Its own message is sent.
-use Rattle.std.proofs.Common.{◌≡◌, ℕ, ◌+◌, ◌≤◌, Option, List, [], ◌∷◌, length, refl, sym, ap, ◌∙◌, subst}
+use Rattle.std.proofs.Common.{◌≡◌, ℕ, ◌+◌, ◌≤◌, Option, List, [], ◌∷◌, length, refl, sym, subst}
 use Rattle.std.proofs.lemmas.List.Elements.{Contains-push}
 use Rattle.address.specs.declared.limits.TheConstants.{PAYLOAD}
 use Rattle.address.specs.Ids.{Address}
@@ -19,10 +19,10 @@ use Rattle.step_output.specs.Steps.{who}
 use Rattle.traffic.specs.InViews.{in_view}
 
 module _ {S : Type 0} (meaning : Meaning S) where
-  pub send-goes : (came : Option Posted) (p : Address) (group : List ℕ) (m : Coordinator) (s : S) (out : Output) (x : List ℕ) (n : ℕ) (a b : Coordinator) (more : Output) → IsCoordinator p m → length x ≤ PAYLOAD
-      → n ≡ m.forwards.sent + 1 → a ≡ pushing x m → Grows group out more [] (Sent (sending p m.view.id (m.forwards.sent + 1) x) ∷ []) → b ≡ queued p n x a
+  pub send-goes : (came : Option Posted) (p : Address) (group : List ℕ) (m : Coordinator) (s : S) (out : Output) (x : List ℕ) (b : Coordinator) (more : Output) → IsCoordinator p m → length x ≤ PAYLOAD
+      → Grows group out more [] (Sent (sending p m.view.id (m.forwards.sent + 1) x) ∷ []) → b ≡ queued p (m.forwards.sent + 1) x (pushing x m)
       → CoordinatorGoes meaning came (who p group) (in_view m s out) (in_view b s more)
-  send-goes came p group m s out x n a b more i short number now grows end =
+  send-goes came p group m s out x b more i short grows end =
       let k = m.forwards.sent + 1 in
       let next = pushing x m in
       let coordinator : IsCoordinator p next = record { coordinator = i.coordinator; heard = i.heard; senders = i.senders; ordered = i.ordered; top = i.top } in
@@ -37,5 +37,5 @@ module _ {S : Type 0} (meaning : Meaning S) where
         coordinator = coordinator;
       } in
       let two = queue-goes meaning came p group next s more p k x coordinator (rw (same_address-refl p) (Contains-push m.forwards.rest (record { number = k; payload = x }))) in
-      subst (λ (z : Coordinator). CoordinatorGoes meaning came (who p group) (in_view m s out) (in_view z s more)) (sym (end ∙ ap (λ (z : Coordinator). queued p n x z) now ∙ ap (λ (z : ℕ). queued p z x next) number))
+      subst (λ (z : Coordinator). CoordinatorGoes meaning came (who p group) (in_view m s out) (in_view z s more)) (sym end)
       (goes-then meaning came (who p group) (in_view m s out) (in_view next s more) (in_view (queued p k x next) s more) one two)

@@ -9,13 +9,24 @@ use view::View;
 
 /// What the coordinator of a view keeps of it: the view, the window of its messages, its own messages that are outstanding, what each member
 /// acknowledged, and what waits to be ordered.
-#[derive(Debug, Drop)]
 pub struct Coordinator {
     pub view: View,
     pub window: Window,
     pub forwards: Forwards,
     pub acks: Acks,
     pub orderer: Orderer,
+}
+
+impl Drop for Coordinator {
+    fn drop(self) {
+        let Coordinator {
+            view: _,
+            window: _,
+            forwards: _,
+            acks: _,
+            orderer: _,
+        } = self;
+    }
 }
 
 impl Coordinator {

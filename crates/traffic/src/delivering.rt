@@ -7,7 +7,7 @@ ghost use Rattle.step_output.specs.Outputs.{Grows};
 ghost use Rattle.trace_props.specs.declared.event.Event.TheVariants.{Delivered};
 ghost use Rattle.traffic.specs.ViewStates.{after_delivery};
 
-use address::{Bytes, ViewId};
+use address::ViewId;
 use nak_stream::Entry;
 use sequencer::Forwards;
 use state_transfer::Receiver;
@@ -37,7 +37,7 @@ pub fn deliver<R: Receiver>(
     Ok(())
 }
 
-/// Delivers a message that is kept. An own one is outstanding no longer.
+/// Delivers a message that is kept, whose payload the event shares. An own one is outstanding no longer.
 pub(crate) fn deliver_kept<R: Receiver>(
     who: &Identity,
     view: ViewId,
@@ -53,7 +53,7 @@ pub(crate) fn deliver_kept<R: Receiver>(
     let message = Message {
         sender: entry.sender,
         number: entry.number.get(),
-        payload: Bytes::from_slice(who.alloc, entry.payload.lent().as_slice())?,
+        payload: entry.payload.bytes(who.alloc)?,
     };
     deliver(who, view, message, receiver, out)?;
     if entry.sender == who.address {

@@ -7,11 +7,20 @@ use std::alloc::{AllocError, Global};
 use view::View;
 
 /// What a member of a view other than its coordinator keeps of it: the view, the window of its messages, and its own messages that are outstanding.
-#[derive(Debug, Drop)]
 pub struct Follower {
     pub view: View,
     pub window: Window,
     pub forwards: Forwards,
+}
+
+impl Drop for Follower {
+    fn drop(self) {
+        let Follower {
+            view: _,
+            window: _,
+            forwards: _,
+        } = self;
+    }
 }
 
 impl Follower {

@@ -7,7 +7,7 @@ ghost use Rattle.sequencer.specs.Forwards.{pushed, push_refusal};
 ghost use Rattle.sequencer.specs.Queues.{next_ordered, may_order};
 ghost use Rattle.address.specs.declared.limits.TheConstants.{PAYLOAD};
 ghost use Rattle.step_output.specs.Outputs.{Grows};
-ghost use Rattle.traffic.specs.Coordinators.{IsCoordinator, pushing};
+ghost use Rattle.traffic.specs.Coordinators.{IsCoordinator, pushing, queued};
 ghost use Rattle.traffic.specs.Goings.{CoordinatorGoes, sending};
 ghost use Rattle.traffic.specs.Turns.{IsSettled, SendsOrdering, DeliversOwnAtOnce, IsFewMore};
 ghost use Rattle.step_output.specs.Steps.{who_of};
@@ -24,44 +24,38 @@ use trace_props::{Event, Numbered, Sending};
 use wire_values::{Number, Payload};
 
 // The event of a message that is sent.
-fn sending(
-    who: &Identity,
-    view: ViewId,
-    number: Number,
-    payload: &Payload<'_>,
-) -> Result<Event, AllocError>
-    ensures { IfOk result (λ h. h ≡ Sent (sending who.now.address view number payload.now)) }
+fn sending(who: &Identity, view: ViewId, number: Number, payload: Bytes) -> Event
+    ensures { result ≡ Sent (sending who.now.address view number payload) }
 {
-    Ok(Event::Sent(Sending {
+    Event::Sent(Sending {
         member: who.address,
         view,
         message: Numbered {
             number: number.get(),
-            payload: Bytes::from_slice(who.alloc, payload.as_slice())?,
+            payload,
         },
-    }))
+    })
 }
 
-/// Sends a message of the member's own: it is outstanding, and the event is recorded. Answers its number.
+/// Sends a message of the member's own: it is outstanding, and the event is recorded; its payload is shared by both. Answers its number.
 pub(crate) fn say(
     who: &Identity,
     view: ViewId,
-    payload: &Payload<'_>,
+    payload: OwnedPayload,
     forwards: &mut Forwards,
     out: &mut Output,
 ) -> Result<Number, AllocError>
     requires { push_refusal forwards.old ≡ None }
     ensures number { IfOk result (λ n. n ≡ forwards.old.sent + 1) }
-    ensures now { OnOk result (forwards.new ≡ pushed payload.now forwards.old) }
-    ensures happens { OnOk result (Grows who.now.group out.old out.new [] (Sent (sending who.now.address view (forwards.old.sent + 1) payload.now) ∷ [])) }
-    ensures short { OnOk result (length payload.now ≤ PAYLOAD) }
+    ensures now { OnOk result (forwards.new ≡ pushed payload forwards.old) }
+    ensures happens { OnOk result (Grows who.now.group out.old out.new [] (Sent (sending who.now.address view (forwards.old.sent + 1) payload) ∷ [])) }
+    ensures short { OnOk result (length payload ≤ PAYLOAD) }
 {
-    let _bytes = payload.as_slice();
-    let kept = OwnedPayload::copy_of(who.alloc, payload)?;
-    let Ok(number) = forwards.push(kept) else {
+    let bytes = payload.bytes(who.alloc)?;
+    let Ok(number) = forwards.push(payload) else {
         unreachable!();
     };
-    let sent = sending(who, view, number, payload)?;
+    let sent = sending(who, view, number, bytes);
     who.record(sent, out)?;
     Ok(number)
 }
@@ -71,17 +65,36 @@ impl Coordinator {
     fn say(
         &mut self,
         who: &Identity,
-        payload: &Payload<'_>,
+        payload: OwnedPayload,
         out: &mut Output,
     ) -> Result<Number, AllocError>
         requires { push_refusal self.old.forwards ≡ None }
         ensures number { IfOk result (λ n. n ≡ self.old.forwards.sent + 1) }
-        ensures now { OnOk result (self.new ≡ pushing payload.now self.old) }
-        ensures happens { OnOk result (Grows who.now.group out.old out.new [] (Sent (sending who.now.address self.old.view.id (self.old.forwards.sent + 1) payload.now) ∷ [])) }
-        ensures short { OnOk result (length payload.now ≤ PAYLOAD) }
+        ensures now { OnOk result (self.new ≡ pushing payload self.old) }
+        ensures happens { OnOk result (Grows who.now.group out.old out.new [] (Sent (sending who.now.address self.old.view.id (self.old.forwards.sent + 1) payload) ∷ [])) }
+        ensures short { OnOk result (length payload ≤ PAYLOAD) }
     {
         let number = say(who, self.view.id(), payload, &mut self.forwards, out)?;
         Ok(number)
+    }
+
+    // A message of its own is sent, and waits to be ordered: its payload is copied once.
+    fn say_and_queue(
+        &mut self,
+        who: &Identity,
+        payload: &Payload<'_>,
+        out: &mut Output,
+    ) -> Result<(), AllocError>
+        requires { push_refusal self.old.forwards ≡ None }
+        ensures now { OnOk result (self.new ≡ queued who.now.address (self.old.forwards.sent + 1) payload.now (pushing payload.now self.old)) }
+        ensures happens { OnOk result (Grows who.now.group out.old out.new [] (Sent (sending who.now.address self.old.view.id (self.old.forwards.sent + 1) payload.now) ∷ [])) }
+        ensures short { OnOk result (length payload.now ≤ PAYLOAD) }
+    {
+        let kept = OwnedPayload::copy_of(who.alloc, payload)?;
+        let waiting = kept.shared(who.alloc)?;
+        let number = self.say(who, kept, out)?;
+        self.queue_own(&who.address, number, waiting);
+        Ok(())
     }
 
     /// Sends a message: it waits, and all is ordered that may be; where one more may be ordered it is delivered at once. After an error for want of memory
@@ -105,8 +118,7 @@ impl Coordinator {
         ensures few { OnOk result (IsFewMore out.old out.new) }
     {
         let _rest = self.forwards.rest();
-        let number = self.say(who, payload, out)?;
-        self.queue(&who.address, number, payload)?;
+        self.say_and_queue(who, payload, out)?;
         self.order(who, receiver, out)?;
         Ok(())
     }

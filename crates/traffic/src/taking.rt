@@ -22,6 +22,7 @@ use crate::Follower;
 use crate::delivering::deliver_kept;
 use crate::sending::say;
 use address::limits::WINDOW;
+use nak_stream::OwnedPayload;
 use sequencer::Forward;
 use state_transfer::Receiver;
 use std::alloc::AllocError;
@@ -262,13 +263,13 @@ impl Follower {
     fn say(
         &mut self,
         who: &Identity,
-        payload: &Payload<'_>,
+        payload: OwnedPayload,
         out: &mut Output,
     ) -> Result<Number, AllocError>
         requires { push_refusal self.old.forwards ≡ None }
         ensures number { IfOk result (λ n. n ≡ self.old.forwards.sent + 1) }
-        ensures now { OnOk result (self.new ≡ follower_pushing payload.now self.old) }
-        ensures happens { OnOk result (Grows who.now.group out.old out.new [] (Sent (sending who.now.address self.old.view.id (self.old.forwards.sent + 1) payload.now) ∷ [])) }
+        ensures now { OnOk result (self.new ≡ follower_pushing payload self.old) }
+        ensures happens { OnOk result (Grows who.now.group out.old out.new [] (Sent (sending who.now.address self.old.view.id (self.old.forwards.sent + 1) payload) ∷ [])) }
     {
         let number = say(who, self.view.id(), payload, &mut self.forwards, out)?;
         Ok(number)
@@ -287,7 +288,8 @@ impl Follower {
         ensures sends { OnOk result (SendsForward (who_of who.now) payload.now self.old out.old out.new) }
     {
         let body = payload.as_slice();
-        let number = self.say(who, payload, out)?;
+        let kept = OwnedPayload::copy_of(who.alloc, payload)?;
+        let number = self.say(who, kept, out)?;
         let view = self.view.id();
         let Some(payload) = Payload::new(body) else {
             unreachable!();

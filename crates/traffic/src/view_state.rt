@@ -18,10 +18,18 @@ use wire::put_entry;
 use wire_values::{Count, Number};
 
 /// What a member keeps of its view: as its coordinator, or as another of its members.
-#[derive(Debug, Drop)]
 pub enum ViewState {
     Coordinator(Coordinator),
     Follower(Follower),
+}
+
+impl Drop for ViewState {
+    fn drop(self) {
+        match self {
+            ViewState::Coordinator(_) => {}
+            ViewState::Follower(_) => {}
+        }
+    }
 }
 
 fn put_placed(number: u64, entry: &Entry, out: &mut Vec<u8>) -> Result<(), AllocError>

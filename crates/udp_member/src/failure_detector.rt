@@ -33,7 +33,7 @@ pub const INSTALL: u8 = 12;
 pub const STATE: u8 = 14;
 
 /// Where a member stands.
-#[derive(Clone, Copy, Debug)]
+#[derive(Clone, Copy)]
 pub enum Standing {
     /// In no view.
     Outside,
@@ -46,7 +46,7 @@ pub enum Standing {
 }
 
 /// For how many rounds no sign of life came from an address, and whether one came in this round.
-#[derive(Clone, Copy, Debug)]
+#[derive(Clone, Copy)]
 pub struct Count {
     /// The address.
     pub address: Address,

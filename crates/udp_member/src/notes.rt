@@ -13,13 +13,24 @@ use view::View;
 
 /// What a runner notes of the datagrams that came: who was heard at the nodes where members may be sought, how many were of no use, and whom it
 /// has not heard for how long.
-#[derive(Drop)]
 pub(crate) struct RunnerNotes {
     alloc: Global,
     peers: Peers,
     garbled: u64,
     foreign: u64,
     detector: FailureDetector,
+}
+
+impl Drop for RunnerNotes {
+    fn drop(self) {
+        let RunnerNotes {
+            alloc: _,
+            peers: _,
+            garbled: _,
+            foreign: _,
+            detector: _,
+        } = self;
+    }
 }
 
 impl Model for RunnerNotes {

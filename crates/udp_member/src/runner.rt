@@ -27,7 +27,6 @@ use udp_net::{Fault, Net};
 pub const RECEIVES: usize = 64;
 
 /// Drives a channel over a net, by rounds.
-#[derive(Drop)]
 pub struct Runner<N: Net, R: Receiver> {
     net: N,
     channel: Channel<R>,
@@ -35,6 +34,19 @@ pub struct Runner<N: Net, R: Receiver> {
     pace: Pace,
     buffer: Vec<u8>,
     faults: u64,
+}
+
+impl<N: Net, R: Receiver> Drop for Runner<N, R> {
+    fn drop(self) {
+        let Runner {
+            net: _,
+            channel: _,
+            notes: _,
+            pace: _,
+            buffer: _,
+            faults: _,
+        } = self;
+    }
 }
 
 impl<N: Net, R: Receiver> Model for Runner<N, R> {
@@ -225,7 +237,15 @@ impl<N: Net, R: Receiver> Runner<N, R> {
     pub fn into_net(self) -> N
         ensures { result ≡ self.net }
     {
-        self.net
+        let Runner {
+            net,
+            channel: _,
+            notes: _,
+            pace: _,
+            buffer: _,
+            faults: _,
+        } = self;
+        net
     }
 
     // Receives a datagram and hands it in; answers whether there was one.

@@ -6,12 +6,20 @@ use address::{Address, Node, ViewId};
 use std::time::Duration;
 
 /// A net of one of two kinds, as the settings of a program want it.
-#[derive(Drop)]
 pub enum EitherNet<A: Net, B: Net> {
     /// One of the first kind.
     First(A),
     /// One of the second kind.
     Second(B),
+}
+
+impl<A: Net, B: Net> Drop for EitherNet<A, B> {
+    fn drop(self) {
+        match self {
+            EitherNet::First(_) => {}
+            EitherNet::Second(_) => {}
+        }
+    }
 }
 
 impl<A: Net, B: Net> Net for EitherNet<A, B> {

@@ -30,7 +30,6 @@ pub(crate) enum Verdict {
 }
 
 /// The words of a group's nodes, the sieve for their packets, and how many datagrams were dropped.
-#[derive(Drop)]
 pub(crate) struct Gate {
     pub(crate) sieve: Sieve,
     group: OwnedName,
@@ -39,6 +38,19 @@ pub(crate) struct Gate {
     spelled: Vec<u8>,
     pub(crate) strange: u64,
     pub(crate) sieved: u64,
+}
+
+impl Drop for Gate {
+    fn drop(self) {
+        let Gate {
+            sieve: _,
+            group: _,
+            neighbours: _,
+            spelled: _,
+            strange: _,
+            sieved: _,
+        } = self;
+    }
 }
 
 impl Gate {

@@ -29,7 +29,6 @@ pub(crate) enum Passage {
 
 /// The way to a node: its port and its host, how many bytes may be sent there and be offered for it yet in this turn, for how many turns of the net it is waited for before its next one,
 /// what is held back, which of its turns this is, and the chunks of states that went there last.
-#[derive(Drop)]
 pub(crate) struct Lane {
     port: NodePort,
     host: IpAddr,
@@ -40,6 +39,22 @@ pub(crate) struct Lane {
     turn: u64,
     gone: GoneChunks,
     ack: LatestAck,
+}
+
+impl Drop for Lane {
+    fn drop(self) {
+        let Lane {
+            port: _,
+            host: _,
+            to_send: _,
+            to_offer: _,
+            patience: _,
+            held: _,
+            turn: _,
+            gone: _,
+            ack: _,
+        } = self;
+    }
 }
 
 impl Model for Lane {

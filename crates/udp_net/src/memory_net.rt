@@ -13,7 +13,7 @@ use std::marker::Model;
 use std::time::Duration;
 
 /// A datagram that a net in memory was offered.
-#[derive(Debug, Drop)]
+#[derive(Drop)]
 pub struct Offered {
     /// For which node it is.
     pub node: Node,
@@ -24,12 +24,20 @@ pub struct Offered {
 }
 
 /// What a net in memory lists: one thing that happened at it.
-#[derive(Debug, Drop)]
 pub enum Listed {
     /// A receive was answered.
     Answered(Received),
     /// It was offered a datagram.
     Offered(Offered),
+}
+
+impl Drop for Listed {
+    fn drop(self) {
+        match self {
+            Listed::Answered(_) => {}
+            Listed::Offered(_) => {}
+        }
+    }
 }
 
 impl Listed {
@@ -46,7 +54,6 @@ impl Listed {
 
 /// A net in memory: it gives the datagrams that are put into it, and lists what its receives answered and what it was offered, in the order in which that happened. It carries
 /// nothing by itself. A receive and a send of it can be made to fail.
-#[derive(Drop)]
 pub struct MemoryNet {
     alloc: Global,
     waiting: VecDeque<Bytes>,
@@ -59,6 +66,23 @@ pub struct MemoryNet {
     failing_send: Option<u64>,
     failures: u64,
     unsent: u64,
+}
+
+impl Drop for MemoryNet {
+    fn drop(self) {
+        let MemoryNet {
+            alloc: _,
+            waiting: _,
+            listed: _,
+            is_listed: _,
+            receives: _,
+            failing_receive: _,
+            sends: _,
+            failing_send: _,
+            failures: _,
+            unsent: _,
+        } = self;
+    }
 }
 
 impl Model for MemoryNet {

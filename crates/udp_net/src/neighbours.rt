@@ -17,10 +17,15 @@ pub(crate) struct Age {
 }
 
 /// What words told of each node.
-#[derive(Drop)]
 pub(crate) struct Neighbours {
     told: Vec<Neighbour>,
     ages: Vec<Age>,
+}
+
+impl Drop for Neighbours {
+    fn drop(self) {
+        let Neighbours { told: _, ages: _ } = self;
+    }
 }
 
 impl Model for Neighbours {

@@ -6,7 +6,6 @@ use address::{Address, Bytes, Node, ViewId};
 use std::time::Duration;
 
 /// What a receive answered.
-#[derive(Debug, Drop)]
 pub enum Received {
     /// A datagram, as much of it as there was room for.
     Datagram(Bytes),
@@ -14,6 +13,16 @@ pub enum Received {
     Nothing,
     /// That it failed.
     Failed,
+}
+
+impl Drop for Received {
+    fn drop(self) {
+        match self {
+            Received::Datagram(_) => {}
+            Received::Nothing => {}
+            Received::Failed => {}
+        }
+    }
 }
 
 /// What carries datagrams between nodes: each may be lost, repeated, late, or come out of order (docs/RUNNER.md, "Rounds").

@@ -23,11 +23,20 @@ pub struct NodePort {
 
 /// What all nodes of a group agree on before they run: the group's name, after how many rounds of silence a member is suspected, and at which ports the nodes
 /// are.
-#[derive(Drop)]
 pub struct Settings {
     pub(crate) group: OwnedName,
     pub(crate) silent: u16,
     pub(crate) nodes: Vec<NodePort>,
+}
+
+impl Drop for Settings {
+    fn drop(self) {
+        let Settings {
+            group: _,
+            silent: _,
+            nodes: _,
+        } = self;
+    }
 }
 
 impl Model for Settings {

@@ -21,7 +21,6 @@ use wire::{Packet, decode};
 /// A net over another one that gives only what comes from the group's own nodes, as one of sealed frames does. It carries words too, and drops packets that would harm the
 /// group, as a socket's net does (docs/RUNNER.md, "What a net drops"); but it does not ask where a datagram comes from. A long burst goes in pieces, as that of a socket's net,
 /// and what is held back there is not held back twice.
-#[derive(Drop)]
 pub struct SievedNet<N: Net> {
     inner: N,
     lanes: Vec<Lane>,
@@ -30,6 +29,18 @@ pub struct SievedNet<N: Net> {
     gate: Gate,
     // What was lost: for want of memory, or of room among what is held back.
     lost: u64,
+}
+
+impl<N: Net> Drop for SievedNet<N> {
+    fn drop(self) {
+        let SievedNet {
+            inner: _,
+            lanes: _,
+            receives: _,
+            gate: _,
+            lost: _,
+        } = self;
+    }
 }
 
 // A turn of the net is over: what was held back for a node goes on, where the next one begins there.

@@ -10,7 +10,6 @@ use std::os::fd::{AsRawFd, RawFd};
 use std::time::Duration;
 
 /// A socket of UDP that waits only where it is asked to, and how many datagrams could not be sent on it. No call of `send` or `receive` waits.
-#[derive(Drop)]
 pub(crate) struct Socket {
     socket: UdpSocket,
     waiter: Waiter,
@@ -18,6 +17,17 @@ pub(crate) struct Socket {
     may_have_more: bool,
     // At most 2^64 - 1.
     unsent: u64,
+}
+
+impl Drop for Socket {
+    fn drop(self) {
+        let Socket {
+            socket: _,
+            waiter: _,
+            may_have_more: _,
+            unsent: _,
+        } = self;
+    }
 }
 
 impl Socket {

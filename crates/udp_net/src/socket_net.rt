@@ -39,7 +39,6 @@ use wire::{Packet, decode};
 /// long they are. For one node a turn of the net is over too where `OFFERS` bytes were offered for it, as by answers to one that asks often.
 ///
 /// Where something is held back, a wait has `HELD_WAIT` milliseconds at most, so that it goes on soon.
-#[derive(Drop)]
 pub struct SocketNet {
     socket: Socket,
     lanes: Vec<Lane>,
@@ -51,6 +50,20 @@ pub struct SocketNet {
     is_open: bool,
     // Whether each datagram of a node is given as it came.
     is_bare: bool,
+}
+
+impl Drop for SocketNet {
+    fn drop(self) {
+        let SocketNet {
+            socket: _,
+            lanes: _,
+            receives: _,
+            failures: _,
+            gate: _,
+            is_open: _,
+            is_bare: _,
+        } = self;
+    }
 }
 
 // A turn of the net is over: what was held back on a way goes on, where the next one begins there.

@@ -13,14 +13,14 @@ use wire::decode;
 use wire_values::Body;
 
 /// A chunk of a state, by what it is: for which proposal, and which one.
-#[derive(Clone, Copy, Debug)]
+#[derive(Clone, Copy)]
 pub(crate) struct ChunkName {
     proposal: ViewId,
     index: u8,
 }
 
 /// A chunk that went to a node, and in which of the node's turns.
-#[derive(Clone, Copy, Debug)]
+#[derive(Clone, Copy)]
 pub(crate) struct GoneChunk {
     name: ChunkName,
     turn: u64,

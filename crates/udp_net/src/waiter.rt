@@ -8,10 +8,15 @@ use std::time::Duration;
 pub(crate) const WAITED_FOR: usize = 2;
 
 /// Waits for descriptors at once. One that was ready wakes it again only when more comes to it.
-#[derive(Drop)]
 pub(crate) struct Waiter {
     poll: Poll,
     events: Events,
+}
+
+impl Drop for Waiter {
+    fn drop(self) {
+        let Waiter { poll: _, events: _ } = self;
+    }
 }
 
 impl Waiter {

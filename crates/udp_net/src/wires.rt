@@ -8,7 +8,7 @@ use std::collections::VecDeque;
 use std::time::Duration;
 
 /// Which call fails. Of all nodes, the first of each kind is numbered 1.
-#[derive(Clone, Copy, Debug, PartialEq, Eq)]
+#[derive(Clone, Copy, PartialEq, Eq)]
 pub enum Failing {
     /// None.
     Nothing,
@@ -21,7 +21,6 @@ pub enum Failing {
 }
 
 /// What waits for the nodes, how often they asked and sent, and which call fails.
-#[derive(Drop)]
 pub struct Wires {
     alloc: Global,
     // Each datagram that waits, and for which node, in the order of their sends.
@@ -36,6 +35,21 @@ pub struct Wires {
     /// How often a net of theirs waited.
     pub waits: u64,
     time: Duration,
+}
+
+impl Drop for Wires {
+    fn drop(self) {
+        let Wires {
+            alloc: _,
+            waiting: _,
+            receives: _,
+            sends: _,
+            failing: _,
+            taken: _,
+            waits: _,
+            time: _,
+        } = self;
+    }
 }
 
 impl Wires {

@@ -25,7 +25,7 @@ pub(crate) const WORD_VERSION: u8 = 1;
 pub(crate) const GREATEST_CLOCK: u64 = u64::MAX;
 
 /// What a node says of itself to another: a datagram that spells no packet, and is handed to no member (docs/WIRE.md, "Words").
-#[derive(Clone, Copy, Debug, PartialEq, Eq)]
+#[derive(Clone, Copy, PartialEq, Eq)]
 pub struct Word {
     /// The address of its member.
     pub source: Address,
@@ -38,7 +38,7 @@ pub struct Word {
 }
 
 /// A word that came.
-#[derive(Clone, Copy, Debug, PartialEq, Eq)]
+#[derive(Clone, Copy, PartialEq, Eq)]
 pub struct Echo {
     /// Who said it.
     pub address: Address,
@@ -47,7 +47,7 @@ pub struct Echo {
 }
 
 /// A view that a node is in.
-#[derive(Clone, Copy, Debug, PartialEq, Eq)]
+#[derive(Clone, Copy, PartialEq, Eq)]
 pub struct Place {
     /// The view's id.
     pub view: ViewId,
@@ -58,7 +58,7 @@ pub struct Place {
 }
 
 /// What words told of a node.
-#[derive(Clone, Copy, Debug, PartialEq, Eq)]
+#[derive(Clone, Copy, PartialEq, Eq)]
 pub struct Neighbour {
     /// The node.
     pub node: Node,

@@ -17,7 +17,6 @@ use udp_net::{BindError, EitherNet, Hosts, Net, Settings, SievedNet, SocketNet};
 pub type NodeNet = EitherNet<SocketNet, SievedNet<FramedNet<SocketNet>>>;
 
 /// This machine: each node has a socket of UDP, at its port by the settings. Contracts see whether a socket could not be bound, and what was told.
-#[derive(Drop)]
 pub struct Loopback<'a, R> {
     alloc: Global,
     runtime: &'a R,
@@ -31,6 +30,22 @@ pub struct Loopback<'a, R> {
     key: Option<&'a [u8]>,
     // What ends the waits of its nets too.
     other: Option<RawFd>,
+}
+
+impl<R> Drop for Loopback<'_, R> {
+    fn drop(self) {
+        let Loopback {
+            alloc: _,
+            runtime: _,
+            settings: _,
+            hosts: _,
+            is_unbound: _,
+            tally: _,
+            is_open: _,
+            key: _,
+            other: _,
+        } = self;
+    }
 }
 
 impl<'a, R> Model for Loopback<'a, R> {

@@ -22,12 +22,21 @@ use udp_net::{Net, NodePort, Settings};
 use vsync_text::{append_event, append_refusal};
 
 /// A node, and the process that runs there. Each call appends to a text what happened by it.
-#[derive(Drop)]
 pub(crate) struct NodeState<N: Net, C: Application> {
     node: Node,
     // The address of the member that was started there last.
     last: Option<Address>,
     process: Option<Process<N, C>>,
+}
+
+impl<N: Net, C: Application> Drop for NodeState<N, C> {
+    fn drop(self) {
+        let NodeState {
+            node: _,
+            last: _,
+            process: _,
+        } = self;
+    }
 }
 
 impl<N: Net, C: Application> NodeState<N, C> {

@@ -13,7 +13,6 @@ const LENGTH: usize = 32_768;
 const TURNS: u64 = 100;
 
 /// The nets of nodes 1 and 2.
-#[derive(Drop)]
 struct Pair {
     from: SocketNet,
     to: SocketNet,
@@ -21,6 +20,18 @@ struct Pair {
     // The numbers of the datagrams that came, and how many came before each turn of the sender.
     came: Vec<u8>,
     turns: Vec<usize>,
+}
+
+impl Drop for Pair {
+    fn drop(self) {
+        let Pair {
+            from: _,
+            to: _,
+            buffer: _,
+            came: _,
+            turns: _,
+        } = self;
+    }
 }
 
 /// The nets, at free ports.

@@ -6,7 +6,7 @@ use crate::{failing_nodes, failing_runners};
 use std::alloc::{AllocError, Global};
 
 /// How many were tried, and how many were as they must be.
-#[derive(Clone, Copy, Debug)]
+#[derive(Clone, Copy)]
 pub struct Tried {
     tried: u64,
     passed: u64,

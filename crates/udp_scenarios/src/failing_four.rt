@@ -20,7 +20,7 @@ const ROUNDS: u16 = 20;
 const SILENT: u32 = 50;
 
 /// What was counted after a round of one of the four.
-#[derive(Clone, Copy, Debug, PartialEq, Eq)]
+#[derive(Clone, Copy, PartialEq, Eq)]
 pub struct After {
     /// Whose round it was.
     pub index: usize,

@@ -14,7 +14,7 @@ use udp_runs::run_udp;
 const MERGED: &[u8] = b"chat 1.1 1.1:61\nchat 2.1 1.1:61\nchat 3.1 1.1:61\nchat 4.1 1.1:61\n";
 
 /// What came of the script: whether it was done and its trace holds, whether its text ends with the merged chats, and how often the nets were asked and sent.
-#[derive(Clone, Copy, Debug)]
+#[derive(Clone, Copy)]
 struct Came {
     holds: bool,
     is_merged: bool,

@@ -17,12 +17,21 @@ pub struct Returned {
 }
 
 /// A machine whose nets list what happens at them, and carry nothing. It keeps those that are given back, in order.
-#[derive(Drop)]
 pub struct Shelf {
     alloc: Global,
     returned: Vec<Returned>,
     // Whether it has all of them.
     is_whole: bool,
+}
+
+impl Drop for Shelf {
+    fn drop(self) {
+        let Shelf {
+            alloc: _,
+            returned: _,
+            is_whole: _,
+        } = self;
+    }
 }
 
 impl Model for Shelf {

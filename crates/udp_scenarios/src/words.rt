@@ -14,12 +14,22 @@ use wire_values::{Body, Count, GroupName, Packet, Roster};
 const PATIENCE: u64 = 50;
 
 /// The nets of nodes 1 and 2.
-#[derive(Drop)]
 struct Pair {
     alloc: Global,
     one: SocketNet,
     two: SocketNet,
     buffer: [u8; 512],
+}
+
+impl Drop for Pair {
+    fn drop(self) {
+        let Pair {
+            alloc: _,
+            one: _,
+            two: _,
+            buffer: _,
+        } = self;
+    }
 }
 
 /// The nets, at free ports. Their settings have a `silent` of 50.

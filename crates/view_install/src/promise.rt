@@ -8,7 +8,7 @@ use std::marker::Model;
 use wire_values::Roster;
 
 /// What the offer of a proposal is answered with.
-#[derive(Clone, Copy, Debug, PartialEq, Eq)]
+#[derive(Clone, Copy, PartialEq, Eq)]
 pub enum OfferAnswer {
     /// The proposal is promised from now on.
     Accept,
@@ -19,7 +19,7 @@ pub enum OfferAnswer {
 }
 
 /// What the install of a view is answered with.
-#[derive(Clone, Copy, Debug, PartialEq, Eq)]
+#[derive(Clone, Copy, PartialEq, Eq)]
 pub enum InstallAnswer {
     /// The view is installed from now on.
     Accept,

@@ -9,7 +9,7 @@ use script_reader::number_in;
 use std::alloc::{AllocError, Global};
 
 /// What is wrong with a value of `--peer`, or why there are no peers.
-#[derive(Clone, Copy, Debug, PartialEq, Eq)]
+#[derive(Clone, Copy)]
 pub(crate) enum PeersError {
     /// It is no NODE=HOST.
     Malformed,

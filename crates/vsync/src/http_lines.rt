@@ -14,7 +14,6 @@ use udp_runs::{Lines, LinesError};
 pub(crate) type Stable = Cell<Option<(ViewId, u64)>>;
 
 /// The lines that a desk tells, whose member runs by itself.
-#[derive(Drop)]
 pub(crate) struct HttpLines<'a> {
     desk: HttpDesk,
     stable: &'a Stable,
@@ -22,6 +21,17 @@ pub(crate) struct HttpLines<'a> {
     began: Option<Duration>,
     // Whether memory was refused to what it heard.
     is_short: bool,
+}
+
+impl Drop for HttpLines<'_> {
+    fn drop(self) {
+        let HttpLines {
+            desk: _,
+            stable: _,
+            began: _,
+            is_short: _,
+        } = self;
+    }
 }
 
 impl<'a> HttpLines<'a> {

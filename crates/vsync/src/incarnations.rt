@@ -127,7 +127,7 @@ fn incarnation_after(least: Address, last: Option<u64>, clock: u64) -> Option<Ad
 }
 
 /// An address with which a node starts.
-#[derive(Clone, Copy, Debug)]
+#[derive(Clone, Copy)]
 pub(crate) struct Start {
     /// The address.
     pub(crate) address: Address,

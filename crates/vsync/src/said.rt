@@ -17,13 +17,23 @@ const LOOKS: u64 = 10;
 
 /// The lines that are appended to a file. It is looked for by its path each time, so that it is known when it is there no longer; where it has become shorter, it is read from its
 /// beginning.
-#[derive(Drop)]
 pub(crate) struct Appended<'a, R> {
     rt: &'a R,
     path: &'a str,
     // How much of the file was read, or was there before.
     past: u64,
     buffer: Vec<u8>,
+}
+
+impl<R> Drop for Appended<'_, R> {
+    fn drop(self) {
+        let Appended {
+            rt: _,
+            path: _,
+            past: _,
+            buffer: _,
+        } = self;
+    }
 }
 
 impl<'a, R: Files> Appended<'a, R> {

@@ -14,7 +14,6 @@ use udp_net::{BindError, Net, NodePort};
 use udp_runs::{Loopback, NodeMachine, NodeNet, NodeStatus, Notice, Tally};
 
 /// This machine, which says on the standard error what whoever looks after a node should know, and writes the node's status to a file where it is given one (docs/CLI.md, "Nodes over UDP").
-#[derive(Drop)]
 pub(crate) struct Watched<'a, 'b, R> {
     rt: &'a R,
     alloc: Global,
@@ -28,6 +27,21 @@ pub(crate) struct Watched<'a, 'b, R> {
     quorum: u16,
     // Where it says how many messages are stable.
     stable: &'a Stable,
+}
+
+impl<R> Drop for Watched<'_, '_, R> {
+    fn drop(self) {
+        let Watched {
+            rt: _,
+            alloc: _,
+            machine: _,
+            nodes: _,
+            status: _,
+            is_unwritten: _,
+            quorum: _,
+            stable: _,
+        } = self;
+    }
 }
 
 // Appends a text.

@@ -9,7 +9,7 @@ use clap::{Arg, ArgAction, ArgMatches};
 use std::alloc::{AllocError, Global};
 
 /// What the members keep that a command runs, each one line of the program.
-#[derive(Clone, Copy, PartialEq, Eq)]
+#[derive(Clone, Copy)]
 pub enum Kept {
     /// The last 24 lines of a chat.
     Chat,
@@ -22,7 +22,7 @@ pub enum Kept {
 }
 
 /// What the members keep, by the flags of a command; the subcommands `map` and `locks` are such a flag too.
-#[derive(Clone, Copy, PartialEq, Eq)]
+#[derive(Clone, Copy)]
 pub struct KeptFlags {
     /// `--long`: the long chat.
     pub long: bool,

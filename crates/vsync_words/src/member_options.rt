@@ -22,7 +22,6 @@ pub const MOST_MERGE: u64 = 10_000;
 pub const MOST_QUORUM: u64 = MEMBERS as u64;
 
 /// How a member runs, by its options.
-#[derive(Drop)]
 pub struct MemberOptions<'a> {
     /// `--tick MS`: the time between two rounds, 1 to `MOST_TICK` milliseconds.
     pub tick: Option<u16>,
@@ -60,6 +59,31 @@ pub struct MemberOptions<'a> {
     pub status: Option<&'a str>,
     /// `--key-file FILE`: the file of the key of its group.
     pub key_file: Option<&'a str>,
+}
+
+impl Drop for MemberOptions<'_> {
+    fn drop(self) {
+        let MemberOptions {
+            tick: _,
+            merge: _,
+            incarnation_file: _,
+            say: _,
+            bind: _,
+            peers: _,
+            http: _,
+            forever: _,
+            leave: _,
+            text: _,
+            stats: _,
+            flags: _,
+            find: _,
+            any_source: _,
+            stable: _,
+            quorum: _,
+            status: _,
+            key_file: _,
+        } = self;
+    }
 }
 
 // An option whose value is a number in a range.

@@ -11,7 +11,7 @@ use view::ViewError;
 use wire_values::WireError;
 
 /// What `vsync explain` explains. Each topic has a code: a number that calls answer and commands print, or a word that `vsync check` prints.
-#[derive(Clone, Copy, PartialEq, Eq)]
+#[derive(Clone, Copy)]
 pub enum Topic {
     /// 1 to 9: a call or an input is refused (docs/CLI.md, "Refusals").
     Refusal(Refusal),

@@ -27,7 +27,6 @@ pub struct UdpWords<'a> {
 }
 
 /// The words of `member CONFIG NODE INCARNATION ROUNDS` and of its options, as clap matches them.
-#[derive(Drop)]
 pub struct MemberWords<'a> {
     /// The path of the settings.
     pub config: &'a str,
@@ -41,6 +40,19 @@ pub struct MemberWords<'a> {
     pub send: Option<&'a str>,
     /// How it runs.
     pub options: MemberOptions<'a>,
+}
+
+impl Drop for MemberWords<'_> {
+    fn drop(self) {
+        let MemberWords {
+            config: _,
+            address: _,
+            rounds: _,
+            contact: _,
+            send: _,
+            options: _,
+        } = self;
+    }
 }
 
 /// What is wrong with the words of `member` that clap takes.

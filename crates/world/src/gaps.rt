@@ -27,7 +27,7 @@ use world_model::WorldEvent;
 use world_step::NodeState;
 
 /// A member and the coordinator of its view: two members that run in that view and are not blocked.
-#[derive(Clone, Copy, Debug)]
+#[derive(Clone, Copy)]
 struct Pair {
     member: Address,
     view: ViewId,

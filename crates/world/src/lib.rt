@@ -34,7 +34,6 @@ use world_step::{NodeState, Pool, carry};
 
 /// A world of members, one at a node at a time, each with its receiver (docs/GUARANTEES.md, "The world"). Contracts see its history and
 /// what stands at each node: nothing yet, one that has ended, or the member that runs.
-#[derive(Drop)]
 pub struct World<R: Receiver> {
     alloc: Global,
     node_states: BTreeMap<Node, NodeState<R>>,
@@ -42,6 +41,19 @@ pub struct World<R: Receiver> {
     replies: Vec<Reply>,
     pool: Pool,
     trace: Trace,
+}
+
+impl<R: Receiver> Drop for World<R> {
+    fn drop(self) {
+        let World {
+            alloc: _,
+            node_states: _,
+            events: _,
+            replies: _,
+            pool: _,
+            trace: _,
+        } = self;
+    }
 }
 
 impl<R: Receiver> Model for World<R> {

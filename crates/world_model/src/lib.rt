@@ -9,7 +9,6 @@ use address::{Address, Bytes, Node};
 use std::alloc::{AllocError, Global};
 
 /// What a world is given to do (docs/GUARANTEES.md, "Faithful").
-#[derive(Debug, Drop)]
 pub enum WorldEvent {
     /// The node's next incarnation begins to run.
     Start(Node),
@@ -33,8 +32,25 @@ pub enum WorldEvent {
     Crash(Node),
 }
 
+impl Drop for WorldEvent {
+    fn drop(self) {
+        match self {
+            WorldEvent::Start(_) => {}
+            WorldEvent::Create(_) => {}
+            WorldEvent::Join(_, _) => {}
+            WorldEvent::Send(_, _) => {}
+            WorldEvent::Deliver(_) => {}
+            WorldEvent::Tick(_) => {}
+            WorldEvent::Suspect(_, _) => {}
+            WorldEvent::MergeHint(_, _) => {}
+            WorldEvent::Leave(_) => {}
+            WorldEvent::Crash(_) => {}
+        }
+    }
+}
+
 /// Whom an event concerns.
-#[derive(Clone, Copy, Debug, PartialEq, Eq)]
+#[derive(Clone, Copy, PartialEq, Eq)]
 pub enum Target {
     /// The member of this node.
     Member(Node),
@@ -99,7 +115,7 @@ impl WorldEvent {
 }
 
 /// What an event is answered.
-#[derive(Clone, Copy, Debug, PartialEq, Eq)]
+#[derive(Clone, Copy, PartialEq, Eq)]
 pub enum Answer {
     /// It was done.
     Done,
@@ -110,7 +126,7 @@ pub enum Answer {
 }
 
 /// The answer to a world event, and its place: how many events stand in the trace after it.
-#[derive(Clone, Copy, Debug, PartialEq, Eq)]
+#[derive(Clone, Copy, PartialEq, Eq)]
 pub struct Reply {
     pub answer: Answer,
     pub place: usize,

@@ -27,11 +27,20 @@ use wire_values::GroupName;
 use world_model::{Answer, WorldEvent};
 
 /// What runs at a node.
-#[derive(Drop)]
 pub enum NodeState<R: Receiver> {
     Vacant,
     Ended(Address),
     Running(Member<R>),
+}
+
+impl<R: Receiver> Drop for NodeState<R> {
+    fn drop(self) {
+        match self {
+            NodeState::Vacant => {}
+            NodeState::Ended(_) => {}
+            NodeState::Running(_) => {}
+        }
+    }
 }
 
 /// What an event is answered whose input the member refused. The bytes of a pool spell packets, so none is refused for them.

@@ -13,10 +13,18 @@ use std::marker::Model;
 use step_output::Outgoing;
 
 /// Packets as bytes, numbered from 1 in the order in which they were put out. Nothing is ever removed. To whom each goes is kept beside it.
-#[derive(Debug, Drop)]
 pub struct Pool {
     packets: Vec<Bytes>,
     destinations: Vec<Address>,
+}
+
+impl Drop for Pool {
+    fn drop(self) {
+        let Pool {
+            packets: _,
+            destinations: _,
+        } = self;
+    }
 }
 
 impl Model for Pool {

@@ -13,11 +13,20 @@ use std::collections::HashMap;
 use trace_props::{Message, Numbered};
 
 /// What a member sent and delivered in a view, and the number of the last message of each sender that it delivered.
-#[derive(Drop)]
 pub struct InView<'a> {
     pub sent: Vec<&'a Numbered>,
     pub delivered: Vec<&'a Message>,
     pub lasts: Vec<Last>,
+}
+
+impl Drop for InView<'_> {
+    fn drop(self) {
+        let InView {
+            sent: _,
+            delivered: _,
+            lasts: _,
+        } = self;
+    }
 }
 
 impl<'a> InView<'a> {

@@ -16,7 +16,6 @@ use std::collections::HashMap;
 use trace_props::{Event, Install};
 
 /// The events so far, and what is looked up of them: by member, by view, or by both.
-#[derive(Drop)]
 pub struct Tables<'a> {
     pub events: Vec<&'a Event>,
     pub standings: HashMap<Address, Standing>,
@@ -24,6 +23,19 @@ pub struct Tables<'a> {
     pub entries: HashMap<MemberInView, &'a Install>,
     pub firsts: HashMap<ViewId, &'a Install>,
     pub view_changes: HashMap<ViewChange, &'a Install>,
+}
+
+impl Drop for Tables<'_> {
+    fn drop(self) {
+        let Tables {
+            events: _,
+            standings: _,
+            in_views: _,
+            entries: _,
+            firsts: _,
+            view_changes: _,
+        } = self;
+    }
 }
 
 impl<'a> Tables<'a> {

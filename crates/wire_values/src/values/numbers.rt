@@ -5,7 +5,7 @@ use address::limits::{GREATEST_NUMBER, WINDOW};
 use std::marker::Model;
 
 /// A number from 1 to `GREATEST_NUMBER`: of a message, of a place in a view's order, or a view's counter.
-#[derive(Clone, Copy, Debug)]
+#[derive(Clone, Copy)]
 pub struct Number {
     value: u64,
 }

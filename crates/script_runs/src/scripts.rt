@@ -1,6 +1,6 @@
 ghost use Rattle.vsync_text.specs.Runs.{lines_of_run};
 ghost use Rattle.endings.specs.Outcomes.{Written, IsLinesText, ReadsScript};
-ghost use Rattle.commands.specs.Outcomes.{IsRunText, RunsScript};
+ghost use Rattle.script_runs.specs.Outcomes.{IsRunText, RunsScript};
 
 use endings::{Status, Unreadable, end_in_fault, end_in_memory, end_with, read_all};
 use script_reader::{AsWritten, Payloads, Script, Unread, read_script_by};
@@ -30,9 +30,9 @@ pub fn script_from<P: Payloads, I: Read, W: Write>(
     }
 }
 
-/// Writes what happened in a world that ran events of these lines: all of it, or with `# memory` at its end where
+/// Writes what happened in a world that ran events of these lines (docs/FORMATS.md): all of it, or with `# memory` at its end where
 /// the world could not run them all.
-pub(crate) fn print_run<R: Receiver, W: Write>(
+pub fn print_run<R: Receiver, W: Write>(
     alloc: Global,
     world: &World<R>,
     ran: bool,

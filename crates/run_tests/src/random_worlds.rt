@@ -22,7 +22,7 @@ const EVENTS: u64 = 8;
 const NODES: u16 = 4;
 
 /// Numbers that look random: Knuth's linear congruential generator, its upper bits.
-#[derive(Clone, Copy, Debug)]
+#[derive(Clone, Copy)]
 struct Random {
     state: u64,
 }
@@ -154,7 +154,7 @@ fn comes_by_reports(world: &mut World<Last>, at: Node) -> bool {
 }
 
 /// How many settlings completed a change, and how many did nothing.
-#[derive(Clone, Copy, Debug)]
+#[derive(Clone, Copy)]
 struct Tally {
     settled: u64,
     rested: u64,
