@@ -12,7 +12,7 @@ use std::io::{ErrorKind, Read, Write};
 use vsync_text::put_all;
 
 /// Why an input was not read whole.
-#[derive(Clone, Copy, Debug, PartialEq, Eq)]
+#[derive(Clone, Copy, Debug)]
 pub enum Unreadable {
     /// Memory was refused.
     Memory,

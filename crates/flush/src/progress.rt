@@ -1,5 +1,5 @@
 /// How far a flush has come.
-#[derive(Clone, Copy, PartialEq, Eq)]
+#[derive(Clone, Copy)]
 pub enum Progress {
     /// A report of one of the list or more is awaited.
     Waiting,

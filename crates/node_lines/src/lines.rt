@@ -7,7 +7,7 @@ use std::time::Duration;
 use trace_props::Event;
 
 /// Why no more lines come.
-#[derive(Clone, Copy, PartialEq, Eq)]
+#[derive(Clone, Copy)]
 pub enum LinesError {
     /// What they are read from cannot be read, or is there no longer.
     Gone,

@@ -16,7 +16,7 @@ use std::marker::Model;
 const END: &[u8] = b"\x04";
 
 /// Why a line cannot be sent.
-#[derive(Clone, Copy, PartialEq, Eq)]
+#[derive(Clone, Copy)]
 pub enum OutboxError {
     /// It is longer than a payload.
     Long,

@@ -2,7 +2,7 @@ use address::Node;
 use address::limits::Refusal;
 
 /// What stands between a trace's events: something that was refused, or a packet on its way.
-#[derive(Clone, Copy, PartialEq, Eq)]
+#[derive(Clone, Copy)]
 pub struct Aside {
     /// How many events had happened.
     pub place: usize,
@@ -15,7 +15,7 @@ pub struct Aside {
 }
 
 /// What an aside is.
-#[derive(Clone, Copy, PartialEq, Eq)]
+#[derive(Clone, Copy)]
 pub enum AsideKind {
     /// The event of a script's line was refused.
     Refused { line: u64, refusal: Refusal },
@@ -26,7 +26,7 @@ pub enum AsideKind {
 }
 
 /// Where an aside is drawn.
-#[derive(Clone, Copy, PartialEq, Eq)]
+#[derive(Clone, Copy)]
 pub struct AsideRow {
     /// The column of its node's last member so far. None where nothing happened at the node before.
     pub column: Option<u32>,

@@ -24,14 +24,14 @@ pub const NAMES: u64 = 40;
 pub const MARGIN: u64 = 60;
 
 /// A place of the picture, in points from the left and from the top.
-#[derive(Clone, Copy, PartialEq, Eq)]
+#[derive(Clone, Copy)]
 pub struct Place {
     pub x: u64,
     pub y: u64,
 }
 
 /// A mark. Lines, stretches and ways have two ends; each other mark stands at a place, and is the own one of an event or of an aside.
-#[derive(Clone, Copy, PartialEq, Eq)]
+#[derive(Clone, Copy)]
 pub enum Mark {
     /// A member's line.
     Lifeline { from: Place, to: Place },

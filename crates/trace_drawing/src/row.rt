@@ -1,7 +1,7 @@
 use address::{Address, ViewId};
 
 /// How the row of an event is laid out. Columns count the members from 0, levels the events and what was refused between them.
-#[derive(Clone, Copy, PartialEq, Eq)]
+#[derive(Clone, Copy)]
 pub struct Row {
     /// The column of the event's member.
     pub column: u32,
@@ -16,7 +16,7 @@ pub struct Row {
 }
 
 /// A member's line.
-#[derive(Clone, Copy, PartialEq, Eq)]
+#[derive(Clone, Copy)]
 pub struct Line {
     /// The member.
     pub member: Address,

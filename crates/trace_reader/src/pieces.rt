@@ -16,7 +16,7 @@ use trace_props::Trace;
 const PIECE: usize = 65_536;
 
 /// Why no trace was read from a reader.
-#[derive(Clone, Copy, PartialEq, Eq)]
+#[derive(Clone, Copy)]
 pub enum Untold {
     /// The first fault of its text, and the number of that line, from 1.
     Fault { line: u64, fault: Fault },

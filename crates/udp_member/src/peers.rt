@@ -8,7 +8,7 @@ use std::marker::Model;
 use view::View;
 
 /// A node at which a member may be sought.
-#[derive(Clone, Copy, PartialEq, Eq)]
+#[derive(Clone, Copy)]
 pub struct Peer {
     /// The node.
     pub node: Node,

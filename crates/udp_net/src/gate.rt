@@ -17,7 +17,7 @@ use wire::Packet;
 use wire_values::WireError;
 
 /// What becomes of a datagram that comes.
-#[derive(Clone, Copy, PartialEq, Eq)]
+#[derive(Clone, Copy)]
 pub(crate) enum Verdict {
     /// It is given.
     Given,

@@ -15,7 +15,7 @@ use std::marker::Model;
 use std::net::{IpAddr, SocketAddr};
 
 /// What becomes of a datagram that is offered for a node.
-#[derive(Clone, Copy, PartialEq, Eq)]
+#[derive(Clone, Copy)]
 pub(crate) enum Passage {
     /// It goes at once, and must be sent then.
     Goes,

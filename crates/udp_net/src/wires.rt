@@ -8,7 +8,7 @@ use std::collections::VecDeque;
 use std::time::Duration;
 
 /// Which call fails. Of all nodes, the first of each kind is numbered 1.
-#[derive(Clone, Copy, PartialEq, Eq)]
+#[derive(Clone, Copy)]
 pub enum Failing {
     /// None.
     Nothing,
@@ -81,7 +81,7 @@ impl Wires {
     // Puts a datagram for a node behind the others, unless this send fails.
     fn send(&mut self, node: Node, bytes: &[u8]) {
         self.sends = self.sends.wrapping_add(1);
-        if self.failing != Failing::Send(self.sends) {
+        if !matches!(self.failing, Failing::Send(at) if at == self.sends) {
             if let Ok(bytes) = Bytes::from_slice(self.alloc, bytes) {
                 let _ = self.waiting.push_back((node, bytes));
             }
@@ -98,10 +98,10 @@ impl Wires {
     // The next datagram for a node, unless this receive fails.
     fn receive(&mut self, node: Node) -> Result<Option<Bytes>, Fault> {
         self.receives = self.receives.wrapping_add(1);
-        if self.failing == Failing::Receive(self.receives) {
+        if matches!(self.failing, Failing::Receive(at) if at == self.receives) {
             return Err(Fault::Receive);
         }
-        if self.failing == Failing::Empty(self.receives) {
+        if matches!(self.failing, Failing::Empty(at) if at == self.receives) {
             return Ok(None);
         }
         Ok(self.take(node))

@@ -19,7 +19,7 @@ pub enum OfferAnswer {
 }
 
 /// What the install of a view is answered with.
-#[derive(Clone, Copy, PartialEq, Eq)]
+#[derive(Clone, Copy)]
 pub enum InstallAnswer {
     /// The view is installed from now on.
     Accept,

@@ -11,7 +11,7 @@ use trace_props::Event;
 use world_model::{Answer, Reply};
 
 /// How the writing of a run ended.
-#[derive(Clone, Copy, PartialEq, Eq)]
+#[derive(Clone, Copy)]
 pub enum Printed {
     /// The writer took all of its text.
     All,
