@@ -1,5 +1,5 @@
 /// How far a flush has come.
-#[derive(Clone, Copy)]
+#[derive(Clone, Copy, PartialEq, Eq)]
 pub enum Progress {
     /// A report of one of the list or more is awaited.
     Waiting,

@@ -6,7 +6,7 @@ ghost use Rattle.channel.specs.Channels.{receiver_in};
 ghost use Rattle.vsync_text.specs.TraceText.{line_of};
 ghost use Rattle.node_turns.specs.Processes.{all_told};
 ghost use Rattle.node_turns.specs.OwnLines.{InState, texts_of as own_texts};
-ghost use Rattle.node_turns.specs.Telling.{AppendsSaid, AppendsTurn, Shown, Writes, WritesTurn};
+ghost use Rattle.node_turns.specs.Telling.{AppendsSaid, AppendsTurn, Shown, ThenOffers, Writes, WritesTurn};
 ghost use Rattle.node_turns.specs.Texts.{Happens, texts_of};
 ghost use Rattle.node_lines.specs.Came.{KeepsUnsaid};
 ghost use Rattle.node_lines.specs.Unsaid.{noted};
@@ -23,6 +23,8 @@ use node_lines::{Lines, Unsaid};
 use std::alloc::{AllocError, Global};
 use std::io::Write;
 use trace_props::Event;
+use udp_member::Runner;
+use udp_net::Net;
 use vsync_text::{append_event, put};
 
 /// How a node tells what happens.
@@ -136,6 +138,28 @@ impl Teller {
         self.text.clear();
         let appended = self.append_turn(channel, lines);
         show(writer, &mut self.text, appended)
+    }
+
+    /// Writes what is to be told of the channel of a runner, as `tell` does, and then offers what waits; nothing is offered where that was not written whole.
+    pub fn tell_then_offer<N: Net, C: Application, L: Lines, W: Write>(
+        &mut self,
+        runner: &mut Runner<N, C>,
+        lines: &mut L,
+        writer: &mut W,
+    ) -> Result<(), Cut>
+        ensures tells { WritesTurn C.line_of self.old.voice runner.old.channel (W.contents writer.old) (W.contents writer.new) result }
+        ensures offers { ThenOffers N.log N.failed runner.old runner.new result }
+        ensures voice { self.new.voice ≡ self.old.voice }
+        ensures unsaid { OnOk result (KeepsUnsaid self.old.unsaid self.new.unsaid) }
+        ensures came { L.came lines.new ≡ L.came lines.old }
+    {
+        match self.tell(runner.channel(), lines, writer) {
+            Ok(()) => {
+                runner.offer();
+                Ok(())
+            }
+            Err(why) => Err(why),
+        }
     }
 
     /// Writes the line of the member of a channel, which shows its state, unless it has ended; nothing where it tells what is said.

@@ -1,4 +1,5 @@
 use crate::fixtures::first_of;
+use address::Bytes;
 use nak_stream::{Entry, OwnedPayload, Window, beginnings_agree, windows_agree};
 use wire_values::{Entry as LentEntry, Number, Payload};
 
@@ -89,4 +90,20 @@ fn a_copy_has_the_parts_of_the_lent_one(rt: HostRuntime) {
     let payload = payload.expect(&rt, "a copy");
     let bytes = payload.lent().as_slice();
     assert!(rt; bytes == [1, 2].as_slice(), "the payload");
+}
+
+#[test]
+fn a_payload_that_is_kept_is_shared(rt: HostRuntime) {
+    let shared = Bytes::shared_from(rt.alloc(), &[1, 2]).ok();
+    let shared = shared.expect(&rt, "memory");
+    let payload = Payload::new(shared.as_slice()).expect(&rt, "a payload");
+    let kept = OwnedPayload::copy_of(rt.alloc(), &payload).ok();
+    let kept = kept.expect(&rt, "memory");
+    let again = kept.shared(rt.alloc()).ok().expect(&rt, "memory");
+    let bytes = kept.bytes(rt.alloc()).ok().expect(&rt, "memory");
+    assert!(rt;
+        again.lent().as_slice() == [1, 2].as_slice(),
+        "kept once more"
+    );
+    assert!(rt; bytes.as_slice() == [1, 2].as_slice(), "its bytes");
 }

@@ -14,6 +14,18 @@ fn offered(orderer: &mut Orderer, sender: Address, number: u64, byte: u8) -> boo
     }
 }
 
+/// Whether the message of an address with one byte is taken that is kept already; false also where memory was refused.
+fn taken(alloc: Global, orderer: &mut Orderer, sender: Address, number: u64, byte: u8) -> bool {
+    let bytes = [byte];
+    let (Some(number), Some(payload)) = (Number::new(number), Payload::new(&bytes)) else {
+        return false;
+    };
+    match OwnedPayload::copy_of(alloc, &payload) {
+        Ok(kept) => orderer.take(&sender, number, kept),
+        Err(_) => false,
+    }
+}
+
 /// The number in the order, the sender's node, the number and the first byte of the message that comes next.
 fn ordered(orderer: &mut Orderer) -> Option<(u64, u16, u64, u8)> {
     let (g, entry) = orderer.ready(0)?;
@@ -35,7 +47,7 @@ fn orders_by_rank_and_number(rt: HostRuntime) {
     assert!(rt; offered(&mut orderer, two, 2, 120), "2 of 2.1");
     assert!(rt; ordered(&mut orderer).is_none(), "1 of 2.1 lacks");
     assert!(rt; offered(&mut orderer, two, 1, 121), "1 of 2.1");
-    assert!(rt; offered(&mut orderer, one, 1, 122), "1 of 1.1");
+    assert!(rt; taken(rt.alloc(), &mut orderer, one, 1, 122), "1 of 1.1");
     let (first, second) = (ordered(&mut orderer), ordered(&mut orderer));
     assert!(rt; first == Some((1, 1, 1, 122)), "1 of 1.1 comes first");
     assert!(rt; second == Some((2, 2, 1, 121)), "then 1 of 2.1");

@@ -219,13 +219,7 @@ impl<'a, N: Net, C: Application> LoneNode<'a, N, C> {
         ensures owes { OnOk result (Keeps self.old.outbox self.old.teller.unsaid self.new.outbox self.new.teller.unsaid) }
         ensures came { L.came lines.new ≡ L.came lines.old }
     {
-        match self.teller.tell(self.member.channel(), lines, writer) {
-            Ok(()) => {
-                self.member.offer();
-                Ok(())
-            }
-            Err(why) => Err(why),
-        }
+        self.teller.tell_then_offer(&mut self.member, lines, writer)
     }
 
     // Connects it, and tells what happened.

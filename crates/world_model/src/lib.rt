@@ -50,7 +50,7 @@ impl Drop for WorldEvent {
 }
 
 /// Whom an event concerns.
-#[derive(Clone, Copy)]
+#[derive(Clone, Copy, PartialEq, Eq)]
 pub enum Target {
     /// The member of this node.
     Member(Node),
@@ -115,7 +115,7 @@ impl WorldEvent {
 }
 
 /// What an event is answered.
-#[derive(Clone, Copy)]
+#[derive(Clone, Copy, PartialEq, Eq)]
 pub enum Answer {
     /// It was done.
     Done,
@@ -126,7 +126,7 @@ pub enum Answer {
 }
 
 /// The answer to a world event, and its place: how many events stand in the trace after it.
-#[derive(Clone, Copy)]
+#[derive(Clone, Copy, PartialEq, Eq)]
 pub struct Reply {
     pub answer: Answer,
     pub place: usize,
