@@ -1,6 +1,6 @@
 -- What the library's lemmas lack of options, results and tests.
-use Rattle.std.proofs.Common.{◌≡◌, Bool, true, false, ◌||◌, Option, Some, None, Result, Ok, Err, is_some, is_err, refl}
-use Rattle.std.specs.Prelude.{MatchBool, OnOk, OnErr}
+use Rattle.std.proofs.Common.{◌≡◌, Bool, true, false, ◌||◌, Option, Some, None, Result, Ok, Err, is_some, refl}
+use Rattle.std.specs.Prelude.{MatchBool, OnErr}
 use Rattle.std.specs.Option.{option_or}
 
 -- ---- options
@@ -18,10 +18,6 @@ found None e = absurd (let n : false ≡ true = e in cc)
 found (Some x) e = (x, refl)
 
 -- ---- results
-
-pub on-ok : {X E P : Type 0} (r : Result X E) → is_err r ≡ false → OnOk r P → P
-on-ok (Ok x) e p = p
-on-ok (Err f) e p = absurd (let n : true ≡ false = e in cc)
 
 pub on-err : {X E : Type 0} (r : Result X E) (P : Type 0) → P → OnErr r P
 on-err (Ok x) P p = tt

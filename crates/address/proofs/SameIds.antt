@@ -46,12 +46,6 @@ same_view_id-refl v = ap (λ (x : Bool). x && same_address v.creator v.creator) 
 pub same_view_id-from : (v w : ViewId) → v ≡ w → same_view_id v w ≡ true
 same_view_id-from v w e = subst (λ (x : ViewId). same_view_id v x ≡ true) e (same_view_id-refl v)
 
--- the test does not ask for an order
-pub same_view_id-sym : (v w : ViewId) → same_view_id v w ≡ same_view_id w v
-same_view_id-sym v w = bool-same (same_view_id v w) (same_view_id w v)
-    (λ e. same_view_id-from w v (sym (same_view_id-true v w e)))
-    (λ e. same_view_id-from v w (sym (same_view_id-true w v e)))
-
 -- two numbers compare equal exactly if they are
 pub is_eq-nat : (a b : ℕ) → is_eq (nat_cmp a b) ≡ nat_eq a b
 is_eq-nat a b = grind (arith, nat_tests)

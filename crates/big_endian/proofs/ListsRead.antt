@@ -7,10 +7,6 @@ abbrev pub with_front : {A : Type 0} → List A → Read (List A) → Read (List
 with_front front (Some x) = Some (front ++ x.0, x.1)
 with_front front None = None
 
-pub list_begins : {A : Type 0} (r : Read (List A)) → with_front [] r ≡ r
-list_begins (Some x) = refl
-list_begins None = refl
-
 pub list_goes_on : {A : Type 0} (read : List ℕ → Read A) (count i : ℕ) (bytes : List ℕ) (front : List A) (x : A) (rest : List ℕ) (total : Read (List A)) → i < count → read bytes ≡ Some (x, rest)
     → with_front front (list_at read (count - i) bytes) ≡ total → with_front (front ++ x ∷ []) (list_at read (count - (i + 1)) rest) ≡ total
 unfolding list_at

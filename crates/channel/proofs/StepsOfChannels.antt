@@ -109,10 +109,6 @@ module _ {S : Type 0} (meaning : Meaning S) where
       → Keeps out (at c mid) failure new → Calls meaning input c failure new
   kept input c r mid out failure new x is k = kept-at input c c.stage mid out failure new (subst (λ (z : Result Output Error). Hands meaning input c.stage z mid) is x) k
 
-  -- without room for it the channel has ended
-  pub left-kept : (c : ChannelModel S) (mid : Stage S) (out : Output) (e : Error) (new : ChannelModel S) → Keeps out (at c mid) (Some e) new → new ≡ left_by e c
-  left-kept c mid out e new k = k.1 ∙ sym (ap (λ (z : Error). left_by z c) k.0)
-
   -- ---- a leave
 
   left-core-at : (core : Option (Core S)) (left : MemberModel S) (out : Output) → IsSomeAnd core (λ c. Replies c Leave out.events.items (core_of left)) → core_of left ≡ None

@@ -77,7 +77,3 @@ is_in name stage = option_map_or (same_name name) (group_in stage) false
 -- what packet a datagram spells that is for it: of the group that it is connected to, to its address, and from another
 abbrev pub heard_at : {S : Type 0} → List ℕ → ChannelModel S → Option Heard
 heard_at bytes c = option_and_then (λ group. heard_of c.address group bytes) (group_in c.stage)
-
--- from whom it came
-abbrev pub source_at : {S : Type 0} → List ℕ → ChannelModel S → Option Address
-source_at bytes c = option_map (λ heard. heard.source) (heard_at bytes c)

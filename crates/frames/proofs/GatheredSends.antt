@@ -53,11 +53,6 @@ module _ (place : ℕ) (content : List ℕ) where
 
   -- ---- each of some
 
-  pub gathers-on : (before mid after : List Variant) (o n : OutletModel) (old new all : List OutletModel) → Takes place content before o mid n → Gathers place content mid old after new
-      → all ≡ o ∷ old → Gathers place content before all after (n ∷ new)
-  gathers-on before mid after o n old new all t g e =
-      subst (λ (xs : List OutletModel). Gathers place content before xs after (n ∷ new)) (sym e) (mid, t, g)
-
   pub wait-gathered : (sent : List (List ℕ)) (before : List Variant) (old : List OutletModel) (after : List Variant) (new : List OutletModel) → Gathers place content before old after new
       → WaitOf sent old → WaitOf sent new
   wait-gathered sent before [] after [] g of = tt

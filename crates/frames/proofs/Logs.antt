@@ -1,17 +1,12 @@
 -- How the list of a net grows.
-use Rattle.std.proofs.Common.{◌≡◌, ℕ, List, [], ◌∷◌, ◌++◌, take, length, refl, ap, ◌∙◌, Option, Some, None, arith}
+use Rattle.std.proofs.Common.{◌≡◌, ℕ, List, [], ◌∷◌, ◌++◌, take, length, refl, ap, ◌∙◌, Option, Some, None}
 use Rattle.std.specs.Prelude.{slice_get}
 use Rattle.std.proofs.Math.Seq.{take-append_seam}
-use Rattle.std.proofs.lemmas.List.{take_all}
 use Rattle.udp_net.specs.Logs.{Log, NetEvent, Answered, Lists, listing, receiving}
 use Rattle.udp_net.specs.declared.net.Received.TheVariants as received
 use Rattle.frames.specs.Nets.{Grows}
 use Rattle.frames.specs.Arrivals.{GivenIn}
 use Rattle.trace_props.proofs.RulesAlongLists.{slice_get-take, slice_get-last}
-
-pub grows-none : (log : Option Log) → Grows log log
-grows-none None = tt
-grows-none (Some l) = take_all (length l) l (omega arith)
 
 take-more : (o more : Log) → take (length o) (o ++ more) ≡ o
 take-more o more = take-append_seam o more
@@ -20,11 +15,6 @@ pub grows-listing : (old new : Option Log) (e : NetEvent) → Lists old (listing
 grows-listing old None e x = tt
 grows-listing None (Some l) e x = x
 grows-listing (Some o) (Some l) e x = rw x (take-more o (e ∷ []))
-
-pub grows-same : (old new : Option Log) → Lists old (λ l. l) new → Grows old new
-grows-same old None x = tt
-grows-same None (Some l) x = x
-grows-same (Some o) (Some l) x = rw x (take_all (length o) o (omega arith))
 
 -- a beginning of a beginning
 take-take : (A : Type 0) (a b c : List A) → take (length a) b ≡ a → take (length b) c ≡ b → take (length a) c ≡ a

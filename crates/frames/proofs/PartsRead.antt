@@ -24,9 +24,6 @@ varied-is place content other front back =
 abbrev pub HasSix : Variant → Type 0
 HasSix v = length v.bytes ≡ 6
 
-one-row : (n : ℕ) → 8 + 8 * n ≡ 8 * (1 + n)
-one-row n = omega arith
-
 pub length-rows : (variants : List Variant) → AllByRecursion HasSix variants → length (rows_of variants) ≡ 8 * length variants
 length-rows [] six = refl
 length-rows (v ∷ variants) six =

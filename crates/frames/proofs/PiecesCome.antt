@@ -1,8 +1,8 @@
 -- What is kept of a long packet's pieces, as more of them come.
-use Rattle.std.proofs.Common.{◌≡◌, ◌<◌, ◌+◌, ℕ, zero, suc, true, List, [], ◌∷◌, ◌++◌, length, replicate, sym, ap, ◌∙◌, subst, Option, Some, None, arith}
+use Rattle.std.proofs.Common.{◌≡◌, ◌+◌, ℕ, zero, suc, true, List, [], ◌∷◌, ◌++◌, length, replicate, sym, ap, ◌∙◌, subst, Option, Some, None, arith}
 use Rattle.std.specs.Prelude.{slice_set}
 use Rattle.std.proofs.lemmas.List.{length-set}
-use Rattle.std.specs.List.{AllByRecursion, remove, slice_index_or}
+use Rattle.std.specs.List.{AllByRecursion}
 use Rattle.udp_net.specs.Logs.{Log}
 use Rattle.frames.specs.Partials.{PieceModel}
 use Rattle.frames.specs.Arrivals.{ArrivedPiece, ArrivedInPieces, GivenIn, PiecesCame, is_whole, joined}
@@ -27,17 +27,6 @@ module _ {A : Type 0} (Holds : A → Type 0) where
   pub all-push : (xs : List A) (y : A) → AllByRecursion Holds xs → Holds y → AllByRecursion Holds (xs ++ y ∷ [])
   all-push [] y all holds = (holds, tt)
   all-push (x ∷ xs) y all holds = (all.0, all-push xs y all.1 holds)
-
-  pub all-remove : (xs : List A) (k : ℕ) → AllByRecursion Holds xs → AllByRecursion Holds (remove xs k)
-  all-remove [] zero all = tt
-  all-remove [] (suc k) all = tt
-  all-remove (x ∷ xs) zero all = all.1
-  all-remove (x ∷ xs) (suc k) all = (all.0, all-remove xs k all.1)
-
-  pub all-at : (xs : List A) (k : ℕ) (d : A) → k < length xs → AllByRecursion Holds xs → Holds (slice_index_or xs k d)
-  all-at [] k d within all = absurd (omega (arith, within))
-  all-at (x ∷ xs) zero d within all = all.0
-  all-at (x ∷ xs) (suc k) d within all = all-at xs k d (omega (arith, within)) all.1
 
 module _ (l : Log) (key : List ℕ) (node : ℕ) where
   pub none-in : (boot : List ℕ) (number n : ℕ) (pieces : List (Option (List ℕ))) → pieces ≡ replicate n None → PiecesCame (GivenIn l) key node boot number (length pieces) 0 pieces

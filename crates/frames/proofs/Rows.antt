@@ -69,9 +69,6 @@ module _ (bytes lengths : List ℕ) (gone start last : ℕ) (row : IsRow bytes l
   on : drop (start + n) bytes ≡ drop n (drop start bytes)
   on = sym (drop-drop n start bytes)
 
-  pub row-given : cut (drop (gone + 1) lengths) (drop (start + n) bytes) ≡ cut rest (drop n (drop start bytes))
-  row-given = ap (λ (l : List ℕ). cut l (drop (start + n) bytes)) rest-is ∙ ap (cut rest) on
-
   last-of : (some : List ℕ) → (drop gone lengths ≡ []) ⊎ (drop last bytes ≡ last_behind [] (cut (drop gone lengths) (drop start bytes)))
       → rest ≡ some → (rest ≡ []) ⊎ (drop last bytes ≡ last_behind [] (cut rest (drop n (drop start bytes))))
   last-of [] end is = inl is

@@ -27,17 +27,6 @@ shared-most (suc n) (x ∷ one) (y ∷ other) = by (nat_eq x y) (shared-most n o
     by true le = omega arith
     by false le = omega arith
 
--- no more than either has
-pub shared-fits : (n : ℕ) (one other : List ℕ) → shared_within n one other ≤ length other
-shared-fits zero one other = omega arith
-shared-fits (suc n) [] other = omega arith
-shared-fits (suc n) (x ∷ one) [] = omega arith
-shared-fits (suc n) (x ∷ one) (y ∷ other) = by (nat_eq x y) (shared-fits n one other)
-  where
-    by : (b : Bool) → shared_within n one other ≤ length other → cond b (suc (shared_within n one other)) 0 ≤ suc (length other)
-    by true le = omega arith
-    by false le = omega arith
-
 -- they are the same so far
 pub shared-same : (n : ℕ) (one other : List ℕ) → take (shared_within n one other) other ≡ take (shared_within n one other) one
 shared-same zero one other = refl
@@ -191,21 +180,6 @@ pub length-packed-more : (packets : List (List ℕ)) (packet : List ℕ)
 length-packed-more packets packet =
     ap length (packed-more [] packets packet) ∙ length-append (packed packets) (entry_bytes (last_behind [] packets) packet)
     ∙ ap (λ (n : ℕ). length (packed packets) + n) (length-entry (last_behind [] packets) packet)
-
--- the last of some packets
-pub last-is : (last : List ℕ) (packets : List (List ℕ)) (k : ℕ) (p : List ℕ) → k + 1 ≡ length packets → slice_get packets k ≡ Some p → last_behind last packets ≡ p
-last-is last [] k p is at = absurd (omega (arith, is))
-last-is last (q ∷ []) zero p is at = same_Some q p at
-last-is last (q ∷ (r ∷ rest)) zero p is at = absurd (omega (arith, is))
-last-is last (q ∷ rest) (suc k) p is at = last-is q rest k p (omega (arith, is)) at
-
-pub has-nothing : (l : List ℕ) → length l ≡ 0 → l ≡ []
-has-nothing [] e = refl
-has-nothing (x ∷ l) e = absurd (omega (arith, e))
-
-pub some-there : (l : List (List ℕ)) (p : List ℕ) → slice_get l (length l - 1) ≡ Some p → length l - 1 + 1 ≡ length l
-some-there [] p e = cc
-some-there (q ∷ l) p e = omega arith
 
 pub le-true : (a b : ℕ) → nat_le a b ≡ true → a ≤ b
 le-true a b e = grind (arith, nat_tests)

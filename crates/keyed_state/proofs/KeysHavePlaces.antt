@@ -104,13 +104,6 @@ module _ {V : Type 0} where
   pub free-at : (k : List ℕ) (xs : List (KeyedEntry V)) (i : ℕ) → i ≤ length xs → AllBelow k (take i xs) → StopsAt k xs i → IsFreeAt k xs i
   free-at k xs i le a s = record { within = le; value = free-value k xs i le a s; puts = free-puts k xs i le a s; takes = free-takes k xs i le a s }
 
-  -- no entry stands at the end
-  pub end-stops : (k : List ℕ) (xs : List (KeyedEntry V)) (i : ℕ) → length xs ≤ i → StopsAt k xs i
-  end-stops k [] zero le e s = absurd (none-some e s)
-  end-stops k [] (suc i) le e s = absurd (none-some e s)
-  end-stops k (x ∷ xs) zero le e s = absurd (omega (arith, le))
-  end-stops k (x ∷ xs) (suc i) le e s = end-stops k xs i (omega (arith, le)) e s
-
   -- one entry, or none, rises
   pub rises-short : (xs : List (KeyedEntry V)) → length xs ≤ 1 → rises xs ≡ true
   rises-short [] le = refl

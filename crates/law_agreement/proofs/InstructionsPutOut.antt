@@ -46,14 +46,6 @@ chunk-each P p q v state (forms.Chunked total) each n m at = all (range_with_len
 
 -- ---- who stands in a filtered list
 
-within-by : (c : Bool) (q x : Address) (rest list : List Address) → (stands_in q rest ≡ true → stands_in q list ≡ true) → stands_in q (cond c (x ∷ rest) rest) ≡ true → stands_in q (x ∷ list) ≡ true
-within-by false q x rest list later there = or_right (same_address q x) (stands_in q list) (later there)
-within-by true q x rest list later there = by (or-cases (same_address q x) (stands_in q rest) there)
-  where
-    by : (same_address q x ≡ true) ⊎ (stands_in q rest ≡ true) → stands_in q (x ∷ list) ≡ true
-    by (inl e) = or_left (same_address q x) (stands_in q list) e
-    by (inr e) = or_right (same_address q x) (stands_in q list) (later e)
-
 -- who is among the others of a list is another
 pub others-other : (p q : Address) (list : List Address) → stands_in q (others_of p list) ≡ true → same_address q p ≡ false
 others-other p q list there = not-true (same_address q p) (filter-passes (λ r. not (same_address r p)) q list there)

@@ -15,7 +15,7 @@ use Rattle.address.proofs.SameIds.{same_address-true}
 use Rattle.law_acts.specs.Histories.{Posted}
 use Rattle.law_acts.specs.Cores.{Core, idle}
 use Rattle.law_acts.specs.Chains.{Acted}
-use Rattle.law_agreement.specs.Steps.{System, put, came_of}
+use Rattle.law_agreement.specs.Steps.{System, put}
 use Rattle.law_agreement.specs.Steps as agree
 use Rattle.law_agreement.specs.Invariant.{Kept}
 use Rattle.law_agreement.proofs.KeepAtFirst.{nothing-holds}
@@ -89,10 +89,6 @@ module _ {S : Type 0} where
   core-state : (address : Address) (state : Option (MemberState S)) (c : Core S) → option_map (core_at address) state ≡ Some c → is_some state ≡ true
   core-state address None c e = absurd (none-some c e)
   core-state address (Some l) c e = refl
-
-  no-core : (address : Address) (state : Option (MemberState S)) → is_some state ≡ false → option_map (core_at address) state ≡ None
-  no-core address None e = refl
-  no-core address (Some l) e = absurd (let bad : true ≡ false = e in cc)
 
 -- ---- what every deployment keeps
 

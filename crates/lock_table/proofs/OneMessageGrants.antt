@@ -21,9 +21,6 @@ use Rattle.lock_table.proofs.GrantsRise.{token-in, some-lock, left-token}
 
 -- ---- one name alone
 
-not-new : (name : List ℕ) (s t : Table) (l : Lock) → lock_of name t ≡ lock_of name s → lock_of name t ≡ Some l → token_of name s ≢ Some l.token → IsBelow l.token l.token
-not-new name s t l same at new = absurd (new (ap token-in (sym same) ∙ ap token-in at))
-
 -- a new lock was granted in a table: a name has a token that it had not before
 pub record IsNew (name : List ℕ) (s t : Table) (l : Lock) : Type 0 where
   pub stands : lock_of name t ≡ Some l

@@ -1,5 +1,5 @@
 -- What one step promises, from what it does.
-use Rattle.std.proofs.Common.{◌≡◌, ℕ, zero, suc, ◌+◌, ◌≤◌, ◌<◌, Bool, true, false, not, ◌&&◌, ◌||◌, Option, Some, None, List, [], ◌∷◌, ◌++◌, map, length, inl, inr, is_some, Result, Ok, Err, refl, sym, ap, ◌∙◌, subst, arith, Bor}
+use Rattle.std.proofs.Common.{◌≡◌, ℕ, zero, suc, ◌+◌, ◌≤◌, ◌<◌, Bool, true, false, not, ◌&&◌, ◌||◌, Option, Some, None, List, [], ◌∷◌, ◌++◌, map, length, inr, is_some, Result, Ok, Err, refl, sym, ap, ◌∙◌, subst, arith, Bor}
 use Rattle.std.specs.Prelude.{MatchBool, if◌then◌else◌, drop, nat_lt}
 use Rattle.std.specs.List.{AllByRecursion, list_all, Contains}
 use Rattle.std.specs.Option.{IsSomeAnd, ForSome, option_map}
@@ -55,9 +55,6 @@ pub unless : (b : Bool) → (b ≡ true → ⊥) → b ≡ false
 unless true never = absurd (never refl)
 unless false never = refl
 
-pub unless-not : (b : Bool) → (not b ≡ true → ⊥) → not b ≡ false
-unless-not b never = unless (not b) never
-
 pub same_Err : (a b : Error) → ◌≡◌ {A = Result Output Error} (Err a) (Err b) → a ≡ b
 same_Err a b e = same_Some a b (ap result_err e)
 
@@ -103,23 +100,6 @@ module _ {S : Type 0} (meaning : Meaning S) (p : Address) (group : List ℕ) whe
   from-some member_state old input result new is x = subst (λ (l : Option (MemberState S)). Holds l input result new) (sym is) x
 
   -- ---- after the end, refused, and want of memory
-
-  pub ended-handled : (input : Input) → Holds None input (Err (Refused Closed)) None
-  ended-handled input = record {
-    acted = tt;
-    refused = (refl, refl);
-    memory = λ same. absurd (let n : Refused Closed ≡ Refused Memory = same_Err (Refused Closed) (Refused Memory) same in cc);
-    closed = record { ended = λ none. refl; only = λ same. inl refl };
-    reply = tt;
-    prompt = tt;
-    does = tt;
-    few = tt;
-    short = tt;
-    ignored = λ i. absurd (let n : false ≡ true = i in cc);
-    alive = λ l none. absurd (none-some l none);
-    address = refl;
-    group = refl;
-  }
 
   refuses : (u b : Bool) (e : Error) (old : MemberState S) (input : Input) → b ≡ false → u ≡ false → refusal_in (core_at p old) input ≡ Some e
       → MatchBool b (refusal_in (core_at p old) input ≡ None) (MatchBool u ((e ≡ Refused Closed) × (core_of (at (Some old)) ≡ None)) ((refusal_in (core_at p old) input ≡ Some e) × (at (Some old) ≡ at (Some old))))

@@ -2,5 +2,4 @@ pub mod MembersAreOpen
 pub mod PacketsHeard
 pub mod MessagesAreCalm
 pub mod OwnMessagesGo
-pub mod NewViewsAreFresh
 pub mod NumbersNotHeld

@@ -1,7 +1,7 @@
 -- In a change of view at most `WINDOW` + 3 events happen, none of which an input asks for by itself.
 use Rattle.std.proofs.Common.{◌≡◌, ℕ, zero, suc, ◌+◌, ◌-◌, ◌≤◌, Bool, true, false, Option, Some, None, List, [], ◌∷◌, ◌++◌, map, refl, sym, ap, ◌∙◌, subst, is_some, ◌&&◌, not, length, arith}
 use Rattle.std.specs.Prelude.{MatchBool, MatchOption, drop, if◌then◌else◌}
-use Rattle.std.specs.Option.{option_map, option_map_or}
+use Rattle.std.specs.Option.{option_map}
 use Rattle.std.specs.List.{list_all}
 use Rattle.std.proofs.lemmas.Bool.{and_parts}
 use Rattle.std.proofs.lemmas.List.{append-nil, length-append}
@@ -44,10 +44,6 @@ shorter : (n : ℕ) (l : List Entry) → length (drop n l) ≤ length l
 shorter zero l = omega (arith)
 shorter (suc n) [] = omega (arith)
 shorter (suc n) (e ∷ l) = let s = shorter n l in omega (arith, s)
-
-more-by : (o : Option Entry) (rest : List Entry) (n : ℕ) → length rest ≤ n → length (option_map_or (λ e. e ∷ rest) o []) ≤ suc n
-more-by None rest n few = omega (arith)
-more-by (Some e) rest n few = omega (arith, few)
 
 delivered_by-few : (f : FlushModel) (t : ViewState) → length (delivered_by f t) ≤ WINDOW
 delivered_by-few f t =

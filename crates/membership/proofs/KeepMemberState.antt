@@ -6,15 +6,14 @@ use Rattle.std.specs.List.{AllByRecursion, flat_map}
 use Rattle.std.specs.Cmp.Lexicographic.{pointwise}
 use Rattle.std.proofs.lemmas.Bool.{and_parts, cond-true}
 use Rattle.std.proofs.lemmas.Option.{none-some, same_Some}
-use Rattle.address.specs.Ids.{Address, ViewId, view_id_cmp, same_address, same_view_id}
+use Rattle.address.specs.Ids.{Address, ViewId, same_address, same_view_id}
 use Rattle.view.specs.Members.{View, stands_in}
 use Rattle.state_transfer.specs.Meanings.{Meaning}
 use Rattle.next_view.specs.ViewNotes.{NotesModel}
 use Rattle.wire_values.specs.Values as wire
 use Rattle.wire.specs.Packets.{IsPacket}
 use Rattle.flush.specs.Flushes.{FlushModel, is_awaited, has_reported, report_from}
-use Rattle.view_install.specs.Promises.{PromiseModel, offered, is_accept, same_view, may_install, after_offer, after_install, installing, promising, answer_past}
-use Rattle.view_install.specs.declared.promise.OfferAnswer.TheVariants.{Accept, Ignore}
+use Rattle.view_install.specs.Promises.{PromiseModel, same_view, may_install, after_install, installing, promising}
 use Rattle.view_install.proofs.ViewsRise.{only-the-promised}
 use Rattle.address.proofs.SameIds.{same_view_id-refl, same_address-refl}
 use Rattle.wire_values.specs.Chunks.{IsTotal}
@@ -23,7 +22,6 @@ use Rattle.law_acts.specs.Histories.{Posted}
 use Rattle.law_acts.specs.Acts.{others_of, proposed, lone_view, chunk_packets}
 use Rattle.law_acts.specs.Cores.{id_of}
 use Rattle.law_acts.specs.Decisions.{is_fitting, is_entry}
-use Rattle.law_acts.proofs.OffersAccepted.{accepted-parts}
 use Rattle.step_output.specs.declared.output.Output.{Output}
 use Rattle.step_output.specs.Outputs.{packet_in}
 use Rattle.traffic.specs.declared.view_state.ViewState.{ViewState}
@@ -32,7 +30,7 @@ use Rattle.traffic.proofs.NewViewTraffic.{fresh-view}
 use Rattle.membership.specs.declared.member_state.MemberState.{MemberState}
 use Rattle.membership.specs.MemberStates.{core_of, view_in, view_core_in, is_connected, report_in, begun_with, recording, is_complete, leads_in, idle_member, install_packet, sent_install, held_for, IsFlushing, IsKept, IsMemberState}
 use Rattle.membership.specs.Installs.{instruction_to, instructing, finished_given}
-use Rattle.membership.specs.Changes.{StaysAs, Promises, Begins, ProposesIf, Finishes, FinishesAndProposes, GoesOn, Enters}
+use Rattle.membership.specs.Changes.{StaysAs, Begins, ProposesIf, Finishes, FinishesAndProposes, GoesOn, Enters}
 use Rattle.membership.proofs.ProposalsLead.{IsProposal}
 use Rattle.view.proofs.MembersListed.{coordinator-in}
 use Rattle.step_output.specs.Steps.{Who, who}
@@ -146,16 +144,6 @@ none-given : (view : Option View) (given : List (Address × wire.Install)) → v
 none-given view [] e all = refl
 none-given view (p ∷ given) e all = absurd (none-some p.1.view (sym e ∙ all.0))
 
--- a member that promised nothing promises and installs such a view
-pub created-promise : (me : Address) (p : PromiseModel) → p.member ≡ me → p.proposal ≡ None → after_install (lone_view me) (after_offer (lone_view me) p) ≡ installed_as me (lone_view me)
-created-promise me p own none =
-    let w = lone_view me in
-    let stands : stands_in p.member w.members ≡ true = ap (λ b. b || false) (ap (λ q. same_address q me) own ∙ same_address-refl me) in
-    let accepted : is_accept (offered w p) ≡ true =
-    ap (λ b. is_accept (cond b (option_map_or (λ v. answer_past (view_id_cmp w.id v.id) v p.is_installed) p.proposal Accept) Ignore)) stands
-    ∙ ap (λ (o : Option View). is_accept (option_map_or (λ v. answer_past (view_id_cmp w.id v.id) v p.is_installed) o Accept)) none in
-    ap (after_install w) (cond-true (is_accept (offered w p)) (promising w p) p accepted) ∙ own-installed me w (promising w p) own refl refl
-
 -- those that are held on are as they were
 held-on : (b : Bool) (chunks : List wire.Chunk) → AllByRecursion IsChunk chunks → AllByRecursion IsChunk (if b then chunks else [])
 held-on true chunks all = all
@@ -181,23 +169,6 @@ module _ {S : Type 0} (who : Who) where
       }
 
   -- ---- a FLUSH is promised
-
-  pub promised-member_state : (w : View) (l new : InStep S) → IsMemberState who l.member → is_connected l.member ≡ true → same_address w.id.creator who.address ≡ false
-      → is_accept (offered w l.member.promise) ≡ true → Promises who w l new → IsMemberState who new.member
-  promised-member_state w l new kept on other accepted p =
-      let listed : stands_in l.member.promise.member w.members ≡ true = (accepted-parts (stands_in l.member.promise.member w.members) _ accepted).0 in
-      subst (λ (z : MemberState S). IsMemberState who z) (sym p.member_state) (record {
-        own = kept.own;
-        unsuspected = kept.unsuspected;
-        inside = kept.inside;
-        unconnected = λ e. not-both (is_connected l.member) on e;
-        listed = λ v e. subst (λ (z : View). stands_in who.address z.members ≡ true) (same_Some w v e) (subst (λ (q : Address). stands_in q w.members ≡ true) kept.own listed);
-        waiting = λ e f v q. subst (λ (z : View). same_address z.id.creator who.address ≡ false) (same_Some w v q) other;
-        installed = λ e. absurd (let n : false ≡ true = e in cc);
-        flushing = λ f e. absurd (none-some f e);
-        sent_installs = kept-on who l.member _ refl refl refl kept.sent_installs;
-        held = held-on (option_eq same_view_id (id_of l.member.promise.proposal) (Some w.id)) l.member.chunks kept.held;
-      })
 
   -- ---- a flush of its own begins
 

@@ -1,4 +1,3 @@
-pub mod PutsFollow
 pub mod ActsInTurn
 pub mod FlushesAreSayable
 pub mod ProposalsLead

@@ -1,5 +1,5 @@
 -- What a node keeps of the lines that came, as it takes, sends and drops them.
-use Rattle.std.proofs.Common.{◌≡◌, ℕ, zero, suc, Bool, true, false, ◌⊎◌, inl, inr, nat_eq, Option, Some, None, Result, Ok, Err, List, [], ◌∷◌, ◌++◌, take, drop, refl, sym, ap, ◌∙◌, subst, is_some, append_assoc, append-nil, MatchBool, ◌||◌, unwrap_or, ◌&&◌, not, if◌then◌else◌, OnOk}
+use Rattle.std.proofs.Common.{◌≡◌, ℕ, zero, suc, Bool, true, false, inl, inr, nat_eq, Option, Some, None, Result, Ok, Err, List, [], ◌∷◌, ◌++◌, take, drop, refl, sym, ap, ◌∙◌, subst, is_some, append_assoc, append-nil, MatchBool, ◌||◌, unwrap_or, ◌&&◌, not, if◌then◌else◌, OnOk}
 use Rattle.std.specs.Prelude.{flat_map, length}
 use Rattle.std.specs.List.{list_any, AllByRecursion}
 use Rattle.std.specs.Option.{option_map_or}
@@ -11,9 +11,9 @@ use Rattle.trace_props.specs.declared.event.Event.TheVariants.{Started, Sent as 
 use Rattle.script_reader.specs.Lines.{before_byte, behind_byte}
 use Rattle.node_lines.specs.declared.unsaid.Sent.{Sent}
 use Rattle.node_lines.specs.declared.unsaid.Sent.TheVariants as sent
-use Rattle.node_lines.specs.Outboxes.{OutboxModel, nothing_waits, is_whole, left_of, is_cut_by, with_more, without_next, without_long}
+use Rattle.node_lines.specs.Outboxes.{OutboxModel, nothing_waits, is_whole, without_next, without_long}
 use Rattle.node_lines.specs.Unsaid.{UnsaidModel, line_in, coming_back, noted}
-use Rattle.node_lines.specs.Came.{Fills, IsEarlier, BeginsLine, IsOneLine, IsLine, AreLines, NoLine, OneLine, Waits, IsSentLine, Owes, IsLineOf, IsText, IsSentOf}
+use Rattle.node_lines.specs.Came.{Fills, IsEarlier, BeginsLine, IsOneLine, IsLine, AreLines, NoLine, OneLine, Waits, IsSentLine, Owes, IsLineOf, IsText}
 use Rattle.node_lines.proofs.FirstLines.{whole-splits, before-one}
 
 -- ---- lists
@@ -55,10 +55,6 @@ module _ {X : Type 0} (P : X → Type 0) where
   all-take zero l x = tt
   all-take (suc n) [] x = tt
   all-take (suc n) (a ∷ l) x = (x.0, all-take n l x.1)
-
-  all-one : (l : List X) (a : X) → AllByRecursion P l → P a → AllByRecursion P (l ++ a ∷ [])
-  all-one [] a x p = (p, tt)
-  all-one (b ∷ l) a x p = (x.0, all-one l a x.1 p)
 
 all-as : {X : Type 0} (P Q : X → Type 0) → ((a : X) → P a → Q a) → (l : List X) → AllByRecursion P l → AllByRecursion Q l
 all-as P Q f [] x = tt
@@ -271,17 +267,6 @@ pub owes-back : (start came : Option (List ℕ)) (o : OutboxModel) (u : UnsaidMo
 owes-back None came o u x = tt
 owes-back (Some start) None o u x = tt
 owes-back (Some start) (Some came) o u x = (lines-first start came o.is_cut o.waiting u.back x.1.1 x.0, (x.1.0, NoLine))
-
--- a message was sent
-pub owes-sent : (start came : Option (List ℕ)) (o : OutboxModel) (u : UnsaidModel) (s : Sent) → IsSentOf start came s → Owes start came o u → Owes start came o (record u { sent = u.sent ++ s ∷ [] })
-owes-sent None came o u s y x = tt
-owes-sent (Some start) None o u s y x = tt
-owes-sent (Some start) (Some came) o u s y x = (x.0, (all-one (IsSentLine start came) u.sent s x.1.0 (as-sent s y), x.1.1))
-  where
-    as-sent : (s : Sent) → IsSentOf (Some start) (Some came) s → IsSentLine start came s
-    as-sent (sent.Line line) y = y
-    as-sent sent.Once y = tt
-    as-sent sent.First y = tt
 
 -- some messages came back
 came-back : (start came : List ℕ) (count : ℕ) (u : UnsaidModel) → AllByRecursion (IsSentLine start came) u.sent × AreLines start came u.back

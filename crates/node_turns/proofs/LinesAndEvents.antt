@@ -86,10 +86,6 @@ module _ {S : Type 0} where
       let r = cut-whole text text' (map Happens done) (map Happens now.happened) (kept ∙ said) in
       (r.0, r.1 ∙ ap (λ (l : List Line). text ++ concat (take r.0 (texts_of l))) (sym (happen-then done now.happened) ∙ ap (map Happens) (sym taken)))
 
-  pub took-all : (old now : ChannelModel S) (text text' : List ℕ) → Took old now text text' → now.happened ≡ [] → text' ≡ text ++ concat (texts_of (map Happens old.happened))
-  took-all old now text text' (done, taken, said, same) none =
-      said ∙ ap (λ (l : List Event). text ++ concat (texts_of (map Happens l))) (sym (append-nil done) ∙ ap (λ (l : List Event). done ++ l) (sym none) ∙ sym taken)
-
   pub told-all : (old now : ChannelModel S) (text text' : List ℕ) → Took old now text text' → now.happened ≡ [] → now ≡ all_told old
   told-all old now text text' (done, taken, said, same) none = same ∙ ap (λ (l : List Event). record old { happened = l }) none
 

@@ -82,9 +82,6 @@ module _ {N S : Type 0} (log : N → Option Log) (failed : N → ℕ) (meaning :
   pub drives-one : (a b : Driven N S) (more : List Event) (failure : Option Error) → Makes log failed meaning group a more failure b → Drive a more (falls a.channel.stage failure) b
   drives-one a b more failure m = Further [] more false failure a b Begun m
 
-  with_told : Driven N S → List Event → Driven N S
-  with_told r rest = with_channel r (record r.channel { happened = rest })
-
   told-first : (r : Driven N S) (x : Event) (rest : List Event) → r.channel.happened ≡ x ∷ rest → Drive r (x ∷ []) false (with_channel r (record r.channel { happened = rest }))
   told-first r x rest e =
       subst (λ (k : Bool). Drive r (x ∷ []) k (with_channel r (record r.channel { happened = rest }))) (falls-none r.channel.stage)

@@ -1,11 +1,11 @@
 -- What a put and a removal make of a map and of the number of bytes that it is encoded in.
-use Rattle.std.proofs.Common.{◌≡◌, ℕ, ◌+◌, ◌-◌, ◌<◌, ◌≤◌, Bool, true, false, List, [], ◌∷◌, ◌&&◌, length, get_or, cond, leb, None, Some, refl, sym, ap, subst, ◌∙◌, arith}
+use Rattle.std.proofs.Common.{◌≡◌, ℕ, ◌+◌, ◌-◌, ◌≤◌, Bool, true, false, List, [], ◌∷◌, ◌&&◌, length, get_or, cond, leb, None, Some, refl, sym, ap, subst, ◌∙◌, arith}
 use Rattle.std.specs.List.{slice_get, remove, sum_by}
 use Rattle.std.specs.Ordering.{match_ordering, is_eq}
 use Rattle.std.specs.declared.cmp.Ordering.{Ordering}
 use Rattle.std.specs.declared.cmp.Ordering.TheVariants.{Less, Equal, Greater}
 use Rattle.std.proofs.lemmas.Option.{get_or_from_slice_get, none-some, same_Some}
-use Rattle.std.proofs.lemmas.Bool.{leb-true, le-leb, and_parts}
+use Rattle.std.proofs.lemmas.Bool.{leb-true, and_parts}
 use Rattle.std.proofs.lemmas.List.Sums.{sum_by-cons, sum_by-remove}
 use Rattle.std.proofs.lemmas.Map.Text.{is_eq-slice_cmp}
 use Rattle.std.proofs.lemmas.Slice.Eq.{bytes_eq-Decides}
@@ -34,30 +34,11 @@ IsCountedMap s n = IsMap s × (n ≡ map_size s.entries)
 
 -- ---- limits
 
-pub is-within : (s : MapState) → map_size s.entries ≤ STATE → s.last.count ≤ GREATEST_NUMBER → is_within s ≡ true
-is-within s small few = rw (le-leb (map_size s.entries) STATE small, le-leb s.last.count GREATEST_NUMBER few) refl
-
-pub within-is : (s : MapState) → is_within s ≡ true → (map_size s.entries ≤ STATE) × (s.last.count ≤ GREATEST_NUMBER)
-within-is s e = let both = and_parts (leb (map_size s.entries) STATE) (leb s.last.count GREATEST_NUMBER) e in (leb-true _ _ both.0, leb-true _ _ both.1)
-
 pub put-goes : (view : ViewId) (k v : List ℕ) (s : MapState) → is_within (given view k v s) ≡ true → put_within view k v s ≡ given view k v s
 put-goes view k v s e = ap (λ (b : Bool). cond b (given view k v s) s) e
 
 pub put-stays : (view : ViewId) (k v : List ℕ) (s : MapState) → is_within (given view k v s) ≡ false → put_within view k v s ≡ s
 put-stays view k v s e = ap (λ (b : Bool). cond b (given view k v s) s) e
-
--- a state that exceeds one of its limits
-pub too-large : (s : MapState) → STATE < map_size s.entries → is_within s ≡ false
-too-large s more = by (is_within s) refl where
-  by : (b : Bool) → is_within s ≡ b → b ≡ false
-  by true e = absurd (let small = (within-is s e).0 in omega (arith, small, more))
-  by false e = refl
-
-pub too-many : (s : MapState) → GREATEST_NUMBER < s.last.count → is_within s ≡ false
-too-many s more = by (is_within s) refl where
-  by : (b : Bool) → is_within s ≡ b → b ≡ false
-  by true e = absurd (let few = (within-is s e).1 in omega (arith, few, more))
-  by false e = refl
 
 -- ---- sizes
 

@@ -46,10 +46,6 @@ module _ {S : Type 0} (meaning : Meaning S) where
   from-nothing given events old w all empty ran =
       subst (λ (o : WorldModel S). RunsFrom o events w) empty (subst (λ (g : List WorldEvent). RunsFrom old g w) all ran)
 
-  -- what was run in a new world is a run of those events
-  pub ran-all : (given events : List WorldEvent) (old w : WorldModel S) → given ≡ events → old ≡ no_world → OwnedReport w → RunsFrom old given w → Ran meaning events w
-  ran-all given events old w all empty kept ran = ran-these events w kept (from-nothing given events old w all empty ran)
-
   -- ---- a script's run
 
   -- what is printed of a world that ran a script's events, all of them or a beginning, is a text of the script's run

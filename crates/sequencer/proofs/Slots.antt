@@ -10,7 +10,7 @@ use Rattle.address.specs.declared.limits.TheConstants.{OUTSTANDING, GREATEST_NUM
 use Rattle.address.specs.Ids.{Address}
 use Rattle.trace_props.specs.declared.event.Numbered.{Numbered}
 use Rattle.sequencer.specs.Queues.{Queue, takes, offered, waiting_with, without_first, follows, has_next, entry_with, next_of, served}
-use Rattle.sequencer.specs.Slots.{numbered, is_first, IsFull, IsRing}
+use Rattle.sequencer.specs.Slots.{numbered, is_first, IsRing}
 
 -- ---- what waits under a number
 
@@ -64,12 +64,6 @@ one-pushed n slots next none many le q =
     let items : next.items ≡ slots.items ++ None ∷ [] =
     ap (λ z. z.items) q ∙ all-kept slots.capacity (slots.items ++ None ∷ []) (omega (arith, long, le)) in
     (ap (numbered 0) items ∙ none-more 0 slots.items ∙ none, ap length items ∙ long)
-
-pub new-ring : (slots : Buffer (Option (List ℕ))) → IsFull slots → numbered 0 slots.items ≡ [] → IsRing 0 slots
-new-ring slots full none = record {
-  full = full;
-  small = subst (λ (ws : List Numbered). AllByRecursion (λ f. f.number ≤ GREATEST_NUMBER) ws) (sym none) tt;
-}
 
 -- ---- a message is taken
 
@@ -207,15 +201,6 @@ pub record Next (b : ℕ) (x : List ℕ) (slots next : Buffer (Option (List ℕ)
 follows-first : (b : ℕ) → nat_eq (b + 1) (b + 1) ≡ true
 follows-first b = grind (arith, nat_tests)
 
-pub next-is : (p : Address) (b : ℕ) (x : List ℕ) (slots next : Buffer (Option (List ℕ))) → Next b x slots next
-    → next_of (queue_of p b slots) ≡ Some (record { sender = p; number = b + 1; payload = x })
-next-is p b x slots next z =
-    let q : Queue = queue_of p b slots in
-    let f : Numbered = record { number = b + 1; payload = x } in
-    let rest : List Numbered = numbered (b + 1) (drop 1 slots.items) in
-    ap (λ (ws : List Numbered). option_map (entry_with q) (find (follows q) ws)) (front-is b x slots.items z.at).waiting
-    ∙ ap (λ t. option_map (entry_with q) (cond t (Some f) (find (follows q) rest))) (follows-first b)
-
 pub next-served : (p : Address) (b : ℕ) (x : List ℕ) (slots next : Buffer (Option (List ℕ))) → Next b x slots next → queue_of p (b + 1) next ≡ served (queue_of p b slots)
 next-served p b x slots next z =
     let q : Queue = queue_of p b slots in
@@ -249,12 +234,3 @@ first-small b slots r first = by slots.items first r.small
     by [] q small = cc
     by (None ∷ items) q small = cc
     by (Some x ∷ items) q small = omega (arith, small.0)
-
--- the first slot's payload, as the buffer gives it up
-pub popped-full : (slots popped next : Buffer (Option (List ℕ))) → IsFull slots → is_first slots.items ≡ true → popped ≡ buffer (drop 1 slots.items) slots.capacity
-    → next ≡ buffer (keep_last popped.capacity (popped.items ++ None ∷ [])) popped.capacity → next ≡ buffer (drop 1 slots.items ++ None ∷ []) slots.capacity
-popped-full slots popped next full first p q =
-    let front : List (Option (List ℕ)) = drop 1 slots.items in
-    let long : length (front ++ None ∷ []) ≤ slots.capacity = simp (length-append, length-drop) (omega (arith, full.all, full.room)) in
-    q ∙ ap (λ (s : Buffer (Option (List ℕ))). buffer (keep_last s.capacity (s.items ++ None ∷ [])) s.capacity) p
-    ∙ ap (λ (xs : List (Option (List ℕ))). buffer xs slots.capacity) (all-kept slots.capacity (front ++ None ∷ []) long)

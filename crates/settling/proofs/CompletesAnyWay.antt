@@ -26,14 +26,6 @@ use Rattle.settling.proofs.TwoRounds
 -- ---- from what the code tested: the first is there, or the second, or the third, or none
 
 module _ {X : Type 0} where
-  pub first-there : (o p r : Option X) (b : Bool) → b ≡ is_some o → b ≡ true → true ≡ is_some (option_or (option_or o p) r)
-  first-there (Some x) p r b tells on = refl
-  first-there None p r b tells on = absurd (let n : false ≡ true = sym tells ∙ on in cc)
-
-  pub second-there : (o p r : Option X) (b : Bool) (x : X) → b ≡ is_some o → b ≡ false → p ≡ Some x → true ≡ is_some (option_or (option_or o p) r)
-  second-there (Some y) p r b x tells off there = absurd (let n : true ≡ false = sym tells ∙ off in cc)
-  second-there None p r b x tells off there = ap (λ (z : Option X). is_some (option_or z r)) (sym there)
-
   -- neither of the first two
   pub none-there : (o p : Option X) (b : Bool) → b ≡ is_some o → b ≡ false → p ≡ None → option_or o p ≡ None
   none-there (Some y) p b tells off none = absurd (let n : true ≡ false = sym tells ∙ off in cc)

@@ -124,20 +124,6 @@ module _ {S : Type 0} (at : ℕ → NodeState S) (m : MemberModel S) where
   abbrev pub anew : ℕ → Option View
   anew k = option_and_then (λ l. anew_past m.address l k) m.member_state
 
-  pub no-flush : own_proposal ≡ None → round_in at (Running m) ≡ None
-  no-flush e = by m.member_state e
-    where
-      at-flush : (l : MemberState S) (o : Option FlushModel) → option_map proposed o ≡ None
-          → option_and_then (λ q. option_map (round q) (option_and_then (raised at m.address l q) o)) (option_and_then (λ f. option_and_then (asked_of at m.address l f) (view_in l.view_state)) o) ≡ None
-      at-flush l None e = refl
-      at-flush l (Some f) e = absurd (none-some (proposed f) (sym e))
-
-      by : (o : Option (MemberState S)) → option_and_then (λ l. option_map proposed l.flush) o ≡ None
-          → option_and_then (λ q. option_map (round q) (option_and_then (λ (l : MemberState S). option_and_then (raised at m.address l q) l.flush) o))
-          (option_and_then (λ (l : MemberState S). option_and_then (λ f. option_and_then (asked_of at m.address l f) (view_in l.view_state)) l.flush) o) ≡ None
-      by None e = refl
-      by (Some l) e = at-flush l l.flush e
-
   -- its own flush
   record Proposes (p : View) : Type 0 where
     member_state : MemberState S

@@ -67,17 +67,3 @@ count-noted-le p q n b (a ∷ acks) new old =
     raised-le (same_address p a.member) p q n b (count_of q (noted p n acks)) a refl new
     (λ t. subst (λ s. (if s then a.count else count_of q acks) ≤ b) t old)
     (λ f. count-noted-le p q n b acks new (subst (λ s. (if s then a.count else count_of q acks) ≤ b) f old))
-
-both-by : (t : Bool) (x y k l : ℕ) → x ≤ y → k ≤ l → (if t then x else k) ≤ (if t then y else l)
-both-by true x y k l one two = one
-both-by false x y k l one two = two
-
-le-raised : (s : Bool) (q : Address) (n k l : ℕ) (a : Ack) → k ≤ l
-    → (if same_address q a.member then a.count else k) ≤ (if same_address q (if s then record { member = a.member; count = max a.count n } else a).member then (if s then record { member = a.member; count = max a.count n } else a).count else l)
-le-raised true q n k l a le = both-by (same_address q a.member) a.count (max a.count n) k l (omega arith) le
-le-raised false q n k l a le = both-by (same_address q a.member) a.count a.count k l (omega arith) le
-
--- counts never fall
-pub count-le-noted : (p q : Address) (n : ℕ) (acks : List Ack) → count_of q acks ≤ count_of q (noted p n acks)
-count-le-noted p q n [] = omega arith
-count-le-noted p q n (a ∷ acks) = le-raised (same_address p a.member) q n (count_of q acks) (count_of q (noted p n acks)) a (count-le-noted p q n acks)

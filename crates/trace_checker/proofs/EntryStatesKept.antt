@@ -8,13 +8,10 @@ use Rattle.std.proofs.lemmas.Slice.Eq.{bytes_eq-Decides}
 use Rattle.address.specs.Ids.{Address, ViewId, same_address, same_view_id}
 use Rattle.state_transfer.specs.Meanings.{Meaning}
 use Rattle.trace_props.specs.declared.event.Event.{Event}
-use Rattle.trace_props.specs.declared.event.Event.TheVariants.{Delivered, Installed}
+use Rattle.trace_props.specs.declared.event.Event.TheVariants.{Installed}
 use Rattle.trace_props.specs.declared.event.Install.{Install}
-use Rattle.trace_props.specs.declared.event.Delivery.{Delivery}
 use Rattle.trace_props.specs.Observed.{install_of}
-use Rattle.trace_checker.specs.Known.{delivery_of}
 use Rattle.trace_props.proofs.DeliveredGrow.{install_of-some}
-use Rattle.trace_checker.proofs.KeepMessages.{delivery-is}
 use Rattle.trace_props.specs.State.{state_of, installs, entry_state}
 use Rattle.trace_props.specs.Agreeing.{MayEnter}
 use Rattle.trace_checker.specs.Copies.{KnowsStates, EntersWith}
@@ -146,10 +143,3 @@ module _ {S : Type 0} (meaning : Meaning S)
 -- what holds of an install holds of the event that installs it
 pub of-install : (P : Event → Type 0) (h : Event) (i : Install) → Some i ≡ install_of h → P (Installed i) → P h
 of-install P h i e p = subst P (sym (install_of-some h i (sym e))) p
-
--- a message that is delivered keeps the rule on states
-pub of-delivery : {S : Type 0} (meaning : Meaning S) (P : List Event → Type 0) (t : List Event) (h : Event) (d : Delivery) → Some d ≡ delivery_of h
-    → P (t ++ Delivered d ∷ []) → MayEnter meaning t h × P (t ++ h ∷ [])
-of-delivery meaning P t h d e p =
-    let same = sym (delivery-is h d (sym e)) in
-    (subst (λ (x : Event). MayEnter meaning t x) same tt, subst (λ (x : Event). P (t ++ x ∷ [])) same p)

@@ -44,10 +44,6 @@ true-decides a = ((λ e. e), (λ e. e))
 not-decides : (a : Bool) → Decides (not a) (a ≡ false)
 not-decides a = ((λ e. not-true a e), (λ e. not_from_false a e))
 
--- what always holds
-unit-decides : Decides true (Unit {0})
-unit-decides = ((λ e. tt), (λ x. refl))
-
 pub nat_eq-decides : (a b : ℕ) → Decides (nat_eq a b) (a ≡ b)
 nat_eq-decides a b = ((λ e. eqb-true a b e), (λ e. eq-eqb a b e))
 

@@ -116,15 +116,3 @@ pub lost-if : (rows : List AsideRow) (r : AsideRow) (n : ℕ) → is_some (lost_
 lost-if rows r n = lost-cond (arrives rows n) (Lost (aside_place r) (in_the_air r))
 
 -- READING WHAT IS KEPT
-
-none-of : {X : Type 0} (o : Option X) → is_some o ≡ false → o ≡ None
-none-of None e = refl
-none-of (Some x) e = absurd (let bad : true ≡ false = e in cc)
-
--- a packet that is handed over is not lost
-pub not-lost : (rows : List AsideRow) (r : AsideRow) (n : ℕ) (s e : ℕ → Option ℕ) → KnowsWays s e rows → is_some (e n) ≡ true → None ≡ lost_way rows r n
-not-lost rows r n s e knows is = ap (λ b. cond b None (Some (Lost (aside_place r) (in_the_air r)))) (sym is ∙ knows.ends n)
-
--- one that is not, is
-pub is-lost : (rows : List AsideRow) (r : AsideRow) (n : ℕ) (s e : ℕ → Option ℕ) → KnowsWays s e rows → is_some (e n) ≡ false → Some (Lost (aside_place r) (in_the_air r)) ≡ lost_way rows r n
-is-lost rows r n s e knows is = ap (λ b. cond b None (Some (Lost (aside_place r) (in_the_air r)))) (sym is ∙ knows.ends n)

@@ -1,5 +1,5 @@
 -- Elements of lists: where they stand, and what a filter keeps of them.
-use Rattle.std.proofs.Common.{◌≡◌, ℕ, suc, zero, Bool, true, false, cond, ◌||◌, List, [], ◌∷◌, ◌++◌, map, take, drop, filter_map, Option, Some, None, Contains, slice_get, sym, refl, ap, ◌∙◌, subst, ◌⊎◌, inl, inr}
+use Rattle.std.proofs.Common.{◌≡◌, ℕ, suc, zero, Bool, true, false, cond, ◌||◌, List, [], ◌∷◌, ◌++◌, map, take, drop, filter_map, Option, Some, None, Contains, slice_get, sym, refl, ap, ◌∙◌, subst}
 use Rattle.std.specs.List.{filter, list_any, cons_option}
 use Rattle.std.proofs.lemmas.Bool.{cond-true, cond-false, or_left, or_right, true≢false}
 use Rattle.std.proofs.lemmas.Option.{none-some, same_Some, slice_get_within, get_or_from_slice_get}
@@ -11,11 +11,6 @@ Has xs x = (k : ℕ) × (slice_get xs k ≡ Some x)
 -- so the list contains it
 pub contains-has : {X : Type 0} (xs : List X) (x : X) → Has xs x → Contains xs x
 contains-has xs x at = (at.0, slice_get_within xs at.0 x at.1, get_or_from_slice_get xs at.0 x x at.1)
-
--- an element of a list with one more in front
-pub has-cases : {X : Type 0} (y : X) (xs : List X) (x : X) (k : ℕ) → slice_get (y ∷ xs) k ≡ Some x → (y ≡ x) ⊎ Has xs x
-has-cases y xs x zero e = inl (same_Some y x e)
-has-cases y xs x (suc k) e = inr (k, e)
 
 -- an element of which something holds
 pub record Found {X : Type 0} (xs : List X) (P : X → Type 0) : Type 0 where

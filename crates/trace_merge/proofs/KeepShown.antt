@@ -1,15 +1,12 @@
 -- What is kept of what is shown.
-use Rattle.std.proofs.Common.{◌≡◌, Bool, true, false, cond, not, ◌||◌, ◌&&◌, List, [], ◌∷◌, ◌++◌, Option, Some, None, refl, sym, ap, ◌∙◌}
+use Rattle.std.proofs.Common.{◌≡◌, Bool, true, false, cond, not, ◌||◌, ◌&&◌, List, [], ◌∷◌, Option, Some, refl, sym, ap, ◌∙◌}
 use Rattle.std.specs.Option.{option_map_or}
 use Rattle.std.specs.List.{list_any}
 use Rattle.std.specs.HashSet.{HashSet, contains}
-use Rattle.std.proofs.lemmas.List.Folds.{list_any-append}
-use Rattle.trace_props.specs.declared.event.Event.{Event}
 use Rattle.trace_merge.specs.declared.fact.Fact.{Fact}
 use Rattle.trace_merge.specs.declared.fact.Fact.TheVariants.{Sent, Delivered, Installed}
 use Rattle.trace_merge.specs.contracts.fact.FactPartialEq.TheImpl.{ghosts as fact_ghosts}
-use Rattle.trace_merge.specs.Facts.{same_fact, shows, is_shown}
-use Rattle.trace_merge.specs.Merges.{comes_in}
+use Rattle.trace_merge.specs.Facts.{same_fact}
 
 cond-or : (a b : Bool) → cond a true b ≡ (a || b)
 cond-or true b = refl
@@ -21,10 +18,6 @@ cond-not true false = refl
 cond-not false true = refl
 cond-not false false = refl
 
-and-true : (b : Bool) → b ≡ (b && true)
-and-true true = refl
-and-true false = refl
-
 -- one more is kept
 pub shown-or : (f : Fact) (o : Option Fact) (fact : Fact) (b : Bool) → o ≡ Some fact → cond (same_fact fact f) true b ≡ (option_map_or (λ s. same_fact s f) o false || b)
 shown-or f o fact b is = cond-or (same_fact fact f) b ∙ ap (λ (p : Option Fact). option_map_or (λ s. same_fact s f) p false || b) (sym is)
@@ -32,32 +25,6 @@ shown-or f o fact b is = cond-or (same_fact fact f) b ∙ ap (λ (p : Option Fac
 -- one is struck, or nothing
 pub struck : (f : Fact) (o : Option Fact) (fact : Fact) (b : Bool) → o ≡ Some fact → cond (same_fact fact f) false b ≡ (b && not (option_map_or (λ s. same_fact s f) o false))
 struck f o fact b is = cond-not (same_fact fact f) b ∙ ap (λ (p : Option Fact). b && not (option_map_or (λ s. same_fact s f) p false)) (sym is)
-
-pub not-struck : (f : Fact) (o : Option Fact) (b : Bool) → o ≡ None → b ≡ (b && not (option_map_or (λ s. same_fact s f) o false))
-not-struck f o b is = and-true b ∙ ap (λ (p : Option Fact). b && not (option_map_or (λ s. same_fact s f) p false)) (sym is)
-
--- one more event, and one more list, shows what it shows
-or-turn : (a b c : Bool) → (b || (a || c)) ≡ ((a || (b || false)) || c)
-or-turn true true c = refl
-or-turn true false c = refl
-or-turn false true c = refl
-or-turn false false c = refl
-
-pub shown-next : (f : Fact) (events : List Event) (e : Event) (a b c : Bool) → a ≡ (is_shown events f || c) → b ≡ (shows f e || a) → b ≡ (is_shown (events ++ e ∷ []) f || c)
-shown-next f events e a b c so next =
-    next ∙ ap (λ (x : Bool). shows f e || x) so ∙ or-turn (is_shown events f) (shows f e) c
-    ∙ ap (λ (x : Bool). x || c) (sym (list_any-append (shows f) events (e ∷ [])))
-
-or-swap : (a b : Bool) → (b || a) ≡ (a || (b || false))
-or-swap true true = refl
-or-swap true false = refl
-or-swap false true = refl
-or-swap false false = refl
-
-pub comes-next : (f : Fact) (processes : List (List Event)) (events : List Event) (a b : Bool) → a ≡ comes_in processes f → b ≡ (is_shown events f || a) → b ≡ comes_in (processes ++ events ∷ []) f
-comes-next f processes events a b so next =
-    next ∙ ap (λ (x : Bool). is_shown events f || x) so ∙ or-swap (comes_in processes f) (is_shown events f)
-    ∙ sym (list_any-append (λ (l : List Event). is_shown l f) processes (events ∷ []))
 
 -- what Rust's `==` of facts is
 pub fact-eq : (a b : Fact) → fact_ghosts.eq a b ≡ same_fact a b

@@ -13,10 +13,6 @@ abbrev pub with_front : {A : Type 0} → List A → Option (List A) → Option (
 with_front xs None = None
 with_front xs (Some ys) = Some (xs ++ ys)
 
-pub nothing_first : {A : Type 0} (o : Option (List A)) → o ≡ with_front [] o
-nothing_first None = refl
-nothing_first (Some xs) = refl
-
 -- one more is read
 pub one_more : {A : Type 0} (xs : List A) (x : A) (o : Option (List A)) → with_front xs (in_front (Some x) o) ≡ with_front (xs ++ x ∷ []) o
 one_more xs x None = refl

@@ -14,9 +14,6 @@ digit_is d h = and_from _ _ (le-leb 48 (48 + d) (omega arith)) (le-leb (48 + d) 
 pub digits_go_on : (d : ℕ) (bs : List ℕ) → d < 10 → digits_of ((48 + d) ∷ bs) ≡ (48 + d) ∷ digits_of bs
 digits_go_on d bs h = ap (λ t. if t then (48 + d) ∷ digits_of bs else []) (digit_is d h)
 
-pub behind_goes_on : (d : ℕ) (bs : List ℕ) → d < 10 → behind_digits ((48 + d) ∷ bs) ≡ behind_digits bs
-behind_goes_on d bs h = ap (λ t. if t then behind_digits bs else (48 + d) ∷ bs) (digit_is d h)
-
 value_grows : (n : ℕ) (digits : List ℕ) → n ≤ value_after n digits
 value_grows n [] = omega arith
 value_grows n (d ∷ ds) = omega (arith, value_grows (10 * n + (d - 48)) ds)

@@ -11,7 +11,7 @@ use Rattle.wire_values.specs.Values.{Entry, held_at}
 use Rattle.wire_values.specs.declared.packet.Body.{Body}
 use Rattle.state_transfer.specs.Meanings.{Meaning}
 use Rattle.trace_props.specs.declared.event.Numbered.{Numbered}
-use Rattle.nak_stream.specs.Windows.{WindowModel, IsWindow, held_with, held_above, offers}
+use Rattle.nak_stream.specs.Windows.{WindowModel, held_with, held_above, offers}
 use Rattle.nak_stream.proofs.Windows.{offered}
 use Rattle.sequencer.specs.Forwards.{ForwardsModel}
 use Rattle.law_acts.specs.Histories.{Posted}
@@ -190,29 +190,9 @@ module _ {S : Type 0} (meaning : Meaning S) where
       → DeliversIf w did_deliver (next_held old.part) old new → Does came w old new
   turn-goes came w did_deliver old new other x = delivery-turn (next_held old.part) came w did_deliver old new other refl x
 
-  -- it is at an end, or comes nearer to it
-  end-by : (held : Option Entry) (w : Who) (old new : InView Follower S) → next_held old.part ≡ held → DeliversIf w false held old new → next_held new.part ≡ None
-  end-by None w old new there x = ap next_held x.1 ∙ there
-  end-by (Some e) w old new there x = let f = x.0 in cc
-
-  pub turn-ends : (w : Who) (old new : InView Follower S) → DeliversIf w false (next_held old.part) old new → next_held new.part ≡ None
-  turn-ends w old new x = end-by (next_held old.part) w old new refl x
-
   -- how much may still be delivered
   abbrev left_in : Follower → ℕ
   left_in m = m.window.stable + WINDOW - m.window.delivered
-
-  near-by : (held : Option Entry) (w : Who) (old new : InView Follower S) → IsWindow old.part.window → next_held old.part ≡ held → DeliversIf w true held old new → left_in new.part < left_in old.part
-  near-by None w old new window there x = let f = x.0 in cc
-  near-by (Some e) w old new window there x =
-      let y = x.1 in
-      let m = old.part in
-      let near : m.window.delivered + 1 ≤ m.window.stable + WINDOW = window.within (m.window.delivered + 1) (ap is_some there) in
-      subst (λ (n : Follower). n.window.stable + WINDOW - n.window.delivered < m.window.stable + WINDOW - m.window.delivered) (sym y.now) (omega arith)
-
-  pub turn-nears : (w : Who) (old new : InView Follower S) → IsWindow old.part.window → DeliversIf w true (next_held old.part) old new
-      → new.part.window.stable + WINDOW - new.part.window.delivered < old.part.window.stable + WINDOW - old.part.window.delivered
-  turn-nears w old new window x = near-by (next_held old.part) w old new window refl x
 
   pub turn-then : (came : Option Posted) (w : Who) (did_deliver : Bool) (a b c : InView Follower S) → same_address w.address a.part.view.id.creator ≡ false → Does came w a b
       → DeliversIf w did_deliver (next_held b.part) b c → Does came w a c
@@ -223,9 +203,3 @@ module _ {S : Type 0} (meaning : Meaning S) where
       → Does (order_packet p m.view g e) (who p group) (in_view m s out) (in_view last t end)
   order-goes p group m s out g e more most last t end other now after rest_goes =
       other-then meaning (order_packet p m.view g e) (who p group) (in_view m s out) (in_view most s out) (in_view last t end) (takes-goes p group m s out g e more most other now after) (rest_goes (order_packet p m.view g e))
-
-  -- and then a packet that needs no more than what is known in the view
-  pub then-puts : (came : Option Posted) (p : Address) (group : List ℕ) (a b : Follower) (s t : S) (out more most : Output) (q : Address) (body : Body) → Does came (who p group) (in_view a s out) (in_view b t more)
-      → ((kept : Beside) → Describes (open_core p b.view kept (follower_core b) t) q body) → Grows group more most (packet p body q ∷ []) [] → Does came (who p group) (in_view a s out) (in_view b t most)
-  then-puts came p group a b s t out more most q body x says puts =
-      other-then meaning came (who p group) (in_view a s out) (in_view b t more) (in_view b t most) x (puts-goes came p group b t more most q body says puts)

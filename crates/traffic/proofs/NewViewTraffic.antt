@@ -5,7 +5,6 @@ use Rattle.std.specs.List.{find}
 use mathlib.Core.Path.{fun_ext}
 use Rattle.address.specs.Ids.{Address, same_address}
 use Rattle.view.specs.Members.{View, stands_in}
-use Rattle.view.specs.View.{view_refusal}
 use Rattle.wire_values.specs.Values.{Entry}
 use Rattle.address.proofs.SameIds.{same_address-true}
 use Rattle.sequencer.specs.Forwards.{no_forwards}
@@ -18,7 +17,6 @@ use Rattle.traffic.specs.declared.view_state.ViewState.TheVariants as kinds
 use Rattle.traffic.specs.ViewStates.{waiting_of, ordered_of, senders_of, coordinator_core, view_core_of, view_of, fresh_coordinator, fresh_follower, fresh_in}
 use Rattle.traffic.specs.Coordinators.{IsCoordinator}
 use Rattle.traffic.specs.Turns.{IsSettled, own_queue}
-use Rattle.traffic.proofs.ActsOfTurns.{itself-in}
 
 -- ---- nothing is kept of a new view but the view
 
@@ -90,9 +88,6 @@ fresh-settled-in p v there = record {
   least = sym (least-unheard v.members);
   own = own-idle p v.members there;
 }
-
-pub fresh-settled : (p : Address) (v : View) → same_address p v.id.creator ≡ true → view_refusal v.id v.members ≡ None → IsSettled p (fresh_coordinator v)
-fresh-settled p v first sound = fresh-settled-in p v (itself-in p v sound first)
 
 pub fresh-rested : (v : View) → next_ordered (fresh_coordinator v).window.stable (fresh_coordinator v).orderer ≡ None
 fresh-rested v = none-next v.members

@@ -1,5 +1,5 @@
 -- What is put out of a window's slots, one slot after another.
-use Rattle.std.proofs.Common.{◌≡◌, ℕ, suc, ◌+◌, ◌≤◌, List, ◌∷◌, ◌++◌, Option, None, Some, length, sym, ap, ◌∙◌, subst, arith, append_assoc}
+use Rattle.std.proofs.Common.{◌≡◌, ℕ, suc, ◌+◌, ◌≤◌, List, ◌∷◌, ◌++◌, Option, Some, length, sym, ap, ◌∙◌, subst, arith, append_assoc}
 use Rattle.std.specs.List.{flat_map, AllByRecursion}
 use Rattle.address.specs.declared.limits.TheConstants.{WINDOW, GREATEST_NUMBER}
 use Rattle.wire_values.specs.Values.{Entry}
@@ -26,21 +26,6 @@ put-none w left bytes i same all = record {
 
 next : (n : ℕ) → suc n ≡ n + 1
 next n = omega arith
-
--- an empty slot
-pub put-empty : (first : List ℕ) (held : List (ℕ × Entry)) (n : ℕ) (left : List (Option Entry)) (bytes : List ℕ)
-    → IsPut first held n (None ∷ left) bytes → IsPut first held (n + 1) left bytes
-put-empty first held n left bytes p = subst (λ (k : ℕ). IsPut first held k left bytes) (next n) (record {
-  rest = p.rest;
-  numbers = p.numbers;
-  placed = p.placed;
-  few = omega (arith, p.few);
-})
-
--- a slot that has an entry
-pub put-number : (first : List ℕ) (held : List (ℕ × Entry)) (n : ℕ) (e : Entry) (left : List (Option Entry)) (bytes : List ℕ)
-    → IsPut first held n (Some e ∷ left) bytes → IsNumber (n + 1)
-put-number first held n e left bytes p = subst IsNumber (next n) p.numbers.0
 
 pub put-one : (first : List ℕ) (held : List (ℕ × Entry)) (n : ℕ) (e : Entry) (left : List (Option Entry)) (bytes more : List ℕ)
     → IsPut first held n (Some e ∷ left) bytes → IsPlaced (n + 1, e) → more ≡ bytes ++ placed_bytes (n + 1, e) → IsPut first held (n + 1) left more

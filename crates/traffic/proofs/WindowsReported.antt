@@ -23,10 +23,6 @@ other-number g x low = grind (arith, nat_tests)
 less-is : (a b : ℕ) → nat_cmp a b ≡ Less → a < b
 less-is a b e = grind (arith, nat_tests)
 
-found-by : (b : Bool) (g : ℕ) (h : ℕ × Entry) (held : List (ℕ × Entry)) → nat_eq g h.0 ≡ b → IsSome (held_at g (h ∷ held)) → (b ≡ false → IsSome (held_at g held) → h.0 < g) → h.0 ≤ g
-found-by true g h held q found rest = let n : g ≡ h.0 = eqb-true g h.0 q in omega arith
-found-by false g h held q found rest = let n : h.0 < g = rest refl (sym (ap (λ t. is_some (cond t (Some h.1) (held_at g held))) q) ∙ found) in omega arith
-
 past-by : (b : Bool) (k g : ℕ) (h : ℕ × Entry) (held : List (ℕ × Entry)) → nat_eq g h.0 ≡ b → k < h.0 → (IsSome (held_at g held) → k < g) → IsSome (held_at g (h ∷ held)) → k < g
 past-by true k g h held q low rest found = let n : g ≡ h.0 = eqb-true g h.0 q in omega arith
 past-by false k g h held q low rest found = rest (sym (ap (λ t. is_some (cond t (Some h.1) (held_at g held))) q) ∙ found)

@@ -1,3 +1,1 @@
-mod OffersInRow
 mod RoundsCompose
-mod DetectorsWatch

@@ -6,11 +6,10 @@ use Rattle.state_transfer.specs.Meanings.{Meaning}
 use Rattle.member.specs.declared.error.Error.{Error}
 use Rattle.udp_net.specs.Logs.{Log, Lists, receiving, answer_of}
 use Rattle.udp_member.specs.declared.runner.TheConstants.{RECEIVES}
-use Rattle.udp_member.specs.Turns.{Handed, Datagram, Suspect, Tick, Hint, Driven, Takes, TakesAll, Nothing, Next, Any}
+use Rattle.udp_member.specs.Turns.{Handed, Datagram, Suspect, Tick, Driven, Takes, TakesAll, Nothing, Next, Any}
 use Rattle.udp_member.specs.Rounds.{PassesOver, HandsIn, HearsOne, Receives, Cuts, Hears, IsSilent, silent_of, after_suspicions, SuspectsOf, Suspects, Rounds}
 use Rattle.udp_member.specs.Detectors.{begun_anew, is_silent}
 use Rattle.udp_member.specs.RunnerNotes.{RunnerNotes}
-use Rattle.udp_member.specs.Seeking.{Hints}
 
 module _ {N S : Type 0} (log : N → Option Log) (failed : N → ℕ) (meaning : Meaning S) where
   -- so many datagrams were handed in
@@ -187,9 +186,4 @@ module _ {N S : Type 0} (log : N → Option Log) (failed : N → ℕ) (meaning :
     };
     stops = λ k n. absurd (cc);
   }
-
   -- ---- who is sought
-
-  pub hinted : (old new : Driven N S) (p : Address) (failure : Option Error) → HandsIn meaning (Hint p) old.channel old.notes failure new.channel new.notes → new.net ≡ old.net
-      → new.faults ≡ old.faults → Hints log failed meaning p old failure new
-  hinted old new p failure h net same = record { answer = h.answer; takes = record { comes = net; turn = h.turn; faults = same; notes = h.noted }; why = h.why }

@@ -1,18 +1,18 @@
 -- The laws of words: how long they are, and each is read from its spelling, whatever follows.
-use Rattle.std.proofs.Common.{◌≡◌, ℕ, ◌≤◌, Bool, true, false, List, [], ◌∷◌, ◌++◌, length, Option, Some, None, Ok, refl, sym, ap, ◌∙◌, append_assoc, arith, nat_eq}
+use Rattle.std.proofs.Common.{◌≡◌, ℕ, Bool, true, false, List, [], ◌∷◌, ◌++◌, Option, Some, None, Ok, refl, sym, ap, ◌∙◌, append_assoc, arith, nat_eq}
 use Rattle.std.specs.Prelude.{IfSome}
 use Rattle.std.specs.Cmp.Lexicographic.{pointwise}
 use Rattle.std.proofs.lemmas.List.{append-nil}
 use Rattle.std.proofs.lemmas.Bool.{eq-eqb}
 use Rattle.byteorder.specs.Endian.{big_bytes}
 use Rattle.address.specs.Ids.{ViewId}
-use Rattle.address.specs.declared.limits.TheConstants.{GROUP_NAME, MEMBERS}
+use Rattle.address.specs.declared.limits.TheConstants.{MEMBERS}
 use Rattle.wire_values.specs.declared.error.WireError.TheVariants.{NotOurs, Version, Value}
 use Rattle.wire_values.specs.Fields.{address_bytes, number_bytes, view_id_bytes}
 use Rattle.wire_values.specs.Texts.{group_bytes}
 use Rattle.wire_values.specs.Names.{is_group_name}
 use Rattle.wire_values.proofs.FieldLaws.{number_again, address_part, view_id_part}
-use Rattle.wire.proofs.PacketLaws.{is_name, group_part}
+use Rattle.wire.proofs.PacketLaws.{group_part}
 use Rattle.udp_net.specs.declared.word.Word.{Word}
 use Rattle.udp_net.specs.declared.word.Echo.{Echo}
 use Rattle.udp_net.specs.declared.word.Place.{Place}
@@ -20,17 +20,6 @@ use Rattle.udp_net.specs.declared.word.TheConstants.{WORD_MAGIC, WORD_VERSION, G
 use Rattle.udp_net.specs.Words.{IsEcho, IsPlace, IsWord, echo_bytes, place_bytes, word_head, said_bytes, word_bytes, word_front_at, echo_at, place_at, said_at, word_at, word_of}
 
 -- ---- how long they are
-
-pub name_few : (group : List ℕ) → is_group_name group ≡ true → length group ≤ GROUP_NAME
-name_few group is = (is_name group is).few
-
-pub echo_few : (o : Option Echo) → length (echo_bytes o) ≤ 15
-echo_few None = omega arith
-echo_few (Some e) = omega arith
-
-pub place_few : (o : Option Place) → length (place_bytes o) ≤ 16
-place_few None = omega arith
-place_few (Some p) = omega arith
 
 -- ---- three parts, put one behind the other
 

@@ -20,11 +20,6 @@ module _ {X : Type 0} where
   set-self (z ∷ xs) zero x at = ap (λ (w : X). w ∷ xs) (sym (same_Some z x at))
   set-self (z ∷ xs) (suc k) x at = ap (λ (l : List X). z ∷ l) (set-self xs k x at)
 
-  pub set-twice : (xs : List X) (k : ℕ) (x y : X) → slice_set (slice_set xs k x) k y ≡ slice_set xs k y
-  set-twice [] k x y = refl
-  set-twice (z ∷ xs) zero x y = refl
-  set-twice (z ∷ xs) (suc k) x y = ap (λ (l : List X). z ∷ l) (set-twice xs k x y)
-
 -- what stands at a place within
 pub at-place : {X : Type 0} (xs : List X) (k : ℕ) (x : X) → k < length xs → x ≡ get_or xs k x → slice_get xs k ≡ Some x
 at-place [] k x within is = absurd (omega arith)

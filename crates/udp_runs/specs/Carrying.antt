@@ -1,5 +1,5 @@
 -- What the lines of a script do at nodes, what is said of it, and what happens by it at their nets.
-use Rattle.std.specs.Prelude.{◌≡◌, ℕ, ◌+◌, true, false, nat_eq, List, [], ◌∷◌, ◌++◌, length, map, slice_get, slice_set, Option, None, Some, IfSome, is_some, if◌then◌else◌}
+use Rattle.std.specs.Prelude.{◌≡◌, ℕ, ◌+◌, false, nat_eq, List, [], ◌∷◌, ◌++◌, length, map, slice_get, slice_set, Option, None, Some, IfSome, is_some, if◌then◌else◌}
 use Rattle.std.specs.List.{list_any}
 use Rattle.std.specs.List.Sorted.{IsPermutation, IsNonDecreasing}
 use Rattle.address.specs.Ids.{Address}
@@ -103,9 +103,6 @@ why_unlisted (event.Suspect node p) = 1
 why_unlisted (event.MergeHint node p) = 1
 why_unlisted (event.Leave node) = 1
 why_unlisted (event.Crash node) = 1
-
-abbrev pub HasNode : {N S : Type 0} → List (NodeState N S) → ℕ → Type 0
-HasNode states node = list_any (λ x. nat_eq x.node node) states ≡ true
 
 -- the line of an event
 abbrev pub line_of_event : ℕ → WorldEvent → UdpLine

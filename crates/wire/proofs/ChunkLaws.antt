@@ -1,10 +1,8 @@
 -- The laws of what an install says of a state, and of a chunk.
-use Rattle.std.proofs.Common.{◌≡◌, ℕ, ◌+◌, ◌≤◌, ◌<◌, Bool, true, false, cond, ltb, eqb, List, ◌++◌, length, Result, Ok, Err, refl, sym, ap, subst, ◌∙◌, append_assoc, arith, inl, inr}
-use Rattle.std.specs.Prelude.{nat_lt}
+use Rattle.std.proofs.Common.{◌≡◌, ℕ, ◌+◌, ◌≤◌, cond, ltb, eqb, List, ◌++◌, length, Ok, Err, refl, sym, ap, subst, ◌∙◌, append_assoc, arith, inl, inr}
 use Rattle.std.proofs.lemmas.Bool.{eqb-true, ltb-true, lt-ltb}
 use Rattle.byteorder.specs.Endian.{big_bytes}
-use Rattle.address.specs.declared.limits.TheConstants.{STATE, WHOLE_STATE, CHUNK}
-use Rattle.wire_values.specs.declared.error.WireError.{WireError}
+use Rattle.address.specs.declared.limits.TheConstants.{STATE, WHOLE_STATE}
 use Rattle.wire_values.specs.declared.error.WireError.TheVariants.{Length, Value}
 use Rattle.wire_values.specs.declared.values.state.GivenState.{GivenState}
 use Rattle.wire_values.specs.declared.values.state.GivenState.TheVariants as given
@@ -28,9 +26,6 @@ total_takes bytes n rest fits e =
 total_again : (n : ℕ) (rest : List ℕ) → IsTotal n → total_at (big_bytes 4 n ++ rest) ≡ Ok (n, rest)
 unfolding total_at
 total_again n rest is = number_again 4 (WHOLE_STATE + 1) STATE Length n rest (omega (arith, is.1)) (omega (arith, is.0)) is.1
-
-pub total_part : IsPart total_at (λ n. big_bytes 4 n) IsTotal
-total_part = record { takes = total_takes; again = total_again }
 
 -- ---- what an install says of a state
 

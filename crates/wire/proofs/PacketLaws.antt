@@ -84,9 +84,6 @@ front_again kind rest is =
     ap front_at (append_assoc (big_bytes 2 MAGIC ++ big_bytes 1 VERSION) (big_bytes 1 kind) rest ∙ append_assoc (big_bytes 2 MAGIC) (big_bytes 1 VERSION) e2)
     ∙ rw (number_again 2 MAGIC MAGIC NotOurs MAGIC e1 (omega arith) (omega arith) (omega arith), number_again 1 VERSION VERSION Version VERSION e2 (omega arith) (omega arith) (omega arith)) (number_again 1 1 KINDS Kind kind rest (omega (arith, is.1)) is.0 is.1)
 
-pub front_part : IsPart front_at front_bytes IsKind
-front_part = record { takes = front_takes; again = front_again }
-
 -- ---- packets
 
 abbrev packet_from : List ℕ → Address → Address → Body → Packet

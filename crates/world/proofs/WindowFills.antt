@@ -66,11 +66,6 @@ collected-stable t w low = by (nat_lt w.stable (min t w.delivered)) refl
     by true e = omega (arith, low)
     by false e = let x : min t w.delivered ≤ w.stable = grind (arith, nat_tests) in omega (arith, low, x)
 
-pub collected-within : (t first last highest : ℕ) (w : WindowModel) → MissesWithin first last highest w → MissesWithin first last highest (collected t w)
-collected-within t first last highest w m g past known outside =
-    let before : w.delivered < g = subst (λ (d : ℕ). d < g) (collected-delivered t w) past in
-    subst IsSome (sym (collected-held t g w before)) (m g before known outside)
-
 -- ---- an ORDER is taken
 
 pub taken-delivered : (g : ℕ) (e : Entry) (w : WindowModel) → (taken g e w).delivered ≡ w.delivered

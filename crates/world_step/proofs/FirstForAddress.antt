@@ -1,5 +1,5 @@
 -- The first packet that is for an address, one number further.
-use Rattle.std.proofs.Common.{◌≡◌, ℕ, zero, suc, ◌+◌, ◌-◌, ◌<◌, ◌≤◌, Bool, true, false, cond, Option, Some, None, List, [], ◌∷◌, drop, length, nat_eq, refl, sym, ap, ◌∙◌, arith}
+use Rattle.std.proofs.Common.{◌≡◌, ℕ, zero, suc, ◌+◌, ◌-◌, ◌<◌, Bool, true, false, cond, Option, Some, List, [], ◌∷◌, drop, length, nat_eq, refl, sym, ap, ◌∙◌, arith}
 use Rattle.std.specs.List.{slice_get, position_from}
 use Rattle.std.specs.Option.{option_map_or}
 use Rattle.std.proofs.lemmas.Bool.{cond-true, cond-false}
@@ -41,12 +41,3 @@ first-later a k pool low e = unfolded a k pool low ∙ cond-false (is_for a (k +
 
 pub first-here : (a : Address) (k : ℕ) (pool : List (List ℕ)) → k < length pool → is_for a (k + 1) pool ≡ true → first_for a k pool ≡ Some (k + 1)
 first-here a k pool low e = unfolded a k pool low ∙ cond-true (is_for a (k + 1) pool) (Some (k + 1)) (first_for a (k + 1) pool) e
-
-drop-past : {X : Type 0} (n : ℕ) (xs : List X) → length xs ≤ n → drop n xs ≡ []
-drop-past zero [] low = refl
-drop-past (suc n) [] low = refl
-drop-past zero (x ∷ xs) low = absurd (omega (arith, low))
-drop-past (suc n) (x ∷ xs) low = drop-past n xs (omega (arith, low))
-
-pub first-none : (a : Address) (k : ℕ) (pool : List (List ℕ)) → length pool ≤ k → first_for a k pool ≡ None
-first-none a k pool low = ap (position_from (is_destined a) (k + 1)) (drop-past k pool low)

@@ -83,9 +83,6 @@ module _ {S : Type 0} (meaning : Meaning S) where
   tick-here old new n m step there =
       subst (λ (s : NodeState S). Hands meaning input.Tick step.answer (about s old.history.trace old.history.pool) (about (new.node_states n) new.history.trace new.history.pool)) there step.does.0
 
-  pub tick-others : (old new : WorldModel S) (n : ℕ) → WorldStep meaning old (Tick n) new → OthersStand n old.node_states new.node_states
-  tick-others old new n step = step.does.1
-
   -- ---- a delivery
 
   pub record Handed (m : MemberModel S) (bytes : List ℕ) (old new : WorldModel S) (a : Answer) (n : ℕ) : Type 0 where
