@@ -1,8 +1,8 @@
-use Rattle.std.proofs.Common.{rules}
+use Rattle.node_lines.specs.Came.{Keeps, KeepsUnsaid}
+use Rattle.node_turns.proofs.LinesOwed.{on-map}
 use Rattle.udp_runs.proofs.lone.LoneNode.tell_then_offer.Goals as goal
 
-pub returns-in-Err-clause-offers : goal.returns-in-Err-clause-offers
-returns-in-Err-clause-offers g c = search rules
-
-pub returns-in-Ok-clause-owes : goal.returns-in-Ok-clause-owes
-returns-in-Ok-clause-owes g c start came owed = c.in-Ok.ensures.unsaid _ start came owed
+pub returns-clause-owes : goal.returns-clause-owes
+returns-clause-owes g c =
+    on-map (KeepsUnsaid c.args.self.now.teller.unsaid c.tell_then_offer.new.self.unsaid) (Keeps c.args.self.now.outbox c.args.self.now.teller.unsaid c.args.self.now.outbox c.tell_then_offer.new.self.unsaid)
+    c.tell_then_offer.result c.tell_then_offer.ensures.unsaid (λ k. k c.args.self.now.outbox)
