@@ -1,10 +1,9 @@
 -- What clap's commands come to, argument by argument.
-use Rattle.std.proofs.Common.{◌≡◌, ◌||◌, ◌∙◌, ap₂, codes, refl, true, false, Bool, Option, None, Some, is_none, option_map, List, map, length, nat_lt}
+use Rattle.std.proofs.Common.{◌≡◌, ◌||◌, ◌∙◌, ap₂, codes, refl, true, false, Option, None, Some, is_none, option_map, List, map, length, nat_lt}
 use Rattle.std.specs.Borrow.{Bor}
 use Rattle.std.proofs.lemmas.List.{length-map}
 use Rattle.clap.specs.declared.builder.arg.Arg.{Arg}
 use Rattle.clap.specs.declared.builder.command.Command.{Command}
-use Rattle.clap.specs.declared.builder.command.Command.TheOpen.{Command-F}
 use Rattle.clap.specs.Words.{AddsArg, AddsSubcommand, App, Row, Rule, Text, all_of, app_of, with_rule, with_subcommand}
 use Rattle.vsync_words.specs.Grammar.{IsArg, IsCommand}
 use Rattle.vsync_words.specs.Kept.{stands}
@@ -18,9 +17,6 @@ with_one old a new app rule is arg adds = (adds.shape arg.1 ∙ ap₂ with_rule 
 -- one more subcommand
 pub with_command : (old command new : Command) (whole app : App) → app_of old ≡ whole → IsCommand app command → AddsSubcommand old command new → app_of new ≡ with_subcommand whole app.top
 with_command old command new whole app was is adds = adds.shape is.1 ∙ ap₂ (λ (w a : App). with_subcommand w a.top) was is.0
-
-abbrev pub has_globals : Command-F Command → Bool
-has_globals c = c.has_globals
 
 -- what stands nowhere has no text
 pub nothing_there : {X Y : Type 0} (g : X → Y) (o : Option X) → is_none o ≡ true → option_map g o ≡ None

@@ -1,15 +1,14 @@
 //! The words of `check`: of one trace, and of the texts of several processes.
 
-ghost use Rattle.std.specs.Prelude.{◌≡◌, ◌∷◌, [], codes, is_some, IfOk, IfSome};
+ghost use Rattle.std.specs.Prelude.{◌≡◌, ◌∷◌, [], is_some, IfOk, IfSome};
 ghost use Rattle.clap.specs.Words.{found_of, kind_of, rows_of, HasKind};
-ghost use Rattle.vsync_words.specs.Grammar.{check_app, several_rule, IsArg, IsCommand};
 ghost use Rattle.vsync_words.specs.Words.{has_stray_trace, AreProcessesWords};
 
-use crate::kept_words::{KeptFlags, flag, kept_flags, stands, with_kept};
+use crate::arguments::{Form, Row, Subcommand, command_of};
+use crate::kept_words::{KEEPS_LOCKS, KEEPS_LONG, KEEPS_MAP, KeptFlags, kept_flags, stands};
 use crate::member_options::values_of;
-use crate::udp_words::required;
 use clap::error::ErrorKind;
-use clap::{Arg, ArgAction, ArgMatches, Error};
+use clap::{ArgMatches, Error};
 use std::alloc::{AllocError, Global};
 
 /// The words of `check --processes FILE..`: the paths of the texts, and perhaps flags that say what the members keep (docs/CLI.md, "Texts of several processes").
@@ -21,35 +20,30 @@ pub struct ProcessesWords<'a> {
     pub flags: KeptFlags,
 }
 
-// The argument of `check`.
-fn traces<'a>(alloc: Global) -> Arg<'a>
-    ensures { IsArg (several_rule (codes "TRACE")) result }
-{
-    required(
-        alloc,
-        "TRACE",
-        "The trace's path, or - for the standard input; with --processes the path of each process's text",
-    )
-    .action(ArgAction::Append)
-}
+// The arguments of `check`.
+const CHECKED: [Row<'static>; 5] = [
+    KEEPS_LONG,
+    KEEPS_MAP,
+    KEEPS_LOCKS,
+    Row {
+        name: "processes",
+        form: Form::Flag,
+        help: "The texts of several processes, as `vsync member` prints them, are checked as one trace",
+    },
+    Row {
+        name: "TRACE",
+        form: Form::Words,
+        help: "The trace's path, or - for the standard input; with --processes the path of each process's text",
+    },
+];
 
-/// The subcommand `check` as clap reads it.
-pub(crate) fn check_command<'a>(alloc: Global) -> Result<clap::Command<'a>, AllocError>
-    ensures { IfOk result (IsCommand check_app) }
-{
-    let command = clap::Command::new(alloc, "check")
-        .about("Checks whether a trace is virtually synchronous")
-        .after_help(
-            "The trace has a line for each event, as `vsync world` prints it; empty lines and lines that begin with # are skipped.\nIt prints `holds`, or `broken RULE PLACE`: the rule that breaks first, and the length of the shortest beginning that breaks one.\n\nExamples:\n  vsync check examples/hello.trace\n  vsync check --processes one.text two.text\n  vsync check --map --processes one.text two.text",
-        );
-    with_kept(alloc, command)?
-        .arg(flag(
-            alloc,
-            "processes",
-            "The texts of several processes, as `vsync member` prints them, are checked as one trace",
-        ))?
-        .arg(traces(alloc))
-}
+/// The subcommand `check`.
+pub(crate) const CHECK: Subcommand<'static> = Subcommand {
+    name: "check",
+    about: "Checks whether a trace is virtually synchronous",
+    after_help: "The trace has a line for each event, as `vsync world` prints it; empty lines and lines that begin with # are skipped.\nIt prints `holds`, or `broken RULE PLACE`: the rule that breaks first, and the length of the shortest beginning that breaks one.\n\nExamples:\n  vsync check examples/hello.trace\n  vsync check --processes one.text two.text\n  vsync check --map --processes one.text two.text",
+    arguments: &CHECKED,
+};
 
 /// The words of `check --processes` in its matches.
 pub(crate) fn processes_words<'a>(
@@ -88,7 +82,7 @@ fn stray_error(alloc: Global, trace: &str) -> Result<Error, AllocError>
     let message = format!(in alloc;
         "unexpected argument '{trace}' found: only with '--processes' several texts are checked"
     )?;
-    let mut command = check_command(alloc)?.bin_name("vsync check")?;
+    let mut command = command_of(alloc, &CHECK)?.bin_name("vsync check")?;
     command.error(ErrorKind::UnknownArgument, message.as_str())
 }
 

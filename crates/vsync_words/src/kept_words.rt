@@ -1,12 +1,11 @@
 //! What members keep, by the flags of a command.
 
-ghost use Rattle.std.specs.Prelude.{◌≡◌, codes, IfOk};
-ghost use Rattle.clap.specs.Words.{App, found_of, rows_of};
+ghost use Rattle.std.specs.Prelude.{◌≡◌};
+ghost use Rattle.clap.specs.Words.{found_of, rows_of};
 ghost use Rattle.vsync_words.specs.Kept.{flags_keep, flags_keep_two, flags_said, stands};
-ghost use Rattle.vsync_words.specs.Grammar.{flag_rule, kept_app, IsArg, IsCommand};
 
-use clap::{Arg, ArgAction, ArgMatches};
-use std::alloc::{AllocError, Global};
+use crate::arguments::{Form, Row};
+use clap::ArgMatches;
 
 /// What the members keep that a command runs, each one line of the program.
 #[derive(Clone, Copy)]
@@ -56,43 +55,26 @@ impl KeptFlags {
     }
 }
 
-/// A flag.
-pub(crate) fn flag<'a>(alloc: Global, name: &'a str, help: &'a str) -> Arg<'a>
-    ensures { IsArg (flag_rule name.now) result }
-{
-    Arg::new(alloc, name)
-        .long(name)
-        .action(ArgAction::SetTrue)
-        .help(help)
-}
-
 /// The flag `--long`.
-pub(crate) fn long_flag<'a>(alloc: Global) -> Arg<'a>
-    ensures { IsArg (flag_rule (codes "long")) result }
-{
-    flag(
-        alloc,
-        "long",
-        "The members keep the last 2000 lines of the chat, not the last 24",
-    )
-}
+pub(crate) const KEEPS_LONG: Row<'static> = Row {
+    name: "long",
+    form: Form::Flag,
+    help: "The members keep the last 2000 lines of the chat, not the last 24",
+};
 
-/// A command with the flags that say what its members keep as well.
-pub(crate) fn with_kept<'a>(
-    alloc: Global,
-    command: clap::Command<'a>,
-) -> Result<clap::Command<'a>, AllocError>
-    ensures { (app : App) → IsCommand app command.entry → IfOk result (IsCommand (kept_app app)) }
-{
-    command
-        .arg(long_flag(alloc))?
-        .arg(flag(alloc, "map", "The members keep a map, and no locks"))?
-        .arg(flag(
-            alloc,
-            "locks",
-            "The members keep a table of locks, and no map",
-        ))
-}
+/// The flag `--map`.
+pub(crate) const KEEPS_MAP: Row<'static> = Row {
+    name: "map",
+    form: Form::Flag,
+    help: "The members keep a map, and no locks",
+};
+
+/// The flag `--locks`.
+pub(crate) const KEEPS_LOCKS: Row<'static> = Row {
+    name: "locks",
+    form: Form::Flag,
+    help: "The members keep a table of locks, and no map",
+};
 
 /// Whether a flag stands among the words.
 pub(crate) fn stands(matches: &ArgMatches<'_>, name: &str) -> bool

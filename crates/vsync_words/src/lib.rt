@@ -2,6 +2,7 @@
 //! `vsync check` mean, what causes them, and what to do.
 #![tactic(auto)]
 
+mod arguments;
 mod check_words;
 mod explain_words;
 mod kept_words;

@@ -1,15 +1,15 @@
 //! The options of `member`.
 
 ghost use Rattle.std.specs.Prelude.{◌≡◌, ◌≤◌, [], codes, map, unwrap_or, IfOk, IfSome};
-ghost use Rattle.clap.specs.Words.{App, all_of, found_of, rows_of};
-ghost use Rattle.vsync_words.specs.Grammar.{numeric_rule, repeated_rule, times_app, files_app, hosts_app, flags_app, group_flags_app, options_app, IsArg, IsCommand};
+ghost use Rattle.clap.specs.Words.{all_of, found_of, rows_of};
 ghost use Rattle.vsync_words.specs.Words.{AreMemberOptions, IsOptionalIn};
 
-use crate::kept_words::{KeptFlags, flag, kept_flags, stands};
-use crate::udp_words::option;
-use address::limits::MEMBERS;
-use clap::builder::ValueParser;
-use clap::{Arg, ArgAction, ArgMatches};
+use crate::arguments::{Form, Row, Subcommand};
+use crate::kept_words::{KeptFlags, kept_flags, stands};
+use crate::udp_words::CONFIG;
+use address::limits::{GREATEST_INCARNATION, GREATEST_NODE, MEMBERS};
+use clap::ArgMatches;
+use script_reader::ROUNDS;
 use std::alloc::{AllocError, Global};
 
 /// The longest time between two rounds, in milliseconds.
@@ -86,202 +86,143 @@ impl Drop for MemberOptions<'_> {
     }
 }
 
-// An option whose value is a number in a range.
-fn numeric<'a>(
-    alloc: Global,
-    name: &'a str,
-    value: &'a str,
-    low: u64,
-    high: u64,
-    help: &'a str,
-) -> Arg<'a>
-    ensures { IsArg (numeric_rule name.now low high) result }
-{
-    option(alloc, name, value, help).value_parser(ValueParser::unsigned(low, high))
-}
+// The words of `member`, what it sends, whom it asks, and its options, which say how it runs.
+const WORDS: [Row<'static>; 26] = [
+    CONFIG,
+    Row {
+        name: "NODE",
+        form: Form::NumberWord(1, GREATEST_NODE as u64),
+        help: "The node's number in the settings",
+    },
+    Row {
+        name: "INCARNATION",
+        form: Form::NumberWord(1, GREATEST_INCARNATION as u64),
+        help: "Its incarnation: a greater one at each start",
+    },
+    Row {
+        name: "ROUNDS",
+        form: Form::NumberWord(0, ROUNDS),
+        help: "How many rounds it runs",
+    },
+    Row {
+        name: "contact",
+        form: Form::Value("ADDR"),
+        help: "The address, such as 1.1, of a member of the group to join",
+    },
+    Row {
+        name: "send",
+        form: Form::Value("TEXT"),
+        help: "What it sends, once, as soon as it may",
+    },
+    Row {
+        name: "tick",
+        form: Form::Number("MS", 1, MOST_TICK),
+        help: "The milliseconds between two rounds, 1 to 1000; 20 where it is not given",
+    },
+    Row {
+        name: "merge",
+        form: Form::Number("TICKS", 0, MOST_MERGE),
+        help: "After how many rounds it seeks members that are not in its view, 0 for never; 50 where it is not given",
+    },
+    Row {
+        name: "quorum",
+        form: Form::Number("N", 1, MOST_QUORUM),
+        help: "It sends only in views of at least N members, 1 to 16; 1 where it is not given",
+    },
+    Row {
+        name: "incarnation-file",
+        form: Form::Value("FILE"),
+        help: "Where its last incarnation is kept: it starts with the next one, and with INCARNATION at the first time",
+    },
+    Row {
+        name: "say",
+        form: Form::Value("FILE"),
+        help: "It sends each line that is appended to this file; a line of the byte 4 alone ends it",
+    },
+    Row {
+        name: "status",
+        form: Form::Value("FILE"),
+        help: "Where its status is written each second: its view, and what an operator asks for",
+    },
+    Row {
+        name: "key-file",
+        form: Form::Value("FILE"),
+        help: "The file of the group's key, 16 to 1024 bytes: its datagrams are sealed with it, and others are not heard; all of the group must",
+    },
+    Row {
+        name: "bind",
+        form: Form::Value("HOST"),
+        help: "The address, or a name of it, of this host at which it receives; 127.0.0.1 where it is not given",
+    },
+    Row {
+        name: "peer",
+        form: Form::Values("NODE=HOST"),
+        help: "Where a node is reached, once for each that is not at 127.0.0.1",
+    },
+    Row {
+        name: "http",
+        form: Form::Value("HOST:PORT"),
+        help: "Where it answers requests of HTTP, for what --map or --locks says; a PORT alone is one of 127.0.0.1",
+    },
+    Row {
+        name: "forever",
+        form: Form::Flag,
+        help: "It has rounds without end, whatever ROUNDS says",
+    },
+    Row {
+        name: "leave",
+        form: Form::Flag,
+        help: "It leaves its group at its end",
+    },
+    Row {
+        name: "text",
+        form: Form::Flag,
+        help: "It prints what is said as text, and who comes and goes, in place of its trace and its chat",
+    },
+    Row {
+        name: "stats",
+        form: Form::Flag,
+        help: "It prints on the standard error at its end what happened, in numbers",
+    },
+    Row {
+        name: "long",
+        form: Form::Flag,
+        help: "It keeps the last 2000 lines of the chat, not the last 24; all of the group must",
+    },
+    Row {
+        name: "map",
+        form: Form::Flag,
+        help: "It keeps a map, and no locks; all of the group must. TEXT and the lines of --say are put KEY VALUE, remove KEY, replace KEY OLD NEW or clear",
+    },
+    Row {
+        name: "locks",
+        form: Form::Flag,
+        help: "It keeps a table of locks, and no map; all of the group must. TEXT and the lines of --say are acquire NAME or release NAME",
+    },
+    Row {
+        name: "find",
+        form: Form::Flag,
+        help: "It asks the nodes of the settings who is there, joins the greatest view or makes a group, and gives way to a greater one; all of the group must",
+    },
+    Row {
+        name: "any-source",
+        form: Form::Flag,
+        help: "It takes a node's datagrams wherever they come from, as where addresses are translated",
+    },
+    Row {
+        name: "stable",
+        form: Form::Flag,
+        help: "It prints among its events which messages it knows to be stable",
+    },
+];
 
-// An option that may stand there more than once.
-fn repeated<'a>(alloc: Global, name: &'a str, value: &'a str, help: &'a str) -> Arg<'a>
-    ensures { IsArg (repeated_rule name.now) result }
-{
-    option(alloc, name, value, help).action(ArgAction::Append)
-}
-
-// A command with the options of times as well.
-fn with_times<'a>(
-    alloc: Global,
-    command: clap::Command<'a>,
-) -> Result<clap::Command<'a>, AllocError>
-    ensures { (app : App) → IsCommand app command.entry → IfOk result (IsCommand (times_app app)) }
-{
-    command
-        .arg(numeric(
-            alloc,
-            "tick",
-            "MS",
-            1,
-            MOST_TICK,
-            "The milliseconds between two rounds, 1 to 1000; 20 where it is not given",
-        ))?
-        .arg(numeric(
-            alloc,
-            "merge",
-            "TICKS",
-            0,
-            MOST_MERGE,
-            "After how many rounds it seeks members that are not in its view, 0 for never; 50 where it is not given",
-        ))?
-        .arg(numeric(
-            alloc,
-            "quorum",
-            "N",
-            1,
-            MOST_QUORUM,
-            "It sends only in views of at least N members, 1 to 16; 1 where it is not given",
-        ))
-}
-
-// A command with the options that name files as well.
-fn with_files<'a>(
-    alloc: Global,
-    command: clap::Command<'a>,
-) -> Result<clap::Command<'a>, AllocError>
-    ensures { (app : App) → IsCommand app command.entry → IfOk result (IsCommand (files_app app)) }
-{
-    command
-        .arg(option(
-            alloc,
-            "incarnation-file",
-            "FILE",
-            "Where its last incarnation is kept: it starts with the next one, and with INCARNATION at the first time",
-        ))?
-        .arg(option(
-            alloc,
-            "say",
-            "FILE",
-            "It sends each line that is appended to this file; a line of the byte 4 alone ends it",
-        ))?
-        .arg(option(
-            alloc,
-            "status",
-            "FILE",
-            "Where its status is written each second: its view, and what an operator asks for",
-        ))?
-        .arg(option(
-            alloc,
-            "key-file",
-            "FILE",
-            "The file of the group's key, 16 to 1024 bytes: its datagrams are sealed with it, and others are not heard; all of the group must",
-        ))
-}
-
-// A command with the options that name hosts as well.
-fn with_hosts<'a>(
-    alloc: Global,
-    command: clap::Command<'a>,
-) -> Result<clap::Command<'a>, AllocError>
-    ensures { (app : App) → IsCommand app command.entry → IfOk result (IsCommand (hosts_app app)) }
-{
-    command
-        .arg(option(
-            alloc,
-            "bind",
-            "HOST",
-            "The address, or a name of it, of this host at which it receives; 127.0.0.1 where it is not given",
-        ))?
-        .arg(repeated(
-            alloc,
-            "peer",
-            "NODE=HOST",
-            "Where a node is reached, once for each that is not at 127.0.0.1",
-        ))?
-        .arg(option(
-            alloc,
-            "http",
-            "HOST:PORT",
-            "Where it answers requests of HTTP, for what --map or --locks says; a PORT alone is one of 127.0.0.1",
-        ))
-}
-
-/// A command with all options of `member` that say how it runs as well.
-pub(crate) fn with_options<'a>(
-    alloc: Global,
-    command: clap::Command<'a>,
-) -> Result<clap::Command<'a>, AllocError>
-    ensures { (app : App) → IsCommand app command.entry → IfOk result (IsCommand (options_app app)) }
-{
-    let command = with_times(alloc, command)?;
-    let command = with_files(alloc, command)?;
-    let command = with_hosts(alloc, command)?;
-    let command = with_flags(alloc, command)?;
-    with_group_flags(alloc, command)
-}
-
-// A command with the flags that say how it ends and what it prints as well.
-fn with_flags<'a>(
-    alloc: Global,
-    command: clap::Command<'a>,
-) -> Result<clap::Command<'a>, AllocError>
-    ensures { (app : App) → IsCommand app command.entry → IfOk result (IsCommand (flags_app app)) }
-{
-    command
-        .arg(flag(
-            alloc,
-            "forever",
-            "It has rounds without end, whatever ROUNDS says",
-        ))?
-        .arg(flag(alloc, "leave", "It leaves its group at its end"))?
-        .arg(flag(
-            alloc,
-            "text",
-            "It prints what is said as text, and who comes and goes, in place of its trace and its chat",
-        ))?
-        .arg(flag(
-            alloc,
-            "stats",
-            "It prints on the standard error at its end what happened, in numbers",
-        ))
-}
-
-// A command with the flags that say what it keeps, whom it finds and what it tells as well.
-fn with_group_flags<'a>(
-    alloc: Global,
-    command: clap::Command<'a>,
-) -> Result<clap::Command<'a>, AllocError>
-    ensures { (app : App) → IsCommand app command.entry → IfOk result (IsCommand (group_flags_app app)) }
-{
-    command
-        .arg(flag(
-            alloc,
-            "long",
-            "It keeps the last 2000 lines of the chat, not the last 24; all of the group must",
-        ))?
-        .arg(flag(
-            alloc,
-            "map",
-            "It keeps a map, and no locks; all of the group must. TEXT and the lines of --say are put KEY VALUE, remove KEY, replace KEY OLD NEW or clear",
-        ))?
-        .arg(flag(
-            alloc,
-            "locks",
-            "It keeps a table of locks, and no map; all of the group must. TEXT and the lines of --say are acquire NAME or release NAME",
-        ))?
-        .arg(flag(
-            alloc,
-            "find",
-            "It asks the nodes of the settings who is there, joins the greatest view or makes a group, and gives way to a greater one; all of the group must",
-        ))?
-        .arg(flag(
-            alloc,
-            "any-source",
-            "It takes a node's datagrams wherever they come from, as where addresses are translated",
-        ))?
-        .arg(flag(
-            alloc,
-            "stable",
-            "It prints among its events which messages it knows to be stable",
-        ))
-}
+/// The subcommand `member`.
+pub(crate) const MEMBER: Subcommand<'static> = Subcommand {
+    name: "member",
+    about: "Runs one node over UDP by itself, and prints its trace as it happens and its chat",
+    after_help: "It joins the group of the contact's member, or makes a group of itself alone. It handles datagrams as they come, and has a round each tick.\n\nExample, in two terminals:\n  vsync member examples/four.toml 1 1 1000 --send hello\n  vsync member examples/four.toml 2 1 1000 --contact 1.1",
+    arguments: &WORDS,
+};
 
 // The number of an option, if it stands there.
 fn number_of(matches: &ArgMatches<'_>, name: &str, low: u64, high: u64) -> Option<Option<u16>>

@@ -1,14 +1,12 @@
 //! The words of the commands over one text, a script or a trace.
 
-ghost use Rattle.std.specs.Prelude.{◌≡◌, codes, IfOk, IfSome};
+ghost use Rattle.std.specs.Prelude.{◌≡◌, IfSome};
 ghost use Rattle.clap.specs.Words.{found_of, rows_of};
 ghost use Rattle.vsync_words.specs.Words.{drawing_said, task_said, text_argument, IsTextSaid};
-ghost use Rattle.vsync_words.specs.Grammar.{chats_app, draw_app, required_rule, script_app, IsArg, IsCommand};
 
-use crate::kept_words::{KeptFlags, flag, kept_flags, long_flag, stands, with_kept};
-use crate::udp_words::required;
-use clap::{Arg, ArgMatches};
-use std::alloc::{AllocError, Global};
+use crate::arguments::{Form, Row, Subcommand};
+use crate::kept_words::{KEEPS_LOCKS, KEEPS_LONG, KEEPS_MAP, KeptFlags, kept_flags, stands};
+use clap::ArgMatches;
 
 /// What a command does with its text.
 #[derive(Clone, Copy)]
@@ -43,139 +41,95 @@ pub struct TextCommand<'a> {
     pub flags: KeptFlags,
 }
 
-// A subcommand with one argument, the path of a script, as clap reads it.
-fn script_command<'a>(
-    alloc: Global,
-    name: &'a str,
-    about: &'a str,
-    after_help: &'a str,
-) -> Result<clap::Command<'a>, AllocError>
-    ensures { IfOk result (IsCommand (script_app name.now)) }
-{
-    clap::Command::new(alloc, name)
-        .about(about)
-        .after_help(after_help)
-        .arg(required(
-            alloc,
-            "SCRIPT",
-            "The script's path, or - for the standard input",
-        ))
-}
+// The path of a script.
+const SCRIPT: Row<'static> = Row {
+    name: "SCRIPT",
+    form: Form::Word,
+    help: "The script's path, or - for the standard input",
+};
 
-// The same with the flag `--long`.
-fn chats_command<'a>(
-    alloc: Global,
-    name: &'a str,
-    about: &'a str,
-    after_help: &'a str,
-) -> Result<clap::Command<'a>, AllocError>
-    ensures { IfOk result (IsCommand (chats_app name.now)) }
-{
-    script_command(alloc, name, about, after_help)?.arg(long_flag(alloc))
-}
+// The arguments of the commands over a script whose members keep one thing, and of those whose members keep a chat.
+const ONE_SCRIPT: [Row<'static>; 1] = [SCRIPT];
 
-/// The subcommand `world` as clap reads it.
-pub(crate) fn world_command<'a>(alloc: Global) -> Result<clap::Command<'a>, AllocError>
-    ensures { IfOk result (IsCommand (chats_app (codes "world"))) }
-{
-    chats_command(
-        alloc,
-        "world",
-        "Runs a script of members in a world, and prints the trace of what happened",
-        "The script has a line for each event: start N, create N, join N ADDR, send N TEXT, deliver K, tick N, leave N, crash N.\nIt prints a line for each event, and `# refused LINE NUMBER` for each event that is refused.\n\nExample:\n  vsync world examples/hello.script",
-    )
-}
+const CHATS: [Row<'static>; 2] = [SCRIPT, KEEPS_LONG];
 
-/// The subcommand `chat` as clap reads it.
-pub(crate) fn chat_command<'a>(alloc: Global) -> Result<clap::Command<'a>, AllocError>
-    ensures { IfOk result (IsCommand (chats_app (codes "chat"))) }
-{
-    chats_command(
-        alloc,
-        "chat",
-        "Runs a script as `world` does, and prints the chat of each running member",
-        "It prints `chat ADDR LINES` for each member that runs at the end. LINES is `-`, or `ADDR:hex` joined by commas, the oldest line first.\n\nExample:\n  vsync chat examples/hello.script",
-    )
-}
+// The arguments of `draw`.
+const DRAWN: [Row<'static>; 6] = [
+    Row {
+        name: "trace",
+        form: Form::Flag,
+        help: "The input is a trace, as `vsync world` prints it",
+    },
+    Row {
+        name: "packets",
+        form: Form::Flag,
+        help: "Each packet of the script's run is drawn as well; a trace has none",
+    },
+    KEEPS_LONG,
+    KEEPS_MAP,
+    KEEPS_LOCKS,
+    Row {
+        name: "INPUT",
+        form: Form::Word,
+        help: "The path of the script, or of the trace, or - for the standard input",
+    },
+];
 
-/// The subcommand `packets` as clap reads it.
-pub(crate) fn packets_command<'a>(alloc: Global) -> Result<clap::Command<'a>, AllocError>
-    ensures { IfOk result (IsCommand (chats_app (codes "packets"))) }
-{
-    chats_command(
-        alloc,
-        "packets",
-        "Runs a script as `world` does, and prints each packet that was put out",
-        "It prints `NUMBER KIND SOURCE DESTINATION HEX` for each packet, in order. NUMBER counts from 1, and HEX is all of the packet's bytes.\n\nExample:\n  vsync packets examples/join.script",
-    )
-}
+/// The subcommand `world`.
+pub(crate) const WORLD: Subcommand<'static> = Subcommand {
+    name: "world",
+    about: "Runs a script of members in a world, and prints the trace of what happened",
+    after_help: "The script has a line for each event: start N, create N, join N ADDR, send N TEXT, deliver K, tick N, leave N, crash N.\nIt prints a line for each event, and `# refused LINE NUMBER` for each event that is refused.\n\nExample:\n  vsync world examples/hello.script",
+    arguments: &CHATS,
+};
 
-/// The subcommand `settle` as clap reads it.
-pub(crate) fn settle_command<'a>(alloc: Global) -> Result<clap::Command<'a>, AllocError>
-    ensures { IfOk result (IsCommand (chats_app (codes "settle"))) }
-{
-    chats_command(
-        alloc,
-        "settle",
-        "Runs a script as `world` does, completes the changes of view that can complete, and prints the trace",
-        "A change of view completes by a tick of the member that has begun it, and by the deliveries that come of that, if all on its list run and would follow. This is done node by node.\n\nExample:\n  vsync settle examples/join.script",
-    )
-}
+/// The subcommand `chat`.
+pub(crate) const CHAT: Subcommand<'static> = Subcommand {
+    name: "chat",
+    about: "Runs a script as `world` does, and prints the chat of each running member",
+    after_help: "It prints `chat ADDR LINES` for each member that runs at the end. LINES is `-`, or `ADDR:hex` joined by commas, the oldest line first.\n\nExample:\n  vsync chat examples/hello.script",
+    arguments: &CHATS,
+};
 
-// The argument of `draw`.
-fn draw_input<'a>(alloc: Global) -> Arg<'a>
-    ensures { IsArg (required_rule (codes "INPUT")) result }
-{
-    Arg::new(alloc, "INPUT").required(true).help(
-        "The path of the script, or of the trace, or - for the standard input",
-    )
-}
+/// The subcommand `packets`.
+pub(crate) const PACKETS: Subcommand<'static> = Subcommand {
+    name: "packets",
+    about: "Runs a script as `world` does, and prints each packet that was put out",
+    after_help: "It prints `NUMBER KIND SOURCE DESTINATION HEX` for each packet, in order. NUMBER counts from 1, and HEX is all of the packet's bytes.\n\nExample:\n  vsync packets examples/join.script",
+    arguments: &CHATS,
+};
 
-/// The subcommand `draw` as clap reads it.
-pub(crate) fn draw_command<'a>(alloc: Global) -> Result<clap::Command<'a>, AllocError>
-    ensures { IfOk result (IsCommand draw_app) }
-{
-    let command = clap::Command::new(alloc, "draw")
-        .about("Draws what happens in a script's run, or what a trace says, as an SVG")
-        .after_help(
-            "Time goes down: a row for each event, a column for each member.\n\nExamples:\n  vsync draw examples/merge.script\n  vsync draw --packets examples/lost.script\n  vsync draw --trace examples/merge.trace\n  vsync draw --map examples/map/newcomer.script",
-        )
-        .arg(flag(
-            alloc,
-            "trace",
-            "The input is a trace, as `vsync world` prints it",
-        ))?
-        .arg(flag(
-            alloc,
-            "packets",
-            "Each packet of the script's run is drawn as well; a trace has none",
-        ))?;
-    with_kept(alloc, command)?.arg(draw_input(alloc))
-}
+/// The subcommand `settle`.
+pub(crate) const SETTLE: Subcommand<'static> = Subcommand {
+    name: "settle",
+    about: "Runs a script as `world` does, completes the changes of view that can complete, and prints the trace",
+    after_help: "A change of view completes by a tick of the member that has begun it, and by the deliveries that come of that, if all on its list run and would follow. This is done node by node.\n\nExample:\n  vsync settle examples/join.script",
+    arguments: &CHATS,
+};
 
-/// The subcommand `map` as clap reads it.
-pub(crate) fn map_command<'a>(alloc: Global) -> Result<clap::Command<'a>, AllocError>
-    ensures { IfOk result (IsCommand (script_app (codes "map"))) }
-{
-    script_command(
-        alloc,
-        "map",
-        "Runs a script as `world` does, whose members keep a map, and prints the map of each running member",
-        "What is sent is put KEY VALUE, remove KEY, replace KEY OLD NEW (OLD is - where no value is expected) or clear.\nIt prints `map ADDR ENTRIES` for each member that runs at the end. ENTRIES is `-`, or `hex:hex` joined by commas, keys and values, the keys rising.\n\nExample:\n  vsync map examples/map/newcomer.script",
-    )
-}
+/// The subcommand `draw`.
+pub(crate) const DRAW: Subcommand<'static> = Subcommand {
+    name: "draw",
+    about: "Draws what happens in a script's run, or what a trace says, as an SVG",
+    after_help: "Time goes down: a row for each event, a column for each member.\n\nExamples:\n  vsync draw examples/merge.script\n  vsync draw --packets examples/lost.script\n  vsync draw --trace examples/merge.trace\n  vsync draw --map examples/map/newcomer.script",
+    arguments: &DRAWN,
+};
 
-/// The subcommand `locks` as clap reads it.
-pub(crate) fn locks_command<'a>(alloc: Global) -> Result<clap::Command<'a>, AllocError>
-    ensures { IfOk result (IsCommand (script_app (codes "locks"))) }
-{
-    script_command(
-        alloc,
-        "locks",
-        "Runs a script as `world` does, whose members keep a table of locks, and prints the table of each running member",
-        "What is sent is acquire VIEW NAME, release VIEW NAME or roll VIEW MEMBERS.\nIt prints `locks ADDR TOKEN LOCK ..` for each member that runs at the end: the last token, and NAME:HOLDER:TOKEN:WAITERS for each lock that is held, NAME in hexadecimal.\n\nExample:\n  vsync locks examples/locks/killed.script",
-    )
-}
+/// The subcommand `map`.
+pub(crate) const MAP: Subcommand<'static> = Subcommand {
+    name: "map",
+    about: "Runs a script as `world` does, whose members keep a map, and prints the map of each running member",
+    after_help: "What is sent is put KEY VALUE, remove KEY, replace KEY OLD NEW (OLD is - where no value is expected) or clear.\nIt prints `map ADDR ENTRIES` for each member that runs at the end. ENTRIES is `-`, or `hex:hex` joined by commas, keys and values, the keys rising.\n\nExample:\n  vsync map examples/map/newcomer.script",
+    arguments: &ONE_SCRIPT,
+};
+
+/// The subcommand `locks`.
+pub(crate) const LOCKS: Subcommand<'static> = Subcommand {
+    name: "locks",
+    about: "Runs a script as `world` does, whose members keep a table of locks, and prints the table of each running member",
+    after_help: "What is sent is acquire VIEW NAME, release VIEW NAME or roll VIEW MEMBERS.\nIt prints `locks ADDR TOKEN LOCK ..` for each member that runs at the end: the last token, and NAME:HOLDER:TOKEN:WAITERS for each lock that is held, NAME in hexadecimal.\n\nExample:\n  vsync locks examples/locks/killed.script",
+    arguments: &ONE_SCRIPT,
+};
 
 /// What is drawn by the flags of `draw`.
 fn drawing(matches: &ArgMatches<'_>) -> Task

@@ -1,20 +1,19 @@
 //! The words of the commands for members over datagrams.
 
-ghost use Rattle.std.specs.Prelude.{◌≡◌, codes, IfOk, IfSome, MatchResult, Ok, Err};
+ghost use Rattle.std.specs.Prelude.{◌≡◌, codes, IfSome, MatchResult, Ok, Err};
 ghost use Rattle.clap.specs.Words.{found_of, one_of, rows_of};
 ghost use Rattle.script_reader.specs.declared.udp_script.TheConstants.{ROUNDS};
-ghost use Rattle.vsync_words.specs.Grammar.{required_rule, number_rule, option_rule, udp_app, member_numbers_app, member_talk_app, member_app, IsArg, IsCommand};
 ghost use Rattle.vsync_words.specs.Words.{AreUdpWords, AreMemberWords, IsNumberIn};
 ghost use Rattle.vsync_words.specs.Plans.{contact_of, payload_of, text_of, IsMistaken, IsPlan};
 ghost use Rattle.address.specs.declared.limits.TheConstants.{GREATEST_NODE, GREATEST_INCARNATION};
 
-use crate::member_options::{MemberOptions, member_options, with_options};
+use crate::arguments::{Form, Row, Subcommand};
+use crate::member_options::{MemberOptions, member_options};
 use address::limits::{GREATEST_INCARNATION, GREATEST_NODE, PAYLOAD};
 use address::{Address, Node};
-use clap::builder::ValueParser;
-use clap::{Arg, ArgMatches};
+use clap::ArgMatches;
 use script_reader::{MemberPlan, ROUNDS, address_in};
-use std::alloc::{AllocError, Global};
+use std::alloc::Global;
 use thiserror::Error;
 
 /// The words of `udp CONFIG SCRIPT`.
@@ -114,111 +113,30 @@ fn payload_in(word: Option<&str>) -> Result<Option<&[u8]>, MemberMistake>
     Ok(Some(word.as_bytes()))
 }
 
-/// An argument that is required.
-pub(crate) fn required<'a>(alloc: Global, name: &'a str, help: &'a str) -> Arg<'a>
-    ensures { IsArg (required_rule name.now) result }
-{
-    Arg::new(alloc, name).required(true).help(help)
-}
+/// The argument that names the settings.
+pub(crate) const CONFIG: Row<'static> = Row {
+    name: "CONFIG",
+    form: Form::Word,
+    help: "The path of the settings: the group's name, the rounds of silence, and each node's port",
+};
 
-// An argument that is a number in a range, and is required.
-fn number<'a>(alloc: Global, name: &'a str, low: u64, high: u64, help: &'a str) -> Arg<'a>
-    ensures { IsArg (number_rule name.now low high) result }
-{
-    required(alloc, name, help).value_parser(ValueParser::unsigned(low, high))
-}
+// The arguments of `udp`.
+const UDP_PATHS: [Row<'static>; 2] = [
+    CONFIG,
+    Row {
+        name: "SCRIPT",
+        form: Form::Word,
+        help: "The script's path, or - for the standard input",
+    },
+];
 
-/// An option with a value.
-pub(crate) fn option<'a>(alloc: Global, name: &'a str, value: &'a str, help: &'a str) -> Arg<'a>
-    ensures { IsArg (option_rule name.now) result }
-{
-    Arg::new(alloc, name)
-        .long(name)
-        .value_name(value)
-        .help(help)
-}
-
-// The argument that names the settings.
-fn config<'a>(alloc: Global) -> Arg<'a>
-    ensures { IsArg (required_rule (codes "CONFIG")) result }
-{
-    required(
-        alloc,
-        "CONFIG",
-        "The path of the settings: the group's name, the rounds of silence, and each node's port",
-    )
-}
-
-/// The subcommand `udp` as clap reads it.
-pub(crate) fn udp_command<'a>(alloc: Global) -> Result<clap::Command<'a>, AllocError>
-    ensures { IfOk result (IsCommand udp_app) }
-{
-    clap::Command::new(alloc, "udp")
-        .about("Runs nodes over UDP in one process by a script, and prints the trace and the chats")
-        .after_help(
-            "The script has a line for each event: start N, create N, join N ADDR, send N TEXT, suspect N ADDR, hint N ADDR, leave N, crash N,\nand rounds K for K rounds of each running node.\n\nExample:\n  vsync udp examples/four.toml examples/merge.udp",
-        )
-        .arg(config(alloc))?
-        .arg(required(
-            alloc,
-            "SCRIPT",
-            "The script's path, or - for the standard input",
-        ))
-}
-
-// The subcommand `member` with its numbers.
-fn member_numbers<'a>(alloc: Global) -> Result<clap::Command<'a>, AllocError>
-    ensures { IfOk result (IsCommand member_numbers_app) }
-{
-    clap::Command::new(alloc, "member")
-        .about("Runs one node over UDP by itself, and prints its trace as it happens and its chat")
-        .after_help(
-            "It joins the group of the contact's member, or makes a group of itself alone. It handles datagrams as they come, and has a round each tick.\n\nExample, in two terminals:\n  vsync member examples/four.toml 1 1 1000 --send hello\n  vsync member examples/four.toml 2 1 1000 --contact 1.1",
-        )
-        .arg(config(alloc))?
-        .arg(number(
-            alloc,
-            "NODE",
-            1,
-            GREATEST_NODE,
-            "The node's number in the settings",
-        ))?
-        .arg(number(
-            alloc,
-            "INCARNATION",
-            1,
-            GREATEST_INCARNATION,
-            "Its incarnation: a greater one at each start",
-        ))?
-        .arg(number(alloc, "ROUNDS", 0, ROUNDS, "How many rounds it runs"))
-}
-
-// The subcommand `member` with what it sends, and whom it asks.
-fn member_talk<'a>(alloc: Global) -> Result<clap::Command<'a>, AllocError>
-    ensures { IfOk result (IsCommand member_talk_app) }
-{
-    member_numbers(alloc)?
-        .arg(option(
-            alloc,
-            "contact",
-            "ADDR",
-            "The address, such as 1.1, of a member of the group to join",
-        ))?
-        .arg(option(
-            alloc,
-            "send",
-            "TEXT",
-            "What it sends, once, as soon as it may",
-        ))
-}
-
-/// The subcommand `member` as clap reads it.
-pub(crate) fn member_command<'a>(alloc: Global) -> Result<clap::Command<'a>, AllocError>
-    ensures { IfOk result (IsCommand member_app) }
-{
-    let command = member_talk(alloc)?;
-    with_options(alloc, command)
-}
+/// The subcommand `udp`.
+pub(crate) const UDP: Subcommand<'static> = Subcommand {
+    name: "udp",
+    about: "Runs nodes over UDP in one process by a script, and prints the trace and the chats",
+    after_help: "The script has a line for each event: start N, create N, join N ADDR, send N TEXT, suspect N ADDR, hint N ADDR, leave N, crash N,\nand rounds K for K rounds of each running node.\n\nExample:\n  vsync udp examples/four.toml examples/merge.udp",
+    arguments: &UDP_PATHS,
+};
 
 /// The words of `udp` in its matches.
 pub(crate) fn udp_words<'a>(matches: &ArgMatches<'a>) -> Option<UdpWords<'a>>

@@ -1,24 +1,21 @@
-ghost use Rattle.std.specs.Prelude.{◌≡◌, ◌≤◌, ◌<◌, ◌∷◌, ◌++◌, [], List, Some, true, false, length, map, codes, is_some, string_bytes, IfOk, IfSome, IsOkAnd, IsSomeAnd};
+ghost use Rattle.std.specs.Prelude.{◌≡◌, ◌≤◌, ◌<◌, ◌∷◌, ◌++◌, [], List, Some, true, false, length, map, codes, fold, is_some, string_bytes, IfOk, IfSome, IsOkAnd, IsSomeAnd};
 ghost use Rattle.std.specs.List.{list_all};
 ghost use Rattle.std.specs.Option.{option_map_or};
 ghost use Rattle.vsync_words.specs.declared.kept_words.Kept.{Kept};
 ghost use Rattle.vsync_words.specs.declared.text_words.Task.{Task};
-ghost use Rattle.clap.specs.Words.{App, app_of, first_of, found_of, rows_of, subcommand_of, subcommand_rows_of, with_subcommand, FailsBy, Text};
+ghost use Rattle.clap.specs.Words.{App, app_of, first_of, found_of, rows_of, subcommand_of, subcommand_rows_of, FailsBy, Text};
 ghost use Rattle.vsync_words.specs.Words.{faults_of, is_path, is_stray, words_for, words_for_processes, AreProcessesOn, IsExplainOn, IsOrNoMemory, IsSaid, IsTextOn, IsUdpOn, RunsStandardInput};
-ghost use Rattle.vsync_words.specs.Grammar.{program_app, program_of_subcommands, IsCommand};
+ghost use Rattle.vsync_words.specs.Grammar.{program_app, program_of_subcommands, with_subcommand_row};
 
-use crate::check_words::{
-    ProcessesWords, check_command, processes_words, stray_trace, unexpected_trace,
-};
-use crate::explain_words::explain_command;
+use crate::arguments::{Subcommand, command_of};
+use crate::check_words::{CHECK, ProcessesWords, processes_words, stray_trace, unexpected_trace};
+use crate::explain_words::EXPLAIN;
 use crate::kept_words::{KeptFlags, stands};
+use crate::member_options::MEMBER;
 use crate::text_words::{
-    Task, TextCommand, chat_command, draw_command, locks_command, map_command, packets_command,
-    settle_command, text_command, world_command,
+    CHAT, DRAW, LOCKS, MAP, PACKETS, SETTLE, Task, TextCommand, WORLD, text_command,
 };
-use crate::udp_words::{
-    MemberWords, UdpWords, member_command, member_words, udp_command, udp_words,
-};
+use crate::udp_words::{MemberWords, UDP, UdpWords, member_words, udp_words};
 use clap::{ArgMatches, Error};
 use std::alloc::{AllocError, Global};
 
@@ -53,34 +50,33 @@ fn program_grammar<'a>(alloc: Global) -> Result<clap::Command<'a>, AllocError>
     Ok(program)
 }
 
-// The program with a subcommand as well, if there was memory for both.
-fn adding<'a>(
-    program: Result<clap::Command<'a>, AllocError>,
-    command: Result<clap::Command<'a>, AllocError>,
+// The subcommands, in the order of the program's help.
+const SUBCOMMANDS: [Subcommand<'static>; 11] = [
+    WORLD, CHAT, PACKETS, SETTLE, CHECK, DRAW, MAP, LOCKS, UDP, MEMBER, EXPLAIN,
+];
+
+// A program with these subcommands as well, in their order.
+fn with_subcommands<'a>(
+    alloc: Global,
+    program: clap::Command<'a>,
+    subcommands: &[Subcommand<'a>],
 ) -> Result<clap::Command<'a>, AllocError>
-    ensures { (whole added : App) → IfOk program.entry (λ c. app_of c ≡ whole) → IfOk command.entry (IsCommand added)
-        → IfOk result (λ c. app_of c ≡ with_subcommand whole added.top) }
+    ensures { (whole : App) → app_of program.entry ≡ whole → IfOk result (λ c. app_of c ≡ fold with_subcommand_row whole subcommands.now) }
 {
-    let program = program?;
-    let command = command?;
-    program.subcommand(command)
+    let mut program = program;
+    for subcommand in subcommands {
+        let command = command_of(alloc, subcommand)?;
+        program = program.subcommand(command)?;
+    }
+    Ok(program)
 }
 
 /// The command line as clap reads it.
 fn grammar<'a>(alloc: Global) -> Result<clap::Command<'a>, AllocError>
     ensures { IfOk result (λ c. app_of c ≡ program_app) }
 {
-    let program = adding(program_grammar(alloc), world_command(alloc));
-    let program = adding(program, chat_command(alloc));
-    let program = adding(program, packets_command(alloc));
-    let program = adding(program, settle_command(alloc));
-    let program = adding(program, check_command(alloc));
-    let program = adding(program, draw_command(alloc));
-    let program = adding(program, map_command(alloc));
-    let program = adding(program, locks_command(alloc));
-    let program = adding(program, udp_command(alloc));
-    let program = adding(program, member_command(alloc));
-    adding(program, explain_command(alloc))
+    let program = program_grammar(alloc)?;
+    with_subcommands(alloc, program, &SUBCOMMANDS)
 }
 
 // The word of a subcommand whose only argument this is.
