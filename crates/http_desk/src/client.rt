@@ -59,14 +59,25 @@ pub(crate) enum Hold {
     },
 }
 
+// One of the two that are given what the peer sends. It is let go by a call, wherever a client is.
+struct Side {
+    connection: Connection,
+}
+
+impl Drop for Side {
+    fn drop(self) {
+        let Side { connection: _ } = self;
+    }
+}
+
 /// A connection, and what its peer waits for.
 pub(crate) struct Client {
     alloc: Global,
     keeps: Keeps,
     pub(crate) id: usize,
     stream: TcpStream,
-    ahead: Connection,
-    server: Connection,
+    ahead: Side,
+    server: Side,
     /// What its peer asked, until that is answered.
     pub(crate) asked: Option<Asked>,
     /// What its peer waits for.
@@ -135,8 +146,12 @@ impl Client {
             keeps,
             id,
             stream,
-            ahead: Connection::new(alloc, keys, config()),
-            server: Connection::new(alloc, keys, config()),
+            ahead: Side {
+                connection: Connection::new(alloc, keys, config()),
+            },
+            server: Side {
+                connection: Connection::new(alloc, keys, config()),
+            },
             asked: None,
             hold: Hold::Nothing,
             is_due: true,
@@ -156,10 +171,10 @@ impl Client {
     // Writes what waits; answers whether all of it went.
     fn flush(&mut self) -> io::Result<bool> {
         for _ in 0..STEPS {
-            if !self.server.wants_write() {
+            if !self.server.connection.wants_write() {
                 return Ok(true);
             }
-            match self.server.write_to(&mut self.stream) {
+            match self.server.connection.write_to(&mut self.stream) {
                 Ok(0) => return Err(ErrorKind::WriteZero.into()),
                 Ok(_) => (),
                 Err(error) if error.kind() == ErrorKind::WouldBlock => return Ok(false),
@@ -176,8 +191,8 @@ impl Client {
         };
         let mut first = came;
         let mut second = came;
-        let ahead = self.ahead.read_from(&mut first)?;
-        let served = self.server.read_from(&mut second)?;
+        let ahead = self.ahead.connection.read_from(&mut first)?;
+        let served = self.server.connection.read_from(&mut second)?;
         if ahead != count || served != count {
             return Err(ErrorKind::InvalidData.into());
         }
@@ -186,7 +201,10 @@ impl Client {
 
     // Reads once; answers whether anything came.
     fn read(&mut self, now: Duration) -> io::Result<bool> {
-        if !self.is_readable || !self.ahead.wants_read() || !self.server.wants_read() {
+        if !self.is_readable
+            || !self.ahead.connection.wants_read()
+            || !self.server.connection.wants_read()
+        {
             return Ok(false);
         }
         match self.stream.read(self.buffer.as_mut_slice()) {
@@ -205,13 +223,13 @@ impl Client {
 
     // Reads the next request ahead, and answers whether it is whole.
     fn reads_ahead(&mut self) -> bool {
-        drop_output(&mut self.ahead);
+        drop_output(&mut self.ahead.connection);
         let mut noting = Noting {
             alloc: self.alloc,
             keeps: self.keeps,
             asked: None,
         };
-        self.ahead.advance(&mut noting);
+        self.ahead.connection.advance(&mut noting);
         self.asked = noting.asked;
         self.asked.is_some()
     }
@@ -221,14 +239,14 @@ impl Client {
         if !self.flush()? {
             return Ok(Some(Step::Rests));
         }
-        if self.server.is_done() {
+        if self.server.connection.is_done() {
             return Ok(Some(Step::Over));
         }
         if self.reads_ahead() {
             return Ok(Some(Step::Asks));
         }
         self.advance(None);
-        if self.server.wants_write() || self.server.is_done() {
+        if self.server.connection.wants_write() || self.server.connection.is_done() {
             return Ok(None);
         }
         if self.read(now)? {
@@ -244,7 +262,7 @@ impl Client {
             keeps: self.keeps,
             found,
         };
-        self.server.advance(&mut giving);
+        self.server.connection.advance(&mut giving);
     }
 
     /// Goes on until it asks something, or rests, or is over.

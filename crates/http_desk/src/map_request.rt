@@ -43,18 +43,17 @@ fn put_field(line: &mut Vec<u8>, bytes: &[u8]) -> Result<(), AllocError> {
     line.extend_from_slice(bytes)
 }
 
-/// The line that says a command (docs/RECEIVERS.md, "The map's lines").
-pub(crate) fn line_of(alloc: Global, command: &Command<'_>) -> Result<Vec<u8>, AllocError> {
-    let mut line = Vec::new(alloc);
+// Adds the line that says a command.
+fn put_command(line: &mut Vec<u8>, command: &Command<'_>) -> Result<(), AllocError> {
     match command {
         Command::Put { key, value, .. } => {
             line.extend_from_slice(b"put")?;
-            put_field(&mut line, key.as_slice())?;
-            put_field(&mut line, value.as_slice())?;
+            put_field(line, key.as_slice())?;
+            put_field(line, value.as_slice())?;
         }
         Command::Remove(key) => {
             line.extend_from_slice(b"remove")?;
-            put_field(&mut line, key.as_slice())?;
+            put_field(line, key.as_slice())?;
         }
         Command::Replace {
             expected,
@@ -63,12 +62,12 @@ pub(crate) fn line_of(alloc: Global, command: &Command<'_>) -> Result<Vec<u8>, A
             ..
         } => {
             line.extend_from_slice(b"replace")?;
-            put_field(&mut line, key.as_slice())?;
+            put_field(line, key.as_slice())?;
             match expected {
-                Some(expected) => put_field(&mut line, expected.as_slice())?,
-                None => put_field(&mut line, b"-")?,
+                Some(expected) => put_field(line, expected.as_slice())?,
+                None => put_field(line, b"-")?,
             }
-            put_field(&mut line, value.as_slice())?;
+            put_field(line, value.as_slice())?;
         }
         Command::Clear => line.extend_from_slice(b"clear")?,
         Command::ReplaceAt {
@@ -78,16 +77,23 @@ pub(crate) fn line_of(alloc: Global, command: &Command<'_>) -> Result<Vec<u8>, A
             ..
         } => {
             line.extend_from_slice(b"replace_at")?;
-            put_field(&mut line, key.as_slice())?;
-            put_token_text(&mut line, b' ', &version.token())?;
-            put_field(&mut line, value.as_slice())?;
+            put_field(line, key.as_slice())?;
+            put_token_text(line, b' ', &version.token())?;
+            put_field(line, value.as_slice())?;
         }
         Command::RemoveAt { version, key } => {
             line.extend_from_slice(b"remove_at")?;
-            put_field(&mut line, key.as_slice())?;
-            put_token_text(&mut line, b' ', &version.token())?;
+            put_field(line, key.as_slice())?;
+            put_token_text(line, b' ', &version.token())?;
         }
     }
+    Ok(())
+}
+
+/// The line that says a command (docs/RECEIVERS.md, "The map's lines").
+pub(crate) fn line_of(alloc: Global, command: &Command<'_>) -> Result<Vec<u8>, AllocError> {
+    let mut line = Vec::new(alloc);
+    put_command(&mut line, command)?;
     Ok(line)
 }
 
