@@ -39,7 +39,7 @@ repeated_rule name = record (option_rule name) { action = Some Append }
 abbrev pub flag_rule : Text → Rule
 flag_rule name = record (new_rule name) { long = Some name; action = Some SetTrue }
 
--- the rule of an argument by its row
+-- the rule of an argument by what stands there of it; and by its row
 abbrev pub rule_by_form : Text → Form → Rule
 rule_by_form name Flag = flag_rule name
 rule_by_form name (Value _) = option_rule name
@@ -52,10 +52,11 @@ rule_by_form name (NumberWord low high) = number_rule name low high
 abbrev pub rule_of_row : Row → Rule
 rule_of_row row = rule_by_form row.name.now row.form
 
--- a command with these arguments; with the argument of a row as well; and a subcommand
+-- a command with these arguments
 abbrev pub command_app : Text → List Rule → App
 command_app name rules = fold with_rule (new_app name) rules
 
+-- a command with the argument of a row as well; and the subcommand of a name and rows
 abbrev pub with_row : App → Row → App
 with_row app row = with_rule app (rule_of_row row)
 
@@ -70,7 +71,7 @@ IsArg rule a = (rule_of a ≡ rule) × (a.global ≡ false)
 abbrev pub IsCommand : App → Command → Type 0
 IsCommand app c = (app_of c ≡ app) × ((out-Command c).has_globals ≡ false)
 
--- a program with this command as well, as a subcommand; and with a subcommand
+-- a program with this command as a subcommand as well; and with one by its rows
 abbrev pub with_command : App → App → App
 with_command program command = with_subcommand program command.top
 
@@ -117,8 +118,9 @@ talk_rules =
     ∷ option_rule (codes "send")
     ∷ []
 
--- `[--tick MS] [--merge TICKS] [--quorum N] [--incarnation-file FILE] [--say FILE] [--status FILE] [--key-file FILE] [--bind HOST] [--peer NODE=HOST].. [--http HOST:PORT]`,
--- and `[--forever] [--leave] [--text] [--stats] [--long] [--map] [--locks] [--find] [--any-source] [--stable]`
+-- `[--tick MS] [--merge TICKS] [--quorum N] [--incarnation-file FILE] [--say FILE] [--status FILE] [--key-file FILE]`,
+-- `[--bind HOST] [--peer NODE=HOST].. [--http HOST:PORT]` and
+-- `[--forever] [--leave] [--text] [--stats] [--long] [--map] [--locks] [--find] [--any-source] [--stable]`
 abbrev pub option_rules : List Rule
 option_rules =
     numeric_rule (codes "tick") 1 MOST_TICK
@@ -141,7 +143,7 @@ option_rules =
     ∷ flag_rule (codes "stable")
     ∷ []
 
--- and with all of them
+-- `member` with both
 abbrev pub member_app : App
 member_app = command_app (codes "member") (talk_rules ++ option_rules)
 
@@ -149,7 +151,7 @@ member_app = command_app (codes "member") (talk_rules ++ option_rules)
 abbrev pub explain_app : App
 explain_app = command_app (codes "explain") (required_rule (codes "CODE") ∷ [])
 
--- `vsync world [--long] SCRIPT`, `vsync chat [--long] SCRIPT`, `vsync packets [--long] SCRIPT`, `vsync settle [--long] SCRIPT`, `vsync check .. TRACE..`, `vsync draw .. INPUT`, `vsync map SCRIPT`, `vsync locks SCRIPT`, `vsync udp CONFIG SCRIPT`, `vsync member ..` and `vsync explain CODE`
+-- `vsync` with each of its subcommands, in the order of its help
 abbrev pub program_app : App
 program_app = fold with_command (program_of_subcommands (codes "vsync"))
     (chats_app (codes "world")

@@ -1,8 +1,8 @@
 //! The arguments of a command, a row each.
 
-ghost use Rattle.std.specs.Prelude.{◌≡◌, codes, fold, IfOk};
+ghost use Rattle.std.specs.Prelude.{fold, IfOk};
 ghost use Rattle.clap.specs.Words.{App};
-ghost use Rattle.vsync_words.specs.Grammar.{app_of_subcommand, flag_rule, option_rule, rule_of_row, several_rule, required_rule, with_row, IsArg, IsCommand};
+ghost use Rattle.vsync_words.specs.Grammar.{app_of_subcommand, flag_rule, option_rule, required_rule, rule_of_row, with_row, IsArg, IsCommand};
 
 use clap::builder::ValueParser;
 use clap::{Arg, ArgAction};

@@ -41,16 +41,17 @@ pub struct TextCommand<'a> {
     pub flags: KeptFlags,
 }
 
-// The path of a script.
-const SCRIPT: Row<'static> = Row {
+/// The path of a script.
+pub(crate) const SCRIPT: Row<'static> = Row {
     name: "SCRIPT",
     form: Form::Word,
     help: "The script's path, or - for the standard input",
 };
 
-// The arguments of the commands over a script whose members keep one thing, and of those whose members keep a chat.
+// The arguments of `map` and `locks`.
 const ONE_SCRIPT: [Row<'static>; 1] = [SCRIPT];
 
+// The arguments of the commands over a script whose members keep a chat.
 const CHATS: [Row<'static>; 2] = [SCRIPT, KEEPS_LONG];
 
 // The arguments of `draw`.

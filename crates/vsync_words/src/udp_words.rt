@@ -9,6 +9,7 @@ ghost use Rattle.address.specs.declared.limits.TheConstants.{GREATEST_NODE, GREA
 
 use crate::arguments::{Form, Row, Subcommand};
 use crate::member_options::{MemberOptions, member_options};
+use crate::text_words::SCRIPT;
 use address::limits::{GREATEST_INCARNATION, GREATEST_NODE, PAYLOAD};
 use address::{Address, Node};
 use clap::ArgMatches;
@@ -121,14 +122,7 @@ pub(crate) const CONFIG: Row<'static> = Row {
 };
 
 // The arguments of `udp`.
-const UDP_PATHS: [Row<'static>; 2] = [
-    CONFIG,
-    Row {
-        name: "SCRIPT",
-        form: Form::Word,
-        help: "The script's path, or - for the standard input",
-    },
-];
+const UDP_PATHS: [Row<'static>; 2] = [CONFIG, SCRIPT];
 
 /// The subcommand `udp`.
 pub(crate) const UDP: Subcommand<'static> = Subcommand {
