@@ -4,14 +4,14 @@ ghost use Rattle.address.specs.Ids.{same_address, same_view_id};
 ghost use Rattle.trace_props.specs.declared.verdict.Verdict.TheVariants.{Holds};
 ghost use Rattle.trace_props.specs.Recorded.{IsShort, IsRecordable};
 ghost use Rattle.trace_props.specs.Synchrony.{IsVirtuallySynchronous};
-ghost use Rattle.trace_checker.specs.Copies.{KnowsStates};
+ghost use Rattle.trace_rules.specs.Copies.{KnowsStates};
 ghost use Rattle.trace_props.specs.Verdicts.{IsVerdict, GoesOn, BreaksNext};
 
-use crate::judge::broken_rule;
-use crate::known::{Past, States};
+use crate::rules::broken_rule;
 use state_transfer::Receiver;
 use std::alloc::{AllocError, Global};
 use trace_props::{Event, Rule, Trace, Verdict};
+use trace_rules::{Past, States};
 
 // The first rule that the event breaks after the past; without one the past and the states go on.
 fn judge<'a, R: Receiver>(

@@ -2,7 +2,6 @@
 #![tactic(auto)]
 
 mod checker;
-mod judge;
-mod known;
+mod rules;
 
 pub use checker::check;

@@ -3,7 +3,7 @@ use Rattle.std.specs.HashMap.{get}
 use Rattle.std.proofs.lemmas.Option.{slice_get_read}
 use Rattle.address.specs.Ids.{same_address, same_view_id}
 use Rattle.trace_props.specs.declared.event.Event.{Event}
-use Rattle.trace_checker.specs.Copies.{KnowsStates}
+use Rattle.trace_rules.specs.Copies.{KnowsStates}
 use Rattle.trace_props.proofs.KeepEightRules.{step-broken, step-on, so_far-next, holds-next, known-next, holds-all}
 use Rattle.trace_checker.proofs.checker.check_all.Goals as goal
 

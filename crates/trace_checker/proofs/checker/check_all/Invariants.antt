@@ -2,7 +2,7 @@ use Rattle.std.proofs.Common.{◌≡◌, take}
 use Rattle.std.specs.HashMap.{get}
 use Rattle.address.specs.Ids.{same_address, same_view_id}
 use Rattle.trace_props.specs.Synchrony.{IsVirtuallySynchronous}
-use Rattle.trace_checker.specs.Copies.{KnowsStates}
+use Rattle.trace_rules.specs.Copies.{KnowsStates}
 use Rattle.trace_checker.proofs.checker.check_all.Given as goal
 
 -- so far all rules hold, and what is kept is of the events so far

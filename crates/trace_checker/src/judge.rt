@@ -1,9 +1,0 @@
-//! The rules on the next event, as tests against what is known of the past.
-mod agree;
-mod messages;
-mod placed;
-mod rest;
-mod rules;
-mod views;
-
-pub use rules::broken_rule;

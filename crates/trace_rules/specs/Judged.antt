@@ -1,0 +1,106 @@
+-- The conditions on the next event as tests, over what is known of the past.
+use Rattle.std.specs.Prelude.{Bool, true, false, ◌&&◌, not, Option, None, Some, List, length, nat_eq, is_some}
+use Rattle.std.specs.List.{list_all}
+use Rattle.std.specs.Ordering.{is_lt}
+use Rattle.std.specs.Str.{bytes_eq}
+use Rattle.std.specs.Cmp.Lexicographic.{pointwise}
+use Rattle.address.specs.Ids.{Address, ViewId, same_address, same_view_id, view_id_cmp}
+use Rattle.view.specs.Members.{stands_in}
+use Rattle.trace_props.specs.declared.event.Event.{Event}
+use Rattle.trace_props.specs.declared.event.Event.TheVariants.{Started, Sent, Delivered, Blocked, Installed, Left, Crashed}
+use Rattle.trace_props.specs.declared.event.Numbered.{Numbered}
+use Rattle.trace_props.specs.declared.event.Message.{Message}
+use Rattle.trace_props.specs.declared.event.Install.{Install}
+use Rattle.trace_rules.specs.declared.known.standing.Standing.{Standing}
+use Rattle.trace_props.specs.Observed.{delivered_in, entry_of, first_install}
+use Rattle.trace_props.specs.Agreeing.{is_view, first_from}
+
+-- WELL PLACED
+
+abbrev pub runs : Standing → Bool
+runs s = s.started && not s.ended
+
+-- whether an event may stand where its member stands so
+abbrev pub stands : Standing → Event → Bool
+stands s (Started p) = not s.started
+stands s (Sent m) = runs s && is_view m.view s.view && not s.blocked
+stands s (Delivered d) = runs s && is_view d.view s.view
+stands s (Blocked p) = runs s && is_some s.view && not s.blocked
+stands s (Installed i) = runs s
+stands s (Left p) = runs s
+stands s (Crashed p) = runs s
+
+-- RISING VIEWS
+
+abbrev pub same_previous : Option ViewId → Option ViewId → Bool
+same_previous None None = true
+same_previous None (Some v) = false
+same_previous (Some u) None = false
+same_previous (Some u) (Some v) = same_view_id u v
+
+abbrev pub is_below : Option ViewId → ViewId → Bool
+is_below None w = true
+is_below (Some v) w = is_lt (view_id_cmp v w)
+
+abbrev pub has_members : Option Install → List Address → Bool
+has_members None members = true
+has_members (Some f) members = pointwise same_address f.view.members members
+
+abbrev pub rises : Option ViewId → Option Install → Install → Bool
+rises current first i = stands_in i.member i.view.members && same_previous i.previous current && is_below i.previous i.view.id && has_members first i.view.members
+
+-- SOUND MESSAGES
+
+abbrev pub is_numbered : Option Numbered → Message → Bool
+is_numbered None m = false
+is_numbered (Some n) m = nat_eq n.number m.number && bytes_eq n.payload m.payload
+
+-- ONE ORDER
+
+abbrev pub is_message : Option Message → Message → Bool
+is_message None m = false
+is_message (Some n) m = same_address n.sender m.sender && nat_eq n.number m.number && bytes_eq n.payload m.payload
+
+-- SAME NEXT VIEW
+
+-- as many messages as the first who went from the same view to the same next, if there is one
+abbrev pub is_level : Option Install → ViewId → Address → List Event → Bool
+is_level None v p t = true
+is_level (Some f) v p t = nat_eq (length (delivered_in f.member v t)) (length (delivered_in p v t))
+
+abbrev pub meets : Option ViewId → Install → List Event → Bool
+meets None i t = true
+meets (Some v) i t = is_level (first_from v i.view.id t) v i.member t
+
+-- TOGETHER
+
+abbrev pub lies_within : List Address → List Address → Bool
+lies_within ps qs = list_all (λ q. stands_in q qs) ps
+
+abbrev pub inside_first : Option Install → List Address → Bool
+inside_first None together = true
+inside_first (Some f) together = lies_within together f.view.members
+
+abbrev pub inside_previous : Option ViewId → List Address → List Event → Bool
+inside_previous None together t = true
+inside_previous (Some v) together t = inside_first (first_install v t) together
+
+-- both or neither
+abbrev pub alike : Bool → Bool → Bool
+alike true b = b
+alike false b = not b
+
+abbrev pub know_each_other : Option Install → Install → Bool
+know_each_other None i = true
+know_each_other (Some f) i = alike (stands_in f.member i.together) (same_previous f.previous i.previous) && alike (stands_in i.member f.together) (same_previous i.previous f.previous)
+
+abbrev pub knows_all : List Event → Install → Bool
+knows_all t i =
+    lies_within i.together i.view.members && inside_previous i.previous i.together t && stands_in i.member i.together
+    && list_all (λ q. know_each_other (entry_of q i.view.id t) i) i.view.members
+
+-- HANDED BACK
+
+abbrev pub are_equal : Option Numbered → Numbered → Bool
+are_equal None m = false
+are_equal (Some n) m = nat_eq n.number m.number && bytes_eq n.payload m.payload

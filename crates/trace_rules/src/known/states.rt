@@ -1,0 +1,251 @@
+ghost use Rattle.std.specs.Prelude.{◌≡◌, ◌≤◌, ◌++◌, ◌∷◌, [], List, true, Some, length, unwrap_or, option_and_then, OnOk, IfOk, if◌then◌else◌, is_some, IsSome, MatchBool};
+ghost use Rattle.std.specs.HashMap.{get};
+ghost use Rattle.address.specs.Ids.{Address, IsAddress, same_address, same_view_id};
+ghost use Rattle.address.specs.declared.limits.TheConstants.{PAYLOAD};
+ghost use Rattle.std.specs.Bool.{Decides};
+ghost use Rattle.std.specs.Option.{ForSome};
+ghost use Rattle.trace_props.specs.declared.event.Event.{Event};
+ghost use Rattle.trace_props.specs.declared.event.Event.TheVariants.{Delivered, Installed};
+ghost use Rattle.trace_props.specs.Recorded.{IsShort};
+ghost use Rattle.trace_props.specs.Agreeing.{MayEnter};
+ghost use Rattle.trace_rules.specs.Copies.{EntersWith, KnowsStates};
+
+use super::notes::{delivery_in, install_in};
+use address::{Address, Bytes, ViewId};
+use state_transfer::Receiver;
+use std::alloc::{AllocError, Global};
+use std::collections::HashMap;
+use trace_props::{Delivery, Event, Install};
+
+/// An address that a program holds is one.
+pub fn known_address(address: Address)
+    ensures { IsAddress address }
+{
+    let _ = address;
+}
+
+// Puts a receiver for a member.
+fn put<R: Receiver>(
+    states: &mut HashMap<Address, R>,
+    member: Address,
+    state: R,
+) -> Result<(), AllocError>
+    ensures { OnOk result ((other : Address) → get same_address states.new other ≡ (if same_address member other then Some state else get same_address states.old other)) }
+{
+    states.insert(member, state)?;
+    Ok(())
+}
+
+// Puts a receiver in the opening state for a member that has none.
+fn begin<R: Receiver>(
+    alloc: Global,
+    states: &mut HashMap<Address, R>,
+    member: Address,
+) -> Result<(), AllocError>
+    ensures has { OnOk result (is_some (get same_address states.new member) ≡ true) }
+    ensures same { OnOk result ((other : Address) → unwrap_or (get same_address states.new other) R.meaning.opening ≡ unwrap_or (get same_address states.old other) R.meaning.opening) }
+{
+    if states.contains_key(&member) {
+        return Ok(());
+    }
+    let state = R::opening(alloc)?;
+    put(states, member, state)
+}
+
+// Applies a message at a member.
+fn receive<R: Receiver>(
+    alloc: Global,
+    states: &mut HashMap<Address, R>,
+    member: Address,
+    sender: Address,
+    payload: &[u8],
+) -> Result<(), AllocError>
+    requires short { length payload.now ≤ PAYLOAD }
+    ensures { OnOk result ((other : Address) → unwrap_or (get same_address states.new other) R.meaning.opening
+        ≡ (if same_address member other then R.meaning.apply (unwrap_or (get same_address states.old member) R.meaning.opening) sender payload.now else unwrap_or (get same_address states.old other) R.meaning.opening)) }
+{
+    match states.get_mut(&member) {
+        Some(state) => {
+            state.receive(sender, payload)?;
+            Ok(())
+        }
+        None => {
+            let mut state = R::opening(alloc)?;
+            state.receive(sender, payload)?;
+            put(states, member, state)
+        }
+    }
+}
+
+// Takes a given state at a member that has a receiver, if it can be read.
+fn take_there<R: Receiver>(
+    states: &mut HashMap<Address, R>,
+    member: Address,
+    given: &[u8],
+) -> Result<bool, AllocError>
+    requires has { is_some (get same_address states.old member) ≡ true }
+    ensures read { IfOk result (λ taken. taken ≡ is_some (R.meaning.decode given.now)) }
+    ensures takes { OnOk result ((other : Address) → unwrap_or (get same_address states.new other) R.meaning.opening
+        ≡ (if same_address member other then unwrap_or (R.meaning.decode given.now) (unwrap_or (get same_address states.old member) R.meaning.opening) else unwrap_or (get same_address states.old other) R.meaning.opening)) }
+{
+    match states.get_mut(&member) {
+        Some(state) => state.set_state(given),
+        None => Ok(false),
+    }
+}
+
+// Writes a member's state in place of other bytes.
+fn write_state<R: Receiver>(
+    alloc: Global,
+    states: &HashMap<Address, R>,
+    member: Address,
+    bytes: &mut Vec<u8>,
+) -> Result<(), AllocError>
+    ensures { OnOk result (bytes.new.items ≡ R.meaning.encode (unwrap_or (get same_address states.now member) R.meaning.opening)) }
+{
+    bytes.clear();
+    match states.get(&member) {
+        Some(state) => state.get_state(bytes)?,
+        None => R::opening(alloc)?.get_state(bytes)?,
+    }
+    Ok(())
+}
+
+// Whether a view is entered with the bytes of its entry, which the coordinator writes.
+fn enter_with(
+    alloc: Global,
+    entering: &mut HashMap<ViewId, Bytes>,
+    view: ViewId,
+    first: bool,
+    bytes: &[u8],
+) -> Result<bool, AllocError>
+    ensures { IfOk result (λ ok. EntersWith (get same_view_id entering.old) (get same_view_id entering.new) view first bytes.now ok) }
+{
+    match entering.get(&view) {
+        Some(entry) => Ok(entry.as_slice() == bytes),
+        None => {
+            if first {
+                entering.insert(view, Bytes::from_slice(alloc, bytes)?)?;
+                Ok(true)
+            } else {
+                Ok(false)
+            }
+        }
+    }
+}
+
+// Takes a given state at a member, if there is one and it can be read.
+fn take<R: Receiver>(
+    alloc: Global,
+    states: &mut HashMap<Address, R>,
+    member: Address,
+    given: &Option<Bytes>,
+) -> Result<bool, AllocError>
+    ensures read { IfOk result (λ taken. Decides taken (ForSome given.now (λ g. IsSome (R.meaning.decode g)))) }
+    ensures takes { OnOk result ((other : Address) → unwrap_or (get same_address states.new other) R.meaning.opening
+        ≡ (if same_address member other then unwrap_or (option_and_then R.meaning.decode given.now) (unwrap_or (get same_address states.old member) R.meaning.opening) else unwrap_or (get same_address states.old other) R.meaning.opening)) }
+{
+    match given {
+        None => Ok(true),
+        Some(bytes) => {
+            begin(alloc, states, member)?;
+            take_there(states, member, bytes.as_slice())
+        }
+    }
+}
+
+/// A receiver for each member, and the bytes with which each view was entered; beside them room to write a state in.
+#[derive(Drop)]
+pub struct States<R> {
+    /// The receiver of each member that took a message or a state.
+    pub states: HashMap<Address, R>,
+    /// With which state, in bytes, each view was entered.
+    pub entering: HashMap<ViewId, Bytes>,
+    bytes: Vec<u8>,
+}
+
+/// Applies a message that is delivered.
+fn hear<R: Receiver>(
+    alloc: Global,
+    states: &mut States<R>,
+    delivery: &Delivery,
+) -> Result<(), AllocError>
+    requires short { length delivery.now.message.payload ≤ PAYLOAD }
+    ensures { OnOk result ((t : List Event) → KnowsStates R.meaning (get same_address states.old.states) (get same_view_id states.old.entering) t
+        → KnowsStates R.meaning (get same_address states.new.states) (get same_view_id states.new.entering) (t ++ Delivered delivery.now ∷ [])) }
+{
+    known_address(delivery.message.sender);
+    receive(
+        alloc,
+        &mut states.states,
+        delivery.member,
+        delivery.message.sender,
+        delivery.message.payload.as_slice(),
+    )?;
+    Ok(())
+}
+
+/// Whether an install enters its view alike; takes its state.
+fn enter<R: Receiver>(
+    alloc: Global,
+    states: &mut States<R>,
+    install: &Install,
+) -> Result<bool, AllocError>
+    ensures { IfOk result (λ ok. (t : List Event) → KnowsStates R.meaning (get same_address states.old.states) (get same_view_id states.old.entering) t
+        → MatchBool ok
+        (MayEnter R.meaning t (Installed install.now)
+        × KnowsStates R.meaning (get same_address states.new.states) (get same_view_id states.new.entering) (t ++ Installed install.now ∷ []))
+        (MayEnter R.meaning t (Installed install.now) → ⊥)) }
+{
+    if !take(alloc, &mut states.states, install.member, &install.given)? {
+        return Ok(false);
+    }
+    write_state(alloc, &states.states, install.member, &mut states.bytes)?;
+    let view = install.view.id();
+    let first = install.member == install.view.first();
+    let alike = enter_with(
+        alloc,
+        &mut states.entering,
+        view,
+        first,
+        states.bytes.as_slice(),
+    )?;
+    Ok(alike)
+}
+
+impl<R: Receiver> States<R> {
+    /// Of nothing. Takes no memory.
+    pub fn new(alloc: Global) -> States<R>
+        ensures { KnowsStates R.meaning (get same_address result.states) (get same_view_id result.entering) [] }
+    {
+        States {
+            states: HashMap::new(alloc),
+            entering: HashMap::new(alloc),
+            bytes: Vec::new(alloc),
+        }
+    }
+
+    /// Goes one event further, and whether it keeps the rule on states.
+    pub fn advance(&mut self, alloc: Global, event: &Event) -> Result<bool, AllocError>
+        requires short { IsShort event.now }
+        ensures { IfOk result (λ ok. (t : List Event) → KnowsStates R.meaning (get same_address self.old.states) (get same_view_id self.old.entering) t
+            → MatchBool ok
+            (MayEnter R.meaning t event.now
+            × KnowsStates R.meaning (get same_address self.new.states) (get same_view_id self.new.entering) (t ++ event.now ∷ []))
+            (MayEnter R.meaning t event.now → ⊥)) }
+    {
+        match delivery_in(event) {
+            Some(delivery) => {
+                hear(alloc, self, delivery)?;
+                Ok(true)
+            }
+            None => match install_in(event) {
+                Some(install) => {
+                    let alike = enter(alloc, self, install)?;
+                    Ok(alike)
+                }
+                None => Ok(true),
+            },
+        }
+    }
+}
