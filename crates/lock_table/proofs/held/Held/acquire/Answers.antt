@@ -8,7 +8,7 @@ use Rattle.keyed_state.specs.Entries.{IsHeldAt, IsFreeAt, entry_of}
 use Rattle.keyed_state.specs.Tokens.{next_token}
 use Rattle.lock_table.specs.Locks.{IsTable, table_of, table_size, queue, granted}
 use Rattle.lock_table.specs.StepLaws.{acquired-is-table}
-use Rattle.lock_table.proofs.LocksInPlaces.{set-same, stands-already, joins, joins-not, grants}
+use Rattle.lock_table.proofs.LocksInPlaces.{set-same, stands-already, joins, joins-not, grants, grants-not}
 use Rattle.lock_table.proofs.held.Held.acquire.Goals as goal
 
 pub returns-then-has-clause-ok : goal.returns-then-has-clause-ok
@@ -91,3 +91,12 @@ returns-else-size-le-STATE-clause-kept c =
     let held : IsHeldAt k entries i = rw (c.as_slice-3.ensures.bytes, c.as_slice-2.ensures.value) at c.in-Held.ensures in
     let stands : slice_get entries i ≡ Some x = slice_get_read entries (length entries) i x refl held.within c.index_mut.ensures.value in
     subst IsTable (sym (ap (table_of c.args.self.now.last) (set-same entries i x stands))) c.requires.table
+
+pub returns-else-size-as_slice-le-STATE-clause-ok : goal.returns-else-size-as_slice-le-STATE-clause-ok
+returns-else-size-as_slice-le-STATE-clause-ok c =
+    let entries = c.args.self.now.entries.items in
+    let k = c.args.name.now in
+    let free : IsFreeAt k entries c.in-Free.i = rw (c.as_slice-3.ensures.bytes, c.as_slice-2.ensures.value) at c.in-Free.ensures in
+    let size : c.size_of_all-size.result ≡ table_size entries = rw c.as_slice.ensures.value at c.size_of_all-size.ensures in
+    let short : length c.as_slice-in-Free.result.now ≡ length k = ap length c.as_slice-in-Free.ensures.bytes in
+    grants-not c.args.from c.args.view k c.args.self.now.last entries c.in-Free.i free (omega (arith, size, short, c.if-size-as_slice-le-STATE.false))
