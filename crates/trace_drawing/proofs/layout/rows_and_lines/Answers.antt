@@ -1,7 +1,9 @@
-use Rattle.std.proofs.Common.{take, arith}
+use Rattle.std.proofs.Common.{◌∙◌, take, ap, subst, List, arith}
 use Rattle.std.specs.HashMap.{get}
+use Rattle.std.proofs.lemmas.List.{take_all}
+use Rattle.trace_props.specs.declared.event.Event.{Event}
 use Rattle.address.specs.Ids.{same_address, same_view_id}
-use Rattle.trace_drawing.specs.Layout.{same_message, level_of}
+use Rattle.trace_drawing.specs.Layout.{same_message, level_of, rows_of}
 use Rattle.trace_drawing.specs.Known.{Knows}
 use Rattle.trace_drawing.proofs.RowsAndLines.{rows-next, known-next}
 use Rattle.trace_drawing.proofs.AsidesHaveLevels.{level-here, above-next}
@@ -25,3 +27,16 @@ loop-index-preserved c =
           (λ number. c.in_ok-note.ensures.known at past number here c.loop-index.invariant.1),
       above-next c.args.asides.now c.loop-index.index c.above-passed.result c.above-passed.ensures.is,
     )
+
+-- all rows, and the lines of all members
+pub returns-clause-rows : goal.returns-clause-rows
+returns-clause-rows c =
+    c.loop-index.invariant.0 ∙ ap (rows_of (level_of c.args.asides.now)) (take_all c.loop-index.index c.args.events.now (omega (arith, c.loop-index-test.false)))
+
+pub returns-clause-lines : goal.returns-clause-lines
+returns-clause-lines c =
+    let at = level_of c.args.asides.now in
+    let known = c.loop-index.known in
+    c.in_ok-lines.ensures at c.args.events.now
+    (subst (λ (t : List Event). Knows at known.members.items (get same_address known.lifelines) (get same_message known.sends) (get same_view_id known.installs) t)
+    (take_all c.loop-index.index c.args.events.now (omega (arith, c.loop-index-test.false))) c.loop-index.invariant.1)
