@@ -28,6 +28,6 @@ returns-in_err-packet-clause-stands c = λ l key frame h g o kind b stands.
 
 pub returns-in_err-push-clause-stands : goal.returns-in_err-push-clause-stands
 returns-in_err-push-clause-stands c = λ l key frame h g o kind b stands. (
-      c.take.ensures.parts l key c.args.self.now.node (piece-comes l key c.args.self.now.node frame h c.args.content.now c.args.boot.now c.in-Some.piece g o kind b c.in-Some.ensures) stands.0,
-      subst (λ (xs : List (List ℕ)). AllArrived l key c.args.self.now.node xs) (sym c.in_err-push.ensures.err) stands.1,
-    )
+  c.take.ensures.parts l key c.args.self.now.node (piece-comes l key c.args.self.now.node frame h c.args.content.now c.args.boot.now c.in-Some.piece g o kind b c.in-Some.ensures) stands.0,
+  subst (λ (xs : List (List ℕ)). AllArrived l key c.args.self.now.node xs) (sym c.in_err-push.ensures.err) stands.1,
+)
