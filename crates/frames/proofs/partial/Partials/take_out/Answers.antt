@@ -1,8 +1,7 @@
-use Rattle.std.proofs.Common.{◌≡◌, ◌<◌, ℕ, zero, suc, List, [], ◌∷◌, length, slice_index_or, refl, sym, subst, Option, Some, None, rules, arith}
+use Rattle.std.proofs.Common.{◌≡◌, ◌<◌, ℕ, zero, suc, List, [], ◌∷◌, length, slice_index_or, sym, subst, Option, Some, None, rules, arith}
 use Rattle.std.specs.Prelude.{IfNone, IfSome}
 use Rattle.std.specs.List.{AllByRecursion, remove}
 use Rattle.frames.specs.Openers.{AreParts, IsPartOf}
-use Rattle.frames.specs.declared.partial.Partial.{Partial}
 use Rattle.frames.proofs.partial.Partials.take_out.Goals as goal
 
 -- what holds of all of a list holds of the others once one is taken out
