@@ -1,5 +1,6 @@
 pub mod MembersAreOpen
 pub mod PacketsHeard
+pub mod PacketsTaken
 pub mod MessagesAreCalm
 pub mod OwnMessagesGo
 pub mod NumbersNotHeld

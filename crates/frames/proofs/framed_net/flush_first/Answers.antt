@@ -7,9 +7,9 @@ use Rattle.frames.specs.Frames.{packed}
 use Rattle.frames.specs.Gathered.{AreVariantsOf}
 use Rattle.frames.specs.Outlets.{OutletModel}
 use Rattle.frames.specs.Parts.{rows_of}
-use Rattle.frames.specs.Sendings.{AreLongs, AreOf}
+use Rattle.frames.specs.Sendings.{AreLongs, AreOf, IsFrameOf}
 use Rattle.frames.proofs.GatheredSends.{first-count, first-rows, first-variants, longs-gathered, several-carries, wait-gathered, ways-gathered}
-use Rattle.frames.proofs.SendsCarried.{longs-on, same-ways}
+use Rattle.frames.proofs.SendsCarried.{adds-none, longs-on, same-ways}
 use Rattle.frames.proofs.framed_net.flush_first.Goals as goal
 
 pub returns-then-is_empty-clause-sends : goal.returns-then-is_empty-clause-sends
@@ -105,3 +105,6 @@ returns-clause-ways g c = (
   omega (arith, ap (λ (x : OutletModel). x.longs.next) c.send_several.ensures.outlet),
   ways-gathered c.in-Some.place c.content-content.result.now _ c.args.rest.now c.gather.new.variants.items c.gather.new.outlets c.gather.ensures,
 )
+
+pub returns-in_err-empty-clause-sends : goal.returns-in_err-empty-clause-sends
+returns-in_err-empty-clause-sends g c = λ long sent of known. (adds-none (IsFrameOf c.args.seal.now long sent) (g.N.Net.log c.args.net.now), of, known)

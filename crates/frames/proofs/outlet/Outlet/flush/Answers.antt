@@ -2,8 +2,8 @@ use Rattle.std.proofs.Common.{◌≡◌, ◌++◌, ◌∙◌, ap, arith, subst, 
 use Rattle.frames.specs.Frames.{head_bytes, packed}
 use Rattle.frames.specs.declared.head.Kind.TheVariants.{Packets}
 use Rattle.frames.specs.Outlets.{OutletModel, head_for}
-use Rattle.frames.specs.Sendings.{AreOf}
-use Rattle.frames.proofs.SendsCarried.{flush-adds}
+use Rattle.frames.specs.Sendings.{AreOf, IsFrameOf}
+use Rattle.frames.proofs.SendsCarried.{adds-none, flush-adds}
 use Rattle.frames.proofs.outlet.Outlet.flush.Goals as goal
 
 pub returns-clause-sends : goal.returns-clause-sends
@@ -18,3 +18,9 @@ returns-clause-sends g c = λ long sent of.
 
 pub returns-clause-longs : goal.returns-clause-longs
 returns-clause-longs g c = c.offer.ensures.longs ∙ ap (λ (x : OutletModel). x.longs) c.self.view_is
+
+pub returns-then-is_empty-clause-sends : goal.returns-then-is_empty-clause-sends
+returns-then-is_empty-clause-sends g c = λ long sent of. (adds-none (IsFrameOf c.args.seal.now long sent) (g.N.Net.log c.args.net.now), of)
+
+pub returns-in_err-body-clause-sends : goal.returns-in_err-body-clause-sends
+returns-in_err-body-clause-sends g c = λ long sent of. (adds-none (IsFrameOf c.args.seal.now long sent) (g.N.Net.log c.args.net.now), of)

@@ -1,6 +1,7 @@
-use Rattle.std.proofs.Common.{subst, sym}
+use Rattle.std.proofs.Common.{arith, subst, sym}
 use Rattle.frames.specs.Sendings.{Adds, AreLongs, AreOf, IsFrameOf}
 use Rattle.frames.proofs.AllPieces.{long-behind, on-ok}
+use Rattle.frames.proofs.Opened.{if-ok}
 use Rattle.frames.proofs.SendsCarried.{adds-none, adds-on, longs-on, numbered-from}
 use Rattle.frames.proofs.outlet.Outlet.send.Goals.{then-not-has_place+in_ok-flush-2, else-not-has_place}
 use Rattle.frames.proofs.outlet.Outlet.send.Goals as goal
@@ -46,3 +47,12 @@ returns-then-packet-gt-WHOLE-clause-pieces g c =
     long-behind c.args.seal.now c.args.packet.now c.args.self.now c.flush.new.self c.send_long.new.self.longs.next (g.N.Net.log c.args.net.now) (g.N.Net.log c.flush.new.net)
     (g.N.Net.log c.send_long.new.net) c.in_ok-flush.ensures.node c.in_ok-flush.ensures.frames c.in_ok-flush.ensures.longs (pieces within) c.in_ok-flush.ensures.lists)
     c.send_long.ensures.pieces
+
+pub returns-then-packet-gt-WHOLE-clause-waits : goal.returns-then-packet-gt-WHOLE-clause-waits
+returns-then-packet-gt-WHOLE-clause-waits g c = if-ok c.send_long.result _ (λ x short. absurd (omega (arith, short, c.if-packet-gt-WHOLE.true)))
+
+pub returns-then-packet-gt-WHOLE-clause-lists : goal.returns-then-packet-gt-WHOLE-clause-lists
+returns-then-packet-gt-WHOLE-clause-lists g c = if-ok c.send_long.result _ (λ x short. absurd (omega (arith, short, c.if-packet-gt-WHOLE.true)))
+
+pub returns-clause-pieces : goal.returns-clause-pieces
+returns-clause-pieces g c = if-ok c.wait.result _ (λ x is_long. absurd (omega (arith, is_long, c.if-packet-gt-WHOLE.false)))

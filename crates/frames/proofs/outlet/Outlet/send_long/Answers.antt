@@ -48,3 +48,6 @@ returns-clause-pieces g c =
     (all-pieces c.args.seal.now c.self.inside.node c.self.inside.frames c.in-Some.number (number_for c.args.packet.now c.self.inside.longs) (c.count_of-count.result - 0) c.args.packet.now (g.N.Net.log c.args.net.now) (g.N.Net.log c.send_pieces.new.net) pieces has.0
     (omega (arith, c.count_of-count.ensures))))
     c.send_pieces.ensures.pieces
+
+pub returns-then-packet-gt-DATAGRAM-clause-pieces : goal.returns-then-packet-gt-DATAGRAM-clause-pieces
+returns-then-packet-gt-DATAGRAM-clause-pieces g c = λ within taken. absurd (omega (arith, within, c.if-packet-gt-DATAGRAM.true))
