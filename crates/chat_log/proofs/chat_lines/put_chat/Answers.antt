@@ -1,16 +1,6 @@
-use Rattle.std.proofs.Common.{◌≡◌, List, ◌++◌, ℕ, ap, sym, ◌∙◌, append_assoc}
 use Rattle.std.proofs.lemmas.Result.{on_ok_weaker}
-use Rattle.vsync_text.proofs.KeepFront.{goes_on}
+use Rattle.vsync_text.proofs.KeepFront.{goes_on, two_fields}
 use Rattle.chat_log.proofs.chat_lines.put_chat.Goals as goal
-
--- a word, two fields and an end, one behind another
-line : (old a b c new word first second end : List ℕ) → a ≡ old ++ word → b ≡ a ++ first → c ≡ b ++ second → new ≡ c ++ end → new ≡ old ++ (word ++ ((first ++ second) ++ end))
-line old a b c new word first second end e f g h =
-    h ∙ ap (λ t. t ++ end) (g ∙ ap (λ t. t ++ second) (f ∙ ap (λ t. t ++ first) e))
-    ∙ append_assoc ((old ++ word) ++ first) second end
-    ∙ append_assoc (old ++ word) first (second ++ end)
-    ∙ append_assoc old word (first ++ (second ++ end))
-    ∙ ap (λ t. old ++ (word ++ t)) (sym (append_assoc first second end))
 
 pub returns-in_err-put_address-clause-kept : goal.returns-in_err-put_address-clause-kept
 returns-in_err-put_address-clause-kept g c = goes_on _ _ _ c.in_ok-put.ensures.kept c.in_err-put_address.ensures.kept
@@ -20,7 +10,7 @@ returns-in_err-put_lines-clause-kept g c = goes_on _ _ _ (goes_on _ _ _ c.in_ok-
 
 pub returns-clause-text : goal.returns-clause-text
 returns-clause-text g c =
-    on_ok_weaker c.put-2.result (λ last. line _ _ _ _ _ _ _ _ _ c.in_ok-put.ensures.text c.in_ok-put_address.ensures.text c.in_ok-put_lines.ensures.text last) c.put-2.ensures.text
+    on_ok_weaker c.put-2.result (λ last. two_fields _ _ _ _ _ _ _ _ _ c.in_ok-put.ensures.text c.in_ok-put_address.ensures.text c.in_ok-put_lines.ensures.text last) c.put-2.ensures.text
 
 pub returns-clause-kept : goal.returns-clause-kept
 returns-clause-kept g c =
