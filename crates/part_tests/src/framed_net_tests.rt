@@ -2,9 +2,10 @@
 
 use address::Node;
 use frames::FramedNet;
+use memory_nets::MemoryNet;
 use std::alloc::AllocGlobal;
 use std::process::Abort;
-use udp_net::{MemoryNet, Net, NodePort};
+use udp_net::{Net, NodePort};
 
 fn node(number: u16) -> Node {
     Node::new(number).unwrap_or(Node::new(1).unwrap())

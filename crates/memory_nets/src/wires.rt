@@ -1,11 +1,11 @@
 ghost use Rattle.std.specs.Prelude.{◌≤◌, length};
 
-use crate::{Fault, Net};
 use address::{Bytes, Node};
 use std::alloc::Global;
 use std::cell::RefCell;
 use std::collections::VecDeque;
 use std::time::Duration;
+use udp_net::{Fault, Net};
 
 /// Which call fails. Of all nodes, the first of each kind is numbered 1.
 #[derive(Clone, Copy)]

@@ -2,15 +2,16 @@ ghost use Rattle.std.specs.Prelude.{◌≡◌, ◌≤◌, ◌++◌, ◌∷◌, [
 ghost use Rattle.std.specs.Option.{option_copied, option_map};
 ghost use Rattle.std.specs.Result.{is_err};
 ghost use Rattle.udp_net.specs.declared.net.Received.TheVariants.{Datagram};
-ghost use Rattle.udp_net.specs.declared.memory_net.Listed.TheVariants as listed;
-ghost use Rattle.udp_net.specs.Logs.{MemoryModel, event_of, offered_in, log_of, Lists, listing, offering, receiving, answer_of, one_more, failures_after, unsent_after, fails_next, GivesFirst};
+ghost use Rattle.udp_net.specs.Logs.{Lists, listing, offering, receiving, answer_of, one_more, failures_after};
+ghost use Rattle.memory_nets.specs.declared.memory_net.Listed.TheVariants as listed;
+ghost use Rattle.memory_nets.specs.MemoryNets.{MemoryModel, event_of, offered_in, log_of, unsent_after, fails_next, GivesFirst};
 
-use crate::{Fault, Net, Received};
 use address::{Bytes, Node};
 use std::alloc::{AllocError, Global};
 use std::collections::VecDeque;
 use std::marker::Model;
 use std::time::Duration;
+use udp_net::{Fault, Net, Received};
 
 /// A datagram that a net in memory was offered.
 #[derive(Drop)]
@@ -86,7 +87,7 @@ impl Drop for MemoryNet {
 }
 
 impl Model for MemoryNet {
-    ghost use Rattle.udp_net.specs.Logs.{MemoryModel};
+    ghost use Rattle.memory_nets.specs.MemoryNets.{MemoryModel};
 
     ghost Value = { MemoryModel };
 
