@@ -1,11 +1,12 @@
 //! Cases by themselves: numbers at their greatest, the greatest proposal, packets that are ignored, and (in `chunks`) a state in chunks.
 
-use crate::hexadecimal::unhex;
-use crate::next::{next_of, number, put_waiting, send};
-use crate::stands::{Chat, GROUP, Stand, apart, channel_at, drain, first_at, hand};
+use crate::channels::hexadecimal::unhex;
+use crate::channels::next::{next_of, number, put_waiting, send};
+use crate::channels::stands::{Chat, GROUP, Stand, apart, channel_at, drain, hand};
+use crate::lines::{put_number, put_word};
+use crate::stories::first_at;
 use address::{ViewId, next_after};
 use std::alloc::{AllocError, Global};
-use vsync_text::put_decimal;
 use wire::decode;
 
 /// The greatest counter, 2^62.
@@ -155,18 +156,12 @@ impl Cases {
 
     // A line of what was asked and a word.
     pub(crate) fn put(&mut self, asked: &str, answer: &str) -> Result<(), AllocError> {
-        self.text.extend_from_slice(asked.as_bytes())?;
-        self.text.extend_from_slice(b": ")?;
-        self.text.extend_from_slice(answer.as_bytes())?;
-        self.text.extend_from_slice(b"\n")
+        put_word(&mut self.text, asked, answer)
     }
 
     // A line of what was asked and a number.
     pub(crate) fn put_number(&mut self, asked: &str, answer: u64) -> Result<(), AllocError> {
-        self.text.extend_from_slice(asked.as_bytes())?;
-        self.text.extend_from_slice(b": ")?;
-        put_decimal(&mut self.text, answer)?;
-        self.text.extend_from_slice(b"\n")
+        put_number(&mut self.text, asked, answer)
     }
 
     // How packets in hexadecimal are read.

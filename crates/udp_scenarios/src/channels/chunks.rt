@@ -1,8 +1,8 @@
 //! Cases of states in chunks: 2.1 has promised 2@1.1, and is handed the chunks of a state and the INSTALL that gives it.
 
-use crate::cases::Cases;
-use crate::hexadecimal::unhex;
-use crate::stands::{Chat, Stand, channel_at, drain};
+use crate::channels::cases::Cases;
+use crate::channels::hexadecimal::unhex;
+use crate::channels::stands::{Chat, Stand, channel_at, drain};
 use std::alloc::{AllocError, Global};
 
 // INSTALL of 2@1.1 to 2.1, with a state of 4,161 bytes, and of 32,769 bytes, in chunks.

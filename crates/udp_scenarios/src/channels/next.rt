@@ -1,6 +1,7 @@
 //! What a channel does next, by which two are known to be equal.
 
-use crate::stands::{Chat, first_at};
+use crate::channels::stands::Chat;
+use crate::stories::first_at;
 use std::alloc::{AllocError, Global};
 use vsync_text::{append_event, put_decimal, put_hex};
 

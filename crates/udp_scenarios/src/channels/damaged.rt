@@ -1,14 +1,16 @@
-//! Hands damaged packets to channels. `packets.txt` has one valid packet of each kind and more; of each, every proper beginning must be refused as 20, a byte more as 26, and each change of one byte must give a
-//! refusal, or a packet whose spelling is the changed bytes; a channel must answer the same refusal, and be as before. Then a few cases by themselves. Prints how many of each outcome there were, and a sum that
-//! tells them apart by their order; `stdout` has what must be printed, which `expected` says by a reader of its own.
-use crate::cases::Cases;
-use crate::hexadecimal::unhex;
-use crate::judge::Judge;
-use crate::stands::Stand;
-use crate::tally::Tally;
+//! Hands damaged packets to channels. `packets.txt` has one valid packet of each kind and more; of each, every proper beginning must be refused as 20, a byte
+//! more as 26, and each change of one byte must give a refusal, or a packet whose spelling is the changed bytes; a channel must answer the same refusal, and be
+//! as before. Then a few cases by themselves. Prints how many of each outcome there were, and a sum that tells them apart by their order; `stdout` has what must
+//! be printed, which `expected` says by a reader of its own.
+
+use crate::channels::cases::Cases;
+use crate::channels::hexadecimal::unhex;
+use crate::channels::judge::Judge;
+use crate::channels::stands::Stand;
+use crate::channels::tally::Tally;
+use crate::files::bytes_of;
 use std::alloc::{AllocError, Global};
-use std::fs;
-use std::io::{self, Read, Write};
+use std::io::{self, Write};
 
 /// Packets up to this length come each to a channel that was handed no other.
 const SHORT: usize = 200;
@@ -61,8 +63,7 @@ fn read_line(rt: &HostRuntime, line: &[u8], total: &mut Total) -> io::Result<()>
 
 /// Reads all packets of the file.
 fn read_packets(rt: &HostRuntime, total: &mut Total) -> io::Result<()> {
-    let mut text = Vec::new(rt.alloc());
-    fs::open(rt, "packets.txt")?.read_to_end(&mut text)?;
+    let text = bytes_of(rt, "packets.txt")?;
     for line in text.as_slice().split(|byte| *byte == b'\n') {
         read_line(rt, line, total)?;
     }

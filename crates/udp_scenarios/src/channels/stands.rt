@@ -1,7 +1,7 @@
 //! How a channel stands to which packets come.
 
-use crate::hexadecimal::unhex;
-use address::{Address, Node};
+use crate::channels::hexadecimal::unhex;
+use crate::stories::first_at;
 use channel::Channel;
 use chat_log::ChatLog;
 use state_transfer::Receiver;
@@ -37,11 +37,6 @@ impl Stand {
             _ => Stand::Other,
         }
     }
-}
-
-/// The first address at the node of a number.
-pub fn first_at(number: u16) -> Address {
-    Address::first_at(Node::new(number).unwrap_or(Node::new(1).unwrap()))
 }
 
 /// The channel of the first address at a node, not connected yet.

@@ -1,8 +1,8 @@
 //! Readings of a packet, and what channels answer.
 
-use crate::next::{next_of, number};
-use crate::stands::{Chat, Stand, channel_at, drain, is_silent};
-use crate::tally::{ENDED, IGNORED, TAKEN, Tally};
+use crate::channels::next::{next_of, number};
+use crate::channels::stands::{Chat, Stand, channel_at, drain, is_silent};
+use crate::channels::tally::{ENDED, IGNORED, TAKEN, Tally};
 use address::Address;
 use channel::{Error, Heard};
 use std::alloc::{AllocError, Global};

@@ -1,11 +1,11 @@
 //! The story.
 
-use crate::calls::{
+use crate::channels::calls::{
     carry, carry_one, connect_new, connect_to, disconnect, happened, lose, merge_hint, send, state,
     suspect, tick, watched,
 };
-use crate::stands::Chat;
-use crate::told::Told;
+use crate::channels::stands::Chat;
+use crate::channels::told::Told;
 
 /// What both are and what happened to them.
 fn look(told: &mut Told, first: &mut Chat, second: &mut Chat) {

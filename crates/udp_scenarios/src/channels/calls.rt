@@ -1,8 +1,9 @@
 //! The calls of a channel, each with its line.
 
-use crate::next::number;
-use crate::stands::{Chat, first_at};
-use crate::told::Told;
+use crate::channels::next::number;
+use crate::channels::stands::Chat;
+use crate::channels::told::Told;
+use crate::stories::first_at;
 use address::Address;
 use channel::Error;
 use std::alloc::{AllocError, Global};
