@@ -3,7 +3,7 @@ use Rattle.big_endian.specs.Reading.{IsReadOrNone}
 use Rattle.keyed_state.specs.States.{IsState, state_of, state_decode}
 use Rattle.replicated_map.specs.Values.{held_form}
 use Rattle.replicated_map.specs.MapLaws.{decoded_is_map}
-use Rattle.run_tests.proofs.state_tests.is_written_again.Goals as goal
+use Rattle.crate_tests.proofs.state_tests.is_written_again.Goals as goal
 
 pub size_of_all-size-requires : goal.size_of_all-size-requires
 size_of_all-size-requires c = rw (c.as_slice-entries.ensures.value) (

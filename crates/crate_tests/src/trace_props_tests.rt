@@ -1,4 +1,4 @@
-use crate::fixtures::first_of;
+use crate::fixtures::first_at;
 use address::Bytes;
 use std::alloc::{AllocError, Global};
 use trace_props::{Event, HandedBack, Numbered, Trace};
@@ -9,14 +9,14 @@ use trace_props::{Event, HandedBack, Numbered, Trace};
 fn started(alloc: Global) -> Result<Trace, AllocError> {
     let mut trace = Trace::new(alloc);
     trace.reserve(1)?;
-    trace.record(Event::Started(first_of(1)));
+    trace.record(Event::Started(first_at(1)));
     Ok(trace)
 }
 
 /// Whether what happened is that start.
 fn is_started(events: &[Event]) -> bool {
     match events {
-        [Event::Started(member)] => *member == first_of(1),
+        [Event::Started(member)] => *member == first_at(1),
         _ => false,
     }
 }

@@ -1,4 +1,4 @@
-use crate::fixtures::{address, first_of};
+use crate::fixtures::{address, first_at};
 use address::{Address, ViewId};
 use chat_log::{Chat, ChatLog, ChatSize, LastLines, Long, LongChat, Short, one_encoding};
 use state_transfer::Receiver;
@@ -30,19 +30,19 @@ fn two_lines_are_written_and_read(rt: HostRuntime) {
     let alloc = rt.alloc();
     let mut chat = ChatLog::opening(alloc).ok().expect(&rt, "a chat");
     assert!(rt; has_state(alloc, &chat, b"\x00"), "no line");
-    assert!(rt; chat.receive(first_of(1), b"hi").is_ok(), "the first");
+    assert!(rt; chat.receive(first_at(1), b"hi").is_ok(), "the first");
     assert!(rt; chat.receive(address(2, 7), b"").is_ok(), "the second");
     assert!(rt; has_state(alloc, &chat, TWO), "they are written");
     let mut copy = ChatLog::opening(alloc).ok().expect(&rt, "a copy");
     assert!(rt; copy.set_state(TWO) == Ok(true), "they are read");
     assert_eq!(rt; copy.len(), 2, "how many lines there are");
-    assert!(rt; is_line(&copy, 0, first_of(1), b"hi"), "the first");
+    assert!(rt; is_line(&copy, 0, first_at(1), b"hi"), "the first");
 }
 
 #[test]
 fn views_leave_the_lines(rt: HostRuntime) {
     let alloc = rt.alloc();
-    let id = ViewId::first_of(first_of(1));
+    let id = ViewId::first_of(first_at(1));
     let view = View::alone(alloc, id).ok().expect(&rt, "a view");
     let mut chat = LongChat::opening(alloc).ok().expect(&rt, "a chat");
     assert!(rt; has_state(alloc, &chat, b"\x00\x00"), "no line");

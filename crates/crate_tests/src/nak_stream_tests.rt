@@ -1,4 +1,4 @@
-use crate::fixtures::first_of;
+use crate::fixtures::first_at;
 use address::Bytes;
 use nak_stream::{Entry, OwnedPayload, Window, beginnings_agree, windows_agree};
 use wire_values::{Entry as LentEntry, Number, Payload};
@@ -6,7 +6,7 @@ use wire_values::{Entry as LentEntry, Number, Payload};
 /// The entry of 1.1 with a number and a payload, as packets lend it.
 fn lent(number: u64, payload: &[u8]) -> Option<LentEntry<'_>> {
     Some(LentEntry {
-        sender: first_of(1),
+        sender: first_at(1),
         number: Number::new(number)?,
         payload: Payload::new(payload)?,
     })
@@ -84,7 +84,7 @@ fn a_copy_has_the_parts_of_the_lent_one(rt: HostRuntime) {
     let entry = Entry::copy_of(rt.alloc(), &lent).ok();
     let entry = entry.expect(&rt, "a copy");
     let again = entry.lent();
-    assert!(rt; again.sender == first_of(1), "the sender");
+    assert!(rt; again.sender == first_at(1), "the sender");
     assert_eq!(rt; again.number.get(), 4, "the number");
     let payload = OwnedPayload::copy_of(rt.alloc(), &again.payload).ok();
     let payload = payload.expect(&rt, "a copy");

@@ -1,4 +1,4 @@
-use crate::fixtures::{address, first_of};
+use crate::fixtures::{address, first_at};
 use address::{Address, Exhausted, ViewId, next_after};
 
 #[test]
@@ -9,7 +9,7 @@ fn ids_have_their_parts_their_order_and_their_text(rt: HostRuntime) {
     assert_eq!(rt; last.incarnation(), 4_294_967_295, "the greatest");
     let next = Address::first_at(node).next_incarnation();
     assert!(rt; next == Address::new(node, 2), "behind the first");
-    let (low, high) = (address(2, 9), first_of(3));
+    let (low, high) = (address(2, 9), first_at(3));
     let first = ViewId::first_of(high);
     let second = next_after(&first, low).ok().expect(&rt, "a second id");
     assert!(rt; first < second, "ordered by counter first");

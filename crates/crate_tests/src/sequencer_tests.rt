@@ -1,4 +1,4 @@
-use crate::fixtures::{first_of, view_of};
+use crate::fixtures::{first_at, view_of};
 use address::Address;
 use nak_stream::OwnedPayload;
 use sequencer::{Forwards, Orderer};
@@ -43,7 +43,7 @@ fn orders_by_rank_and_number(rt: HostRuntime) {
     let view = view_of(rt.alloc(), &[1, 2]).expect(&rt, "a view");
     let orderer = Orderer::new(rt.alloc(), &view).ok();
     let mut orderer = orderer.expect(&rt, "an orderer");
-    let (one, two) = (first_of(1), first_of(2));
+    let (one, two) = (first_at(1), first_at(2));
     assert!(rt; offered(&mut orderer, two, 2, 120), "2 of 2.1");
     assert!(rt; ordered(&mut orderer).is_none(), "1 of 2.1 lacks");
     assert!(rt; offered(&mut orderer, two, 1, 121), "1 of 2.1");

@@ -2,6 +2,7 @@ ghost use Rattle.std.specs.Prelude.{◌≤◌};
 ghost use Rattle.address.specs.declared.limits.TheConstants.{GREATEST_NUMBER};
 
 use address::{Address, Node, ViewId};
+use keyed_state::Token;
 use std::alloc::Global;
 use view::{Addresses, View};
 
@@ -14,10 +15,15 @@ pub fn address(node: u16, incarnation: u32) -> Address
 }
 
 /// The first address of a node.
-pub fn first_of(node: u16) -> Address
+pub fn first_at(node: u16) -> Address
     requires { 1 ≤ node }
 {
     Address::first_at(Node::new(node).unwrap())
+}
+
+/// The view 1@1.1.
+pub fn first_view() -> ViewId {
+    ViewId::first_of(first_at(1))
 }
 
 /// The first addresses of some nodes; none where memory was refused, or where a node is 0.
@@ -31,7 +37,7 @@ pub fn listed(alloc: Global, nodes: &[u16]) -> Option<Addresses> {
 
 /// The first view of 1.1, with the first addresses of some nodes as its members.
 pub fn view_of(alloc: Global, nodes: &[u16]) -> Option<View> {
-    View::new(ViewId::first_of(first_of(1)), listed(alloc, nodes)?).ok()
+    View::new(first_view(), listed(alloc, nodes)?).ok()
 }
 
 /// The view id with a counter, made by 1.1.
@@ -39,5 +45,13 @@ pub fn view_id(counter: u64) -> ViewId
     requires low { 1 ≤ counter }
     requires high { counter ≤ GREATEST_NUMBER }
 {
-    ViewId::new(counter, first_of(1)).unwrap()
+    ViewId::new(counter, first_at(1)).unwrap()
+}
+
+/// The token of a count in the view 1@1.1.
+pub fn token(count: u64) -> Token {
+    Token {
+        view: first_view(),
+        count,
+    }
 }

@@ -1,6 +1,6 @@
 ghost use Rattle.std.specs.Prelude.{◌≤◌};
 
-use crate::fixtures::{first_of, listed, view_id};
+use crate::fixtures::{first_at, listed, view_id};
 use address::ViewId;
 use flush::{Flush, Progress, cut_covers};
 use std::alloc::Global;
@@ -21,7 +21,7 @@ fn spelled(number: u8, byte: u8) -> [u8; 25] {
 /// What comes from the view `3@1.1`: its stable and delivered counts, and as many entries as are spelled.
 fn report<'a>(stable: u64, delivered: u64, held: &'a [[u8; 25]]) -> Option<Report<'a>> {
     Report::new(
-        ViewId::new(3, first_of(1))?,
+        ViewId::new(3, first_at(1))?,
         Count::new(stable)?,
         Count::new(delivered)?,
         Held::new(u8::try_from(held.len()).ok()?, held.as_flattened())?,
@@ -32,7 +32,7 @@ fn report<'a>(stable: u64, delivered: u64, held: &'a [[u8; 25]]) -> Option<Repor
 fn came(flush: &mut Flush, node: u16, report: Option<Report<'_>>) -> Option<Progress>
     requires { 1 ≤ node }
 {
-    flush.report(first_of(node), &report?).ok()
+    flush.report(first_at(node), &report?).ok()
 }
 
 /// Whether these are the only entries, each with one byte as its payload.
@@ -75,7 +75,7 @@ fn a_cut_goes_up_to_the_first_hole(rt: HostRuntime) {
 fn goes_with(flush: &Flush, alloc: Global, node: u16, nodes: &[u16]) -> bool
     requires { 1 ≤ node }
 {
-    match (flush.together(alloc, &first_of(node)), listed(alloc, nodes)) {
+    match (flush.together(alloc, &first_at(node)), listed(alloc, nodes)) {
         (Ok(together), Some(want)) => together.as_slice() == want.as_slice(),
         _ => false,
     }
@@ -90,7 +90,7 @@ fn those_of_one_view_go_together(rt: HostRuntime) {
     assert_eq!(rt; flush.members().len(), 3, "the length of the list");
     let first = came(&mut flush, 3, report(0, 0, &[]));
     assert!(rt; first == Some(Progress::Waiting), "one, of 3@1.1");
-    assert!(rt; flush.has_reported(&first_of(3)), "it has reported");
+    assert!(rt; flush.has_reported(&first_at(3)), "it has reported");
     assert!(rt; flush.all_come_from(&view_id(3)), "all are of 3@1.1");
     let second = came(&mut flush, 1, report(0, 0, &[]));
     assert!(rt; second == Some(Progress::Waiting), "two, of 3@1.1");

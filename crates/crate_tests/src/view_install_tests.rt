@@ -1,6 +1,6 @@
 ghost use Rattle.std.specs.Prelude.{◌≤◌};
 
-use crate::fixtures::first_of;
+use crate::fixtures::first_at;
 use address::ViewId;
 use view_install::{InstallAnswer, OfferAnswer, Promise, promises_rise};
 use wire_values::Roster;
@@ -9,8 +9,8 @@ use wire_values::Roster;
 fn proposal(counter: u64, node: u16) -> Option<Roster>
     requires { 1 ≤ node }
 {
-    let first = first_of(1);
-    Roster::new(ViewId::new(counter, first)?, &[first, first_of(node)])
+    let first = first_at(1);
+    Roster::new(ViewId::new(counter, first)?, &[first, first_at(node)])
 }
 
 /// The answer of 2.1 to a proposal of 1.1 and 2.1.
@@ -33,7 +33,7 @@ fn installed(promise: &mut Promise, counter: u64, node: u16) -> bool
 
 #[test]
 fn the_greatest_offer_is_promised_and_installed(rt: HostRuntime) {
-    let mut promise = Promise::new(first_of(2));
+    let mut promise = Promise::new(first_at(2));
     assert!(rt; offered(&mut promise, 5) == OfferAnswer::Accept, "5");
     let answer = offered(&mut promise, 4);
     assert!(rt; answer == OfferAnswer::Behind(5), "4 behind 5");
