@@ -1,5 +1,5 @@
-//! Runs stories of nodes over nets in memory, some of which fail, and over sockets of this machine, and prints what was asked in each and what was answered; then
-//! channels are tried (`channels`). `stdout` has what must be printed. The word `calls` or `catch_up` asks for that story of channels alone.
+//! Runs stories of nodes over nets in memory, some of which fail, and over sockets of this machine, and prints what was asked in each and what was answered;
+//! then channels are tried (`channels`). `stdout` has what must be printed. The word `calls` or `catch_up` asks for that story of channels alone.
 #![tactic(auto)]
 
 mod bursts;

@@ -47,7 +47,8 @@ fn of_two(alloc: Global) -> Result<World<ChatLog>, AllocError> {
     Ok(world)
 }
 
-/// The same after two messages of 1.1 that 2.1 lost; and after deliveries of a packet that is not there, so many that the places of events are used up amid the catch-up.
+/// The same after two messages of 1.1 that 2.1 lost; and after deliveries of a packet that is not there, so many that the places of events are used up amid the
+/// catch-up.
 fn behind(alloc: Global) -> Result<World<ChatLog>, AllocError> {
     let mut world = of_two(alloc)?;
     let sends = [

@@ -1,7 +1,7 @@
 //! Hands damaged packets to channels. `packets.txt` has one valid packet of each kind and more; of each, every proper beginning must be refused as 20, a byte
 //! more as 26, and each change of one byte must give a refusal, or a packet whose spelling is the changed bytes; a channel must answer the same refusal, and be
-//! as before. Then a few cases by themselves. Prints how many of each outcome there were, and a sum that tells them apart by their order; `stdout` has what must
-//! be printed, which `expected` says by a reader of its own.
+//! as before. Then a few cases by themselves. Prints how many of each outcome there were, and a sum that tells them apart by their order; `stdout` has what
+//! must be printed, which `expected` says by a reader of its own.
 
 use crate::channels::cases::Cases;
 use crate::channels::hexadecimal::unhex;

@@ -11,7 +11,8 @@ pub const TAKEN: u8 = 1;
 /// What it answers where it has ended by a packet, since the state in it is none.
 pub const ENDED: u8 = 6;
 
-/// How often each outcome came of the changes of one packet; how many readings there were, the beginnings and the longer ones too; and how many of them were wrong.
+/// How often each outcome came of the changes of one packet; how many readings there were, the beginnings and the longer ones too; and how many of them were
+/// wrong.
 #[derive(Drop)]
 pub struct Tally {
     ignored: u64,
