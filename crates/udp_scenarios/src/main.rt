@@ -158,13 +158,13 @@ fn print_all(rt: &HostRuntime) -> io::Result<()> {
     print_failing(rt, &mut text)
 }
 
-/// Prints all stories, and tries channels; the exit status.
+/// Tells all stories, and tries channels; the exit status.
 fn tell_all(rt: &HostRuntime) -> io::Result<u8> {
     print_all(rt)?;
     channels::try_all(rt)
 }
 
-/// Does so; a failure of the outside is told on the standard error.
+/// The exit status of all this; where the outside failed, the standard error says how.
 fn run_all(rt: &HostRuntime) -> u8 {
     match tell_all(rt) {
         Ok(status) => status,

@@ -1,6 +1,6 @@
-use Rattle.std.proofs.Common.{◌≡◌, Option, Some, subst}
+use Rattle.std.proofs.Common.{subst}
 use Rattle.big_endian.specs.Reading.{IsReadOrNone}
-use Rattle.keyed_state.specs.States.{IsState, state_of, state_decode}
+use Rattle.keyed_state.specs.States.{state_of, state_decode}
 use Rattle.replicated_map.specs.Values.{held_form}
 use Rattle.replicated_map.specs.MapLaws.{decoded_is_map}
 use Rattle.crate_tests.proofs.state_tests.is_written_again.Goals as goal
