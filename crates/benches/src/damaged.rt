@@ -3,10 +3,11 @@
 use crate::carrier::KEY;
 use address::Node;
 use frames::{BOOT, FramedNet};
+use memory_nets::MemoryNet;
 use std::io;
 use std::io::ErrorKind;
 use std::time::Duration;
-use udp_net::{Fault, MemoryNet, Net, NodePort};
+use udp_net::{Fault, Net, NodePort};
 
 /// A net that gives damaged frames, and then none.
 #[derive(Drop)]

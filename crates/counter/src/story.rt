@@ -2,10 +2,11 @@
 
 use crate::CountingNode;
 use address::{Address, Node};
+use memory_nets::{Wire, Wires};
 use std::cell::RefCell;
 use std::io;
 use std::io::ErrorKind;
-use udp_net::{FOUR, Wire, Wires, settings_of};
+use udp_net::{FOUR, settings_of};
 
 /// How many rounds each node has.
 const ROUNDS: u64 = 140;

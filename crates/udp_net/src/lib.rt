@@ -1,5 +1,5 @@
-//! What carries datagrams between the nodes of a group: a socket of UDP, or a net in memory; the settings, which say which nodes there are
-//! (docs/CLI.md, "Settings"); and the hosts at which they are reached.
+//! What carries datagrams between the nodes of a group, as a socket of UDP does; the settings, which say which nodes there are (docs/CLI.md, "Settings");
+//! and the hosts at which they are reached.
 #![tactic(auto)]
 
 mod acks;
@@ -12,7 +12,6 @@ mod gate;
 mod held_back;
 mod hosts;
 mod lane;
-mod memory_net;
 mod neighbours;
 mod net;
 mod node_ports;
@@ -22,7 +21,6 @@ mod socket;
 mod socket_net;
 mod under_way;
 mod waiter;
-mod wires;
 mod word;
 
 pub use document::settings;
@@ -31,12 +29,10 @@ pub use error::{BindError, Fault, SettingsError};
 pub use four::{FOUR, settings_of};
 pub use held_back::HeldBack;
 pub use hosts::Hosts;
-pub use memory_net::{Listed, MemoryNet, Offered};
 pub use net::{Net, Received};
 pub use node_ports::{MOST_NODES, MOST_SILENT, NodePort, Settings};
 pub use sieved_net::SievedNet;
 pub use socket_net::SocketNet;
-pub use wires::{Failing, Wire, Wires};
 pub use word::{Echo, Neighbour, Place, Word};
 
 /// How many bytes a socket's net sends to a node in one turn, in bytes; the datagram that goes over them is sent too. The buffer of a socket has 212,992 bytes

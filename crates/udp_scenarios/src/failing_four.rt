@@ -3,11 +3,11 @@
 use crate::stories::first_at;
 use channel::Channel;
 use chat_log::ChatLog;
+use memory_nets::{Failing, Wire, Wires};
 use state_transfer::Receiver;
 use std::alloc::{AllocError, Global};
 use std::cell::RefCell;
 use udp_member::Runner;
-use udp_net::{Failing, Wire, Wires};
 use vsync_text::append_event;
 
 /// One of the four.

@@ -5,9 +5,10 @@ use crate::hub::Hub;
 use crate::stories::{MERGE, holds};
 use chat_log::ChatLog;
 use endings::Status;
+use memory_nets::{Failing, Wires};
 use std::alloc::{AllocError, Global};
 use std::cell::RefCell;
-use udp_net::{FOUR, Failing, Settings, Wires, settings_of};
+use udp_net::{FOUR, Settings, settings_of};
 use udp_runs::run_udp;
 
 /// How their text ends where nothing fails.

@@ -2,8 +2,8 @@
 
 use crate::failing::Tried;
 use crate::failing_four::{After, Story, play};
+use memory_nets::Failing;
 use std::alloc::{AllocError, Global};
-use udp_net::Failing;
 
 /// What was counted after the last round of all: the receives, and the sends.
 fn last(story: &Story) -> (u64, u64) {

@@ -1,9 +1,10 @@
 ghost use Rattle.std.specs.Prelude.{None};
 
 use address::{Address, Node};
+use memory_nets::{Wire, Wires};
 use std::cell::RefCell;
 use std::time::Duration;
-use udp_net::{BindError, Wire, Wires};
+use udp_net::BindError;
 use udp_runs::{NodeMachine, Tally};
 
 /// How much later it is each time that the machine is asked for the time, in milliseconds.

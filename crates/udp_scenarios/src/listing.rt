@@ -4,8 +4,9 @@ use crate::lines::{put_number, put_truth};
 use crate::shelf::Shelf;
 use crate::stories::first_at;
 use chat_log::ChatLog;
+use memory_nets::{Listed, MemoryNet};
 use std::alloc::{AllocError, Global};
-use udp_net::{FOUR, Listed, MemoryNet, Net, settings_of};
+use udp_net::{FOUR, Net, settings_of};
 use udp_runs::run_udp;
 
 /// Two nodes; the second joins the first in vain, for the nets carry nothing.

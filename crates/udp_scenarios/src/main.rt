@@ -1,7 +1,9 @@
-//! Runs stories of nodes over nets in memory, some of which fail, and over sockets of this machine, and prints what was asked in each and what was answered. `stdout` has what must be printed.
+//! Runs stories of nodes over nets in memory, some of which fail, and over sockets of this machine, and prints what was asked in each and what was answered;
+//! then channels are tried (`channels`). `stdout` has what must be printed. The word `calls` or `catch_up` asks for that story of channels alone.
 #![tactic(auto)]
 
 mod bursts;
+mod channels;
 mod documents;
 mod failing;
 mod failing_four;
@@ -20,8 +22,38 @@ mod words;
 
 use files::bytes_of;
 use std::alloc::AllocError;
+use std::env;
 use std::io::{self, Write};
 use std::process::ExitCode;
+
+/// Memory was refused before a story began.
+const NOT_BEGUN: u8 = 2;
+
+/// The outside failed.
+const OUTSIDE: u8 = 5;
+
+/// What is asked for.
+#[derive(Clone, Copy)]
+enum Wanted {
+    /// The story of the calls of a channel.
+    Calls,
+    /// The story of a catch-up.
+    CatchUp,
+    /// All stories, and all trials of channels.
+    All,
+}
+
+/// What the words ask for.
+fn asked(rt: &HostRuntime) -> io::Result<Wanted> {
+    for word in env::args(rt)? {
+        match word.as_str() {
+            "calls" => return Ok(Wanted::Calls),
+            "catch_up" => return Ok(Wanted::CatchUp),
+            _ => {}
+        }
+    }
+    Ok(Wanted::All)
+}
 
 /// Prints a story's text, with its name before it, and empties it.
 fn print(
@@ -126,12 +158,28 @@ fn print_all(rt: &HostRuntime) -> io::Result<()> {
     print_failing(rt, &mut text)
 }
 
-fn main(rt: HostRuntime) -> ExitCode {
-    match print_all(&rt) {
-        Ok(()) => ExitCode::from(0),
+/// Tells all stories, and tries channels; the exit status.
+fn tell_all(rt: &HostRuntime) -> io::Result<u8> {
+    print_all(rt)?;
+    channels::try_all(rt)
+}
+
+/// The exit status of all this; where the outside failed, the standard error says how.
+fn run_all(rt: &HostRuntime) -> u8 {
+    match tell_all(rt) {
+        Ok(status) => status,
         Err(error) => {
             let _ = eprintln!(rt; "udp_scenarios: {error}");
-            ExitCode::from(5)
+            OUTSIDE
         }
     }
+}
+
+fn main(rt: HostRuntime) -> ExitCode {
+    ExitCode::from(match asked(&rt) {
+        Ok(Wanted::Calls) => channels::tell_calls(&rt),
+        Ok(Wanted::CatchUp) => channels::caught_up(rt.alloc()),
+        Ok(Wanted::All) => run_all(&rt),
+        Err(_) => NOT_BEGUN,
+    })
 }

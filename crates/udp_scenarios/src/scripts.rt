@@ -9,10 +9,11 @@ use crate::stories::first_at;
 use address::Node;
 use chat_log::ChatLog;
 use endings::Status;
+use memory_nets::Wires;
 use std::alloc::{AllocError, Global};
 use std::cell::RefCell;
 use std::time::Duration;
-use udp_net::{FOUR, Wires, settings_of};
+use udp_net::{FOUR, settings_of};
 use udp_runs::{Lines, LinesError, MemberPlan, NoLines, NodeManner, Tally, run_member, run_udp};
 
 /// The most scripts of a file.

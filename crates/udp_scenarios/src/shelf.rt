@@ -1,10 +1,11 @@
 ghost use Rattle.std.specs.Prelude.{◌≡◌, [], true, Some, if◌then◌else◌};
 
 use address::{Address, Node};
+use memory_nets::MemoryNet;
 use std::alloc::Global;
 use std::marker::Model;
 use std::time::Duration;
-use udp_net::{BindError, MemoryNet};
+use udp_net::BindError;
 use udp_runs::{NodeMachine, Tally};
 
 /// A net that was given back, and the member that had it.

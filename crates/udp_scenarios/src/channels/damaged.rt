@@ -1,0 +1,96 @@
+//! Hands damaged packets to channels. `packets.txt` has one valid packet of each kind and more; of each, every proper beginning must be refused as 20, a byte
+//! more as 26, and each change of one byte must give a refusal, or a packet whose spelling is the changed bytes; a channel must answer the same refusal, and be
+//! as before. Then a few cases by themselves. Prints how many of each outcome there were, and a sum that tells them apart by their order; `stdout` has what
+//! must be printed, which `expected` says by a reader of its own.
+
+use crate::channels::cases::Cases;
+use crate::channels::hexadecimal::unhex;
+use crate::channels::judge::Judge;
+use crate::channels::stands::Stand;
+use crate::channels::tally::Tally;
+use crate::files::bytes_of;
+use std::alloc::{AllocError, Global};
+use std::io::{self, Write};
+
+/// Packets up to this length come each to a channel that was handed no other.
+const SHORT: usize = 200;
+
+/// What came of all readings so far.
+#[derive(Drop)]
+struct Total {
+    packets: u64,
+    changes: u64,
+    readings: u64,
+    wrong: u64,
+}
+
+impl Total {
+    /// Adds what came of the readings of one packet.
+    fn add(&mut self, tally: &Tally) {
+        self.packets = self.packets.wrapping_add(1);
+        self.changes = self.changes.wrapping_add(tally.changes());
+        self.readings = self.readings.wrapping_add(tally.readings());
+        self.wrong = self.wrong.wrapping_add(tally.wrong());
+    }
+}
+
+/// What comes of a packet, for a channel that stands so.
+fn judged(alloc: Global, packet: &[u8], stand: Stand) -> Result<Tally, AllocError> {
+    let mut judge = Judge::new(alloc, stand, packet.len() <= SHORT)?;
+    judge.read_all(packet)?;
+    Ok(judge.into_tally())
+}
+
+/// Reads the packet of a line, and prints what came of it.
+fn read_line(rt: &HostRuntime, line: &[u8], total: &mut Total) -> io::Result<()> {
+    let mut words = line.split(|byte| *byte == b' ');
+    let (Some(name), Some(stand), Some(digits)) = (words.next(), words.next(), words.next()) else {
+        return Ok(());
+    };
+    let packet = unhex(rt.alloc(), digits)?;
+    let tally = judged(rt.alloc(), packet.as_slice(), Stand::of(stand))?;
+    let mut writer = io::writer(rt);
+    let length = packet.len();
+    write!(
+        writer,
+        "{}, {length} bytes, ",
+        str::from_utf8(name).unwrap_or("?")
+    )?;
+    tally.print(&mut writer)?;
+    total.add(&tally);
+    Ok(())
+}
+
+/// Reads all packets of the file.
+fn read_packets(rt: &HostRuntime, total: &mut Total) -> io::Result<()> {
+    let text = bytes_of(rt, "packets.txt")?;
+    for line in text.as_slice().split(|byte| *byte == b'\n') {
+        read_line(rt, line, total)?;
+    }
+    Ok(())
+}
+
+/// Prints the cases by themselves.
+fn print_cases(rt: &HostRuntime) -> io::Result<()> {
+    let mut cases = Cases::new(rt.alloc());
+    cases.all()?;
+    io::writer(rt).write_all(cases.text())
+}
+
+/// Reads all and prints all; answers whether nothing was wrong.
+pub(crate) fn run(rt: &HostRuntime) -> io::Result<bool> {
+    let mut total = Total {
+        packets: 0,
+        changes: 0,
+        readings: 0,
+        wrong: 0,
+    };
+    read_packets(rt, &mut total)?;
+    print_cases(rt)?;
+    let passed = total.readings.saturating_sub(total.wrong);
+    println!(rt;
+        "damaged bytes: {} packets, {} changes of one byte: {passed} passed, {} failed",
+        total.packets, total.changes, total.wrong
+    )?;
+    Ok(total.wrong == 0)
+}
