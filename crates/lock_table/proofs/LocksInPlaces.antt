@@ -114,8 +114,3 @@ pub grants : (p : Address) (view : ViewId) (k : List ℕ) (last : Token) (entrie
     → table_of (next_token view last) (insert entries i (entry_of k (granted p (next_token view last)))) ≡ within (table_of last entries) (acquired p view k (table_of last entries))
 grants p view k last entries i free few =
     sym (asked-free p view k last entries i free) ∙ comes-in (table_of last entries) (acquired p view k (table_of last entries)) (omega (arith, size-free p view k last entries i free, few))
-
--- one is not granted, since the state would be too long
-pub grants-not : (p : Address) (view : ViewId) (k : List ℕ) (last : Token) (entries : List (KeyedEntry Lock)) (i : ℕ) → IsFreeAt k entries i → STATE < table_size entries + 33 + length k
-    → table_of last entries ≡ within (table_of last entries) (acquired p view k (table_of last entries))
-grants-not p view k last entries i free more = stays-away (table_of last entries) (acquired p view k (table_of last entries)) (omega (arith, size-free p view k last entries i free, more))

@@ -1,6 +1,5 @@
 pub mod MembersAreOpen
 pub mod PacketsHeard
-pub mod PacketsTaken
 pub mod MessagesAreCalm
 pub mod OwnMessagesGo
 pub mod NumbersNotHeld

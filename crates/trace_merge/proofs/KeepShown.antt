@@ -18,19 +18,6 @@ cond-not true false = refl
 cond-not false true = refl
 cond-not false false = refl
 
--- what comes last is what came first
-pub or-turn : (a b c : Bool) → (a || (b || c)) ≡ ((b || a) || c)
-or-turn true true c = refl
-or-turn true false c = refl
-or-turn false true c = refl
-or-turn false false c = refl
-
-pub or-last : (a b : Bool) → (a || b) ≡ (b || (a || false))
-or-last true true = refl
-or-last true false = refl
-or-last false true = refl
-or-last false false = refl
-
 -- one more is kept
 pub shown-or : (f : Fact) (o : Option Fact) (fact : Fact) (b : Bool) → o ≡ Some fact → cond (same_fact fact f) true b ≡ (option_map_or (λ s. same_fact s f) o false || b)
 shown-or f o fact b is = cond-or (same_fact fact f) b ∙ ap (λ (p : Option Fact). option_map_or (λ s. same_fact s f) p false || b) (sym is)

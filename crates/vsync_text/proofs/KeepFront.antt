@@ -19,7 +19,7 @@ goes_on a b c ab bc =
     let short : length a ≤ length b = omega (arith, ap length ab.front, length-take (length a) b) in
     record { front = sym (take-take (length a) (length b) c short) ∙ ap (take (length a)) bc.front ∙ ab.front }
 
--- a word, two fields and an end, one behind another; and a word, three fields and an end
+-- a word, two fields and an end, one behind another
 pub two_fields : (old a b c new word first second end : List ℕ) → a ≡ old ++ word → b ≡ a ++ first → c ≡ b ++ second → new ≡ c ++ end → new ≡ old ++ (word ++ ((first ++ second) ++ end))
 two_fields old a b c new word first second end e f g h =
     h ∙ ap (λ t. t ++ end) (g ∙ ap (λ t. t ++ second) (f ∙ ap (λ t. t ++ first) e))
@@ -27,12 +27,6 @@ two_fields old a b c new word first second end e f g h =
     ∙ append_assoc (old ++ word) first (second ++ end)
     ∙ append_assoc old word (first ++ (second ++ end))
     ∙ ap (λ t. old ++ (word ++ t)) (sym (append_assoc first second end))
-
-pub three_fields : (old a b c d new word first second third end : List ℕ) → a ≡ old ++ word → b ≡ a ++ first → c ≡ b ++ second → d ≡ c ++ third → new ≡ d ++ end
-    → new ≡ old ++ (word ++ (((first ++ second) ++ third) ++ end))
-three_fields old a b c d new word first second third end e f g h i =
-    two_fields old b c d new (word ++ first) second third end (f ∙ ap (λ t. t ++ first) e ∙ append_assoc old word first) g h i
-    ∙ ap (λ t. old ++ t) (append_assoc word first ((second ++ third) ++ end) ∙ ap (λ t. word ++ t) (sym (append_assoc first (second ++ third) end) ∙ ap (λ t. t ++ end) (sym (append_assoc first second third))))
 
 next_text : {X : Type 0} (f : X → List ℕ) (xs : List X) (i : ℕ) (x d : X) → x ≡ get_or xs i d → i < length xs
     → flat_map f (take (i + 1) xs) ≡ flat_map f (take i xs) ++ f x

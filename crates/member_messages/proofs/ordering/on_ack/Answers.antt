@@ -1,9 +1,7 @@
-use Rattle.std.proofs.Common.{◌≡◌, ◌∙◌, ℕ, Some, ap, false, refl, sym, true}
+use Rattle.std.proofs.Common.{Some, sym}
 use Rattle.wire_values.specs.declared.packet.Body.TheVariants as bodies
 use Rattle.law_acts.specs.Acts.{packet}
-use Rattle.member_messages.specs.Heard.{takes_ack}
 use Rattle.member_messages.proofs.MembersAreOpen.{there-is, orderly-in, nothing-did}
-use Rattle.member_messages.proofs.PacketsTaken.{is-ignored}
 use Rattle.member_messages.proofs.PacketsHeard.{heard-in, heard-member_state, heard-did}
 use Rattle.member_messages.proofs.MessagesAreCalm.{ordering-calm}
 use Rattle.member_messages.proofs.ordering.on_ack.Goals as goal
@@ -42,13 +40,3 @@ pub returns-clause-calm : goal.returns-clause-calm
 returns-clause-calm g c =
     let does = c.in_ok-ack-in-Some-Coordinator.ensures in
     ordering-calm g.R.Receiver.meaning _ _ _ _ _ _ _ _ does.orders.0 does.few
-
-pub returns-then-not-takes_ack-clause-does : goal.returns-then-not-takes_ack-clause-does
-returns-then-not-takes_ack-clause-does g c = is-ignored _ _ _ (c.if-not-takes_ack.ensures ∙ ap (λ (n : ℕ). takes_ack c.args.source.now c.args.view n c.args.member_state.now) c.get-count.ensures.value) (refl, refl)
-
-pub returns-then-not-takes_ack-clause-ignored : goal.returns-then-not-takes_ack-clause-ignored
-returns-then-not-takes_ack-clause-ignored g c = λ not_taken. (refl, (refl, refl))
-
-pub returns-clause-ignored : goal.returns-clause-ignored
-returns-clause-ignored g c = λ not_taken.
-    absurd (let n : true ≡ false = c.if-not-takes_ack.ensures ∙ ap (λ (n : ℕ). takes_ack c.args.source.now c.args.view n c.args.member_state.now) c.get-count.ensures.value ∙ not_taken in cc)

@@ -1,12 +1,7 @@
-use Rattle.std.proofs.Common.{None, Option, refl, sym, subst}
-use Rattle.step_output.specs.Steps.{who_of}
-use Rattle.traffic.specs.InViews.{in_view}
-use Rattle.traffic.specs.Turns.{SendsOrdering}
-use Rattle.traffic.specs.declared.view_state.ViewState.{ViewState}
+use Rattle.std.proofs.Common.{None, refl, sym, subst}
 use Rattle.traffic.specs.declared.follower.Follower.{Follower}
 use Rattle.traffic.specs.declared.view_state.ViewState.TheVariants as kinds
 use Rattle.traffic.proofs.ActsOfAnswers.{send-goes}
-use Rattle.member_messages.specs.Messages.{ByKind}
 use Rattle.member_messages.specs.Ordered.{IsOrderly}
 use Rattle.member_messages.proofs.MembersAreOpen.{there-is, orderly-in, ordered-by, member_state-kept, goes-did}
 use Rattle.member_messages.proofs.OwnMessagesGo.{promised-in, sends-first, sends-other, delivers-first}
@@ -88,16 +83,3 @@ returns-in_ok-send-in-Some-Follower-clause-did g c =
     let goes = send-goes g.R.Receiver.meaning came c.args.who.now.address c.args.who.now.group c.args.payload.now c.in-Some-Follower.follower c.args.member_state.now.receiver
     c.args.out.now c.send-in-Some-Follower.new.self c.send-in-Some-Follower.new.out does.short does.now does.sends in
     goes-did g.R.Receiver.meaning came _ _ _ _ _ _ _ _ c.requires.member_state promised there goes.1 goes.0
-
-pub returns-in_ok-send-in-Some-Coordinator-clause-does : goal.returns-in_ok-send-in-Some-Coordinator-clause-does
-returns-in_ok-send-in-Some-Coordinator-clause-does g c =
-    let there = there-is _ _ _ c.in-Some-Coordinator.is c.in-Some-Coordinator.field-0-is in
-    let old = c.args.member_state.now in
-    let does = c.in_ok-send-in-Some-Coordinator.ensures in (
-      refl,
-      subst
-          (λ (o : Option ViewState). ByKind
-          (λ m. SendsOrdering g.R.Receiver.meaning (who_of c.args.who.now) c.args.payload.now (in_view m old.receiver c.args.out.now) (in_view c.send.new.self c.send.new.receiver c.send.new.out))
-          (λ m. ⊥) ⊥ o)
-          (sym there) does.orders,
-    )

@@ -1,13 +1,9 @@
-use Rattle.std.proofs.Common.{◌≡◌, ◌∙◌, Some, false, refl, sym, true}
+use Rattle.std.proofs.Common.{Some, sym}
 use Rattle.wire_values.specs.declared.packet.Body.TheVariants as bodies
 use Rattle.law_acts.specs.Acts.{packet}
-use Rattle.step_output.specs.Steps.{who_of}
-use Rattle.traffic.specs.Takes.{TakesStatus}
-use Rattle.traffic.specs.declared.follower.Follower.{Follower}
 use Rattle.traffic.proofs.ActsOfAnswers.{status-goes}
 use Rattle.member_messages.specs.Heard.{is_near}
 use Rattle.member_messages.proofs.MembersAreOpen.{there-is, orderly-in, ordered-by, nothing-did}
-use Rattle.member_messages.proofs.PacketsTaken.{at-follower, is-ignored, is-taken}
 use Rattle.member_messages.proofs.PacketsHeard.{heard-in, heard-member_state, from-in, other-did}
 use Rattle.member_messages.proofs.NumbersNotHeld.{status-orderly}
 use Rattle.member_messages.proofs.taking.on_status.Goals as goal
@@ -37,23 +33,3 @@ returns-clause-did g c =
     c.args.out.now c.status.new.self c.status.new.out c.in_ok-status-in-Some-Follower.ensures in
     other-did g.R.Receiver.meaning (λ q i. Some (packet q (bodies.Status i c.args.progress) c.args.who.now.address)) _ _ _ _ _ _ _ _ _ _ c.requires.member_state heard there
     (from-in _ _ c.args.member_state.now c.in-Some-Follower.follower (is_near c.args.progress) there (sym c.if-not-takes_status.ensures)) goes
-
-pub returns-then-not-takes_status-clause-ignored : goal.returns-then-not-takes_status-clause-ignored
-returns-then-not-takes_status-clause-ignored g c = λ not_taken. (refl, (refl, refl))
-
-pub returns-in_err-status-in-Some-Follower-clause-ignored : goal.returns-in_err-status-in-Some-Follower-clause-ignored
-returns-in_err-status-in-Some-Follower-clause-ignored g c = λ not_taken. absurd (let n : true ≡ false = c.if-not-takes_status.ensures ∙ not_taken in cc)
-
-pub returns-clause-ignored : goal.returns-clause-ignored
-returns-clause-ignored g c = λ not_taken. absurd (let n : true ≡ false = c.if-not-takes_status.ensures ∙ not_taken in cc)
-
-pub returns-then-not-takes_status-clause-does : goal.returns-then-not-takes_status-clause-does
-returns-then-not-takes_status-clause-does g c = is-ignored _ _ _ c.if-not-takes_status.ensures (refl, refl)
-
-pub returns-clause-does : goal.returns-clause-does
-returns-clause-does g c =
-    let there = there-is _ _ _ c.in-Some-Follower.is c.in-Some-Follower.field-0-is in
-    let old = c.args.member_state.now in
-    is-taken _ _ _ c.if-not-takes_status.ensures
-    (at-follower (λ (m n : Follower). TakesStatus (who_of c.args.who.now) c.args.progress m c.args.out.now n c.status.new.out × (old.receiver ≡ old.receiver)) old old.receiver c.in-Some-Follower.follower c.status.new.self there
-    (c.in_ok-status-in-Some-Follower.ensures, refl))

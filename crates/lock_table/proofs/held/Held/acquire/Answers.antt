@@ -8,7 +8,7 @@ use Rattle.keyed_state.specs.Entries.{IsHeldAt, IsFreeAt, entry_of}
 use Rattle.keyed_state.specs.Tokens.{next_token}
 use Rattle.lock_table.specs.Locks.{IsTable, table_of, table_size, queue, granted}
 use Rattle.lock_table.specs.StepLaws.{acquired-is-table}
-use Rattle.lock_table.proofs.LocksInPlaces.{set-same, stands-already, joins, joins-not, grants, grants-not}
+use Rattle.lock_table.proofs.LocksInPlaces.{set-same, stands-already, joins, joins-not, grants}
 use Rattle.lock_table.proofs.held.Held.acquire.Goals as goal
 
 pub returns-then-has-clause-ok : goal.returns-then-has-clause-ok
@@ -71,32 +71,3 @@ returns-in_ok-insert-in-Free-clause-kept c =
     let s = table_of c.args.self.now.last c.args.self.now.entries.items in
     let few : (next_token c.args.view s.last).count ≤ GREATEST_NUMBER = omega (arith, ltb-false _ _ c.requires.numbers) in
     subst IsTable (sym (returns-in_ok-insert-in-Free-clause-ok c)) (acquired-is-table c.args.from c.args.view c.args.name.now s c.requires.table c.known_address.ensures c.known_view_id.ensures (rw c.as_slice-3.ensures.bytes at c.as_slice-3.ensures.key) few)
-
-pub returns-then-has-clause-kept : goal.returns-then-has-clause-kept
-returns-then-has-clause-kept c =
-    let entries = c.args.self.now.entries.items in
-    let k = c.args.name.now in
-    let i = c.in-Held.i in
-    let x = c.index_mut.result.now in
-    let held : IsHeldAt k entries i = rw (c.as_slice-3.ensures.bytes, c.as_slice-2.ensures.value) at c.in-Held.ensures in
-    let stands : slice_get entries i ≡ Some x = slice_get_read entries (length entries) i x refl held.within c.index_mut.ensures.value in
-    subst IsTable (sym (ap (table_of c.args.self.now.last) (set-same entries i x stands))) c.requires.table
-
-pub returns-else-size-le-STATE-clause-kept : goal.returns-else-size-le-STATE-clause-kept
-returns-else-size-le-STATE-clause-kept c =
-    let entries = c.args.self.now.entries.items in
-    let k = c.args.name.now in
-    let i = c.in-Held.i in
-    let x = c.index_mut.result.now in
-    let held : IsHeldAt k entries i = rw (c.as_slice-3.ensures.bytes, c.as_slice-2.ensures.value) at c.in-Held.ensures in
-    let stands : slice_get entries i ≡ Some x = slice_get_read entries (length entries) i x refl held.within c.index_mut.ensures.value in
-    subst IsTable (sym (ap (table_of c.args.self.now.last) (set-same entries i x stands))) c.requires.table
-
-pub returns-else-size-as_slice-le-STATE-clause-ok : goal.returns-else-size-as_slice-le-STATE-clause-ok
-returns-else-size-as_slice-le-STATE-clause-ok c =
-    let entries = c.args.self.now.entries.items in
-    let k = c.args.name.now in
-    let free : IsFreeAt k entries c.in-Free.i = rw (c.as_slice-3.ensures.bytes, c.as_slice-2.ensures.value) at c.in-Free.ensures in
-    let size : c.size_of_all-size.result ≡ table_size entries = rw c.as_slice.ensures.value at c.size_of_all-size.ensures in
-    let short : length c.as_slice-in-Free.result.now ≡ length k = ap length c.as_slice-in-Free.ensures.bytes in
-    grants-not c.args.from c.args.view k c.args.self.now.last entries c.in-Free.i free (omega (arith, size, short, c.if-size-as_slice-le-STATE.false))
