@@ -5,7 +5,7 @@ use address::{Address, Bytes, ViewId};
 use std::alloc::{AllocError, Global};
 use trace_props::{BoxedInstall, Delivery, Event, HandedBack, Install, Message, Numbered, Sending};
 use view::View;
-use vsync_text::{append_event, put, put_number, put_view_id};
+use vsync_text::{Part, append_event, put_parts};
 
 /// A place in the order: so many messages of a view are delivered there.
 #[derive(Drop)]
@@ -24,9 +24,16 @@ impl Tag {
 
 /// Appends a place in quotes, such as `"3@1.1/7"`.
 pub(crate) fn put_tag(out: &mut Vec<u8>, tag: &Tag) -> Result<(), AllocError> {
-    put_view_id(out, b'"', &tag.view)?;
-    put_number(out, b'/', tag.place)?;
-    put(out, b"\"")
+    put_parts(
+        out,
+        &[
+            Part::Text(b"\""),
+            Part::View(tag.view),
+            Part::Text(b"/"),
+            Part::Number(tag.place),
+            Part::Text(b"\""),
+        ],
+    )
 }
 
 /// To whom an event happens.

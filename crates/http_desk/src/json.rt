@@ -8,7 +8,7 @@ use keyed_state::{Token, put_token_text};
 use lock_table::{Lock, LockTable};
 use replicated_map::ReplicatedMap;
 use std::alloc::AllocError;
-use vsync_text::{put, put_address, put_hex, put_number, put_view_id};
+use vsync_text::{Part, put, put_hex, put_parts};
 
 /// Appends bytes as a string of JSON: a byte that is no printable ASCII is written by its number.
 pub(crate) fn put_string(out: &mut Vec<u8>, bytes: &[u8]) -> Result<(), AllocError> {
@@ -28,11 +28,23 @@ pub(crate) fn put_string(out: &mut Vec<u8>, bytes: &[u8]) -> Result<(), AllocErr
     Ok(())
 }
 
-/// Appends a field behind a comma: a name and a number.
-pub(crate) fn put_field(out: &mut Vec<u8>, name: &[u8], number: u64) -> Result<(), AllocError> {
-    put(out, b",")?;
-    put_string(out, name)?;
-    put_number(out, b':', number)
+/// Appends fields, each behind a comma: a name, which stands as it is, and a number.
+pub(crate) fn put_fields(
+    out: &mut Vec<u8>,
+    fields: &[(&'static [u8], u64)],
+) -> Result<(), AllocError> {
+    for (name, number) in fields {
+        put_parts(
+            out,
+            &[
+                Part::Text(b",\""),
+                Part::Text(name),
+                Part::Text(b"\":"),
+                Part::Number(*number),
+            ],
+        )?;
+    }
+    Ok(())
 }
 
 /// Appends an address in quotes, behind a text.
@@ -41,9 +53,15 @@ pub(crate) fn put_quoted(
     before: &[u8],
     address: &Address,
 ) -> Result<(), AllocError> {
-    put(out, before)?;
-    put_address(out, b'"', address)?;
-    put(out, b"\"")
+    put_parts(
+        out,
+        &[
+            Part::Text(before),
+            Part::Text(b"\""),
+            Part::Address(*address),
+            Part::Text(b"\""),
+        ],
+    )
 }
 
 /// Appends addresses in quotes, in brackets.
@@ -62,13 +80,17 @@ pub(crate) fn put_view(
     before: &[u8],
     view: Option<ViewId>,
 ) -> Result<(), AllocError> {
-    put(out, before)?;
     match view {
-        Some(view) => {
-            put_view_id(out, b'"', &view)?;
-            put(out, b"\"")
-        }
-        None => put(out, b"null"),
+        Some(view) => put_parts(
+            out,
+            &[
+                Part::Text(before),
+                Part::Text(b"\""),
+                Part::View(view),
+                Part::Text(b"\""),
+            ],
+        ),
+        None => put_parts(out, &[Part::Text(before), Part::Text(b"null")]),
     }
 }
 
@@ -131,10 +153,19 @@ pub(crate) fn put_token(out: &mut Vec<u8>, token: &Token) -> Result<(), AllocErr
 
 /// Appends a lock as an object: who holds it, with which token, and who waits.
 pub(crate) fn put_lock(out: &mut Vec<u8>, lock: &Lock) -> Result<(), AllocError> {
-    put_quoted(out, b"{\"holder\":", &lock.holder())?;
-    put(out, b",\"token\":")?;
-    put_token(out, &lock.token())?;
-    put(out, b",\"waiting\":")?;
+    let token = lock.token();
+    put_parts(
+        out,
+        &[
+            Part::Text(b"{\"holder\":\""),
+            Part::Address(lock.holder()),
+            Part::Text(b"\",\"token\":\""),
+            Part::View(token.view),
+            Part::Text(b"/"),
+            Part::Number(token.count),
+            Part::Text(b"\",\"waiting\":"),
+        ],
+    )?;
     put_all(out, lock.waiters())?;
     put(out, b"}")
 }

@@ -9,6 +9,7 @@ use bytes::Bytes;
 use http::Request;
 use keyed_state::KeyBytes;
 use std::alloc::{AllocError, Global};
+use vsync_text::{Part, put_parts};
 
 // For how many seconds a request waits for a lock; `None` if it says no such number.
 fn wait_of(request: &Request<Bytes>) -> Option<u64> {
@@ -22,11 +23,16 @@ fn wait_of(request: &Request<Bytes>) -> Option<u64> {
 }
 
 /// The line of a word and a lock's name.
-pub(crate) fn line_of(alloc: Global, word: &[u8], name: &[u8]) -> Result<Vec<u8>, AllocError> {
+pub(crate) fn line_of<'a>(
+    alloc: Global,
+    word: &'a [u8],
+    name: &'a [u8],
+) -> Result<Vec<u8>, AllocError> {
     let mut line = Vec::new(alloc);
-    line.extend_from_slice(word)?;
-    line.push(b' ')?;
-    line.extend_from_slice(name)?;
+    put_parts(
+        &mut line,
+        &[Part::Text(word), Part::Text(b" "), Part::Text(name)],
+    )?;
     Ok(line)
 }
 

@@ -7,9 +7,10 @@ use crate::request::{Asked, Order};
 use address::limits::PAYLOAD;
 use bytes::Bytes;
 use http::{HeaderName, Request, header};
-use keyed_state::{KeyBytes, Token, put_token_text, token_in};
+use keyed_state::{KeyBytes, Token, token_in};
 use replicated_map::{Command, ValueBytes, Version};
 use std::alloc::{AllocError, Global};
+use vsync_text::{Part, put_parts};
 
 // The value of a header; the first one if it is there more than once.
 fn header_of(request: &Request<Bytes>, name: HeaderName) -> Option<&[u8]> {
@@ -37,23 +38,42 @@ pub(crate) fn is_field(bytes: &[u8]) -> bool {
     fits_in_line(bytes) && !bytes.iter().any(|byte| *byte == b' ')
 }
 
-// Appends a field behind a space.
-fn put_field(line: &mut Vec<u8>, bytes: &[u8]) -> Result<(), AllocError> {
-    line.push(b' ')?;
-    line.extend_from_slice(bytes)
+// Adds the line of a command that names a version.
+fn put_versioned<'a>(
+    line: &mut Vec<u8>,
+    word: &'a [u8],
+    key: &'a [u8],
+    token: Token,
+) -> Result<(), AllocError> {
+    put_parts(
+        line,
+        &[
+            Part::Text(word),
+            Part::Text(b" "),
+            Part::Text(key),
+            Part::Text(b" "),
+            Part::View(token.view),
+            Part::Text(b"/"),
+            Part::Number(token.count),
+        ],
+    )
 }
 
-// Adds the line that says a command.
-fn put_command(line: &mut Vec<u8>, command: &Command<'_>) -> Result<(), AllocError> {
+// Adds the line that says a command: a word and fields, each behind a space.
+fn put_command<'a>(line: &mut Vec<u8>, command: &Command<'a>) -> Result<(), AllocError> {
+    let space = Part::Text(b" ");
     match command {
-        Command::Put { key, value, .. } => {
-            line.extend_from_slice(b"put")?;
-            put_field(line, key.as_slice())?;
-            put_field(line, value.as_slice())?;
-        }
+        Command::Put { key, value, .. } => put_parts(
+            line,
+            &[
+                Part::Text(b"put "),
+                Part::Text(key.as_slice()),
+                space,
+                Part::Text(value.as_slice()),
+            ],
+        ),
         Command::Remove(key) => {
-            line.extend_from_slice(b"remove")?;
-            put_field(line, key.as_slice())?;
+            put_parts(line, &[Part::Text(b"remove "), Part::Text(key.as_slice())])
         }
         Command::Replace {
             expected,
@@ -61,33 +81,36 @@ fn put_command(line: &mut Vec<u8>, command: &Command<'_>) -> Result<(), AllocErr
             value,
             ..
         } => {
-            line.extend_from_slice(b"replace")?;
-            put_field(line, key.as_slice())?;
-            match expected {
-                Some(expected) => put_field(line, expected.as_slice())?,
-                None => put_field(line, b"-")?,
-            }
-            put_field(line, value.as_slice())?;
+            let expected = match expected {
+                Some(expected) => expected.as_slice(),
+                None => b"-",
+            };
+            put_parts(
+                line,
+                &[
+                    Part::Text(b"replace "),
+                    Part::Text(key.as_slice()),
+                    space,
+                    Part::Text(expected),
+                    space,
+                    Part::Text(value.as_slice()),
+                ],
+            )
         }
-        Command::Clear => line.extend_from_slice(b"clear")?,
+        Command::Clear => put_parts(line, &[Part::Text(b"clear")]),
         Command::ReplaceAt {
             version,
             key,
             value,
             ..
         } => {
-            line.extend_from_slice(b"replace_at")?;
-            put_field(line, key.as_slice())?;
-            put_token_text(line, b' ', &version.token())?;
-            put_field(line, value.as_slice())?;
+            put_versioned(line, b"replace_at", key.as_slice(), version.token())?;
+            put_parts(line, &[space, Part::Text(value.as_slice())])
         }
         Command::RemoveAt { version, key } => {
-            line.extend_from_slice(b"remove_at")?;
-            put_field(line, key.as_slice())?;
-            put_token_text(line, b' ', &version.token())?;
+            put_versioned(line, b"remove_at", key.as_slice(), version.token())
         }
     }
-    Ok(())
 }
 
 /// The line that says a command (docs/RECEIVERS.md, "The map's lines").

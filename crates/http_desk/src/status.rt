@@ -1,12 +1,12 @@
 //! How a node stands, for programs.
 
-use crate::json::{put_all, put_field, put_quoted, put_view};
+use crate::json::{put_all, put_fields, put_quoted, put_view};
 use crate::kept::Keeps;
 use crate::standing::Standing;
 use address::limits::VERSION;
 use std::alloc::{AllocError, Global};
 use std::time::Duration;
-use vsync_text::{put, put_number};
+use vsync_text::{Part, put, put_parts};
 
 fn milliseconds(time: Duration) -> u64 {
     u64::try_from(time.as_millis()).unwrap_or(u64::MAX)
@@ -46,7 +46,7 @@ fn put_blocked(out: &mut Vec<u8>, standing: &Standing<'_>) -> Result<(), AllocEr
     match standing.blocked() {
         Some(time) => {
             put(out, b",\"blocked\":true")?;
-            put_field(out, b"blocked_ms", milliseconds(time))
+            put_fields(out, &[(b"blocked_ms", milliseconds(time))])
         }
         None => put(out, b",\"blocked\":false,\"blocked_ms\":null"),
     }
@@ -56,12 +56,16 @@ fn put_blocked(out: &mut Vec<u8>, standing: &Standing<'_>) -> Result<(), AllocEr
 fn put_seen(out: &mut Vec<u8>, standing: &Standing<'_>) -> Result<(), AllocError> {
     put(out, b",\"incarnations\":{")?;
     for (i, address) in standing.counts.seen.iter().enumerate() {
-        if i > 0 {
-            put(out, b",")?;
-        }
-        put_number(out, b'"', u64::from(address.node().number()))?;
-        put(out, b"\"")?;
-        put_number(out, b':', u64::from(address.incarnation()))?;
+        let before: &[u8] = if i > 0 { b",\"" } else { b"\"" };
+        put_parts(
+            out,
+            &[
+                Part::Text(before),
+                Part::Number(u64::from(address.node().number())),
+                Part::Text(b"\":"),
+                Part::Number(u64::from(address.incarnation())),
+            ],
+        )?;
     }
     put(out, b"}")
 }
@@ -69,36 +73,50 @@ fn put_seen(out: &mut Vec<u8>, standing: &Standing<'_>) -> Result<(), AllocError
 // What it counts.
 fn put_counts(out: &mut Vec<u8>, standing: &Standing<'_>) -> Result<(), AllocError> {
     let counts = standing.counts;
-    put_field(out, b"delivered_in_view", counts.place)?;
-    put_field(out, b"stable_in_view", standing.stable())?;
-    put_field(out, b"outstanding_sends", standing.kept.waits() as u64)?;
-    put_field(out, b"waiting_writes", standing.writes.len() as u64)?;
-    put_field(out, b"waiting_for_locks", standing.kept.queued() as u64)?;
-    put_field(out, b"connections", standing.clients as u64)?;
-    put_field(
+    let kept = standing.kept;
+    put_fields(
         out,
-        items_of(standing.kept.keeps()),
-        standing.kept.len() as u64,
-    )?;
-    put_field(out, b"views", counts.views)?;
-    put_field(out, b"merges", counts.merges)?;
-    put_field(out, b"suspicions", counts.lost)
+        &[
+            (b"delivered_in_view", counts.place),
+            (b"stable_in_view", standing.stable()),
+            (b"outstanding_sends", kept.waits() as u64),
+            (b"waiting_writes", standing.writes.len() as u64),
+            (b"waiting_for_locks", kept.queued() as u64),
+            (b"connections", standing.clients as u64),
+            (items_of(kept.keeps()), kept.len() as u64),
+            (b"views", counts.views),
+            (b"merges", counts.merges),
+            (b"suspicions", counts.lost),
+        ],
+    )
 }
 
 /// The status as JSON.
 pub(crate) fn status(alloc: Global, standing: &Standing<'_>) -> Result<Vec<u8>, AllocError> {
     let mut out = Vec::new(alloc);
-    put_quoted(&mut out, b"{\"address\":", &standing.own)?;
-    put(&mut out, b",\"keeps\":\"")?;
-    put(&mut out, name_of(standing.kept.keeps()))?;
-    put(&mut out, b"\"")?;
+    put_parts(
+        &mut out,
+        &[
+            Part::Text(b"{\"address\":\""),
+            Part::Address(standing.own),
+            Part::Text(b"\",\"keeps\":\""),
+            Part::Text(name_of(standing.kept.keeps())),
+            Part::Text(b"\""),
+        ],
+    )?;
     put_members(&mut out, standing)?;
     put_blocked(&mut out, standing)?;
     put_counts(&mut out, standing)?;
     put_seen(&mut out, standing)?;
-    put_field(&mut out, b"uptime_ms", milliseconds(standing.uptime))?;
-    put(&mut out, b",\"build\":\"vsync, packets of version")?;
-    put_number(&mut out, b' ', u64::from(VERSION))?;
-    put(&mut out, b"\"}\n")?;
+    put_parts(
+        &mut out,
+        &[
+            Part::Text(b",\"uptime_ms\":"),
+            Part::Number(milliseconds(standing.uptime)),
+            Part::Text(b",\"build\":\"vsync, packets of version "),
+            Part::Number(u64::from(VERSION)),
+            Part::Text(b"\"}\n"),
+        ],
+    )?;
     Ok(out)
 }

@@ -1,16 +1,13 @@
 //! Which rule a packet has, by its kind.
 
-ghost use Rattle.std.specs.Prelude.{◌≡◌, ◌+◌, Some, Ok, Err, OnOk, true, false};
-ghost use Rattle.address.specs.declared.limits.TheConstants.{WINDOW};
+ghost use Rattle.std.specs.Prelude.{◌≡◌, Ok, MatchResult, true, false};
 ghost use Rattle.address.specs.Ids.{same_address};
 ghost use Rattle.law_acts.specs.Acts.{packet};
-ghost use Rattle.step_output.specs.Calm.{IsCalm};
 ghost use Rattle.membership.specs.declared.stop.Stop.TheVariants as stop;
 ghost use Rattle.membership.specs.MemberStates.{IsMemberState, is_connected};
 ghost use Rattle.membership.specs.Changes.{StaysAs};
-ghost use Rattle.membership.specs.Doing.{Did};
 ghost use Rattle.member_messages.specs.Ordered.{IsOrdered};
-ghost use Rattle.member.specs.Hearing.{FollowsRule, ignores, is_unreadable_by};
+ghost use Rattle.member.specs.Hearing.{Hears, ignores, is_unreadable_by};
 ghost use Rattle.step_output.specs.Steps.{who_of};
 ghost use Rattle.membership.specs.InSteps.{in_step};
 
@@ -35,12 +32,9 @@ pub(crate) fn hear<R: Receiver>(
     requires ordered { IsOrdered who.now.address member_state.old }
     requires connected { is_connected member_state.old ≡ true }
     requires other { same_address source who.now.address ≡ false }
-    ensures member_state { OnOk result (IsMemberState (who_of who.now) member_state.new) }
-    ensures ordered { OnOk result (IsOrdered who.now.address member_state.new) }
-    ensures does { OnOk result (FollowsRule R.meaning (who_of who.now) source body.now (in_step member_state.old out.old) (in_step member_state.new out.new)) }
-    ensures did { OnOk result (Did R.meaning (Some (packet source body.now who.now.address)) (who_of who.now) (in_step member_state.old out.old) (in_step member_state.new out.new)) }
-    ensures calm { OnOk result (IsCalm (WINDOW + 3) out.old out.new) }
-    ensures unreadable { result ≡ Err stop.Unreadable → is_unreadable_by R.meaning who.now.address member_state.old (packet source body.now who.now.address) ≡ true }
+    ensures hears { MatchResult result
+        (λ _. Hears R.meaning (who_of who.now) source body.now (in_step member_state.old out.old) (in_step member_state.new out.new))
+        (λ e. e ≡ stop.Unreadable → is_unreadable_by R.meaning who.now.address member_state.old (packet source body.now who.now.address) ≡ true) }
     ensures ignored { ignores who.now.address source body.now member_state.old ≡ true → (result ≡ Ok tt) × StaysAs (in_step member_state.old out.old) (in_step member_state.new out.new) }
 {
     match body {

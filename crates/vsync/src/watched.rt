@@ -4,7 +4,7 @@ ghost use Rattle.std.specs.Prelude.{◌≡◌, [], None, IfOk};
 ghost use Rattle.std.specs.Option.{ForSome};
 
 use crate::http_lines::Stable;
-use address::{Address, Node};
+use address::{Address, Node, ViewId};
 use std::alloc::{AllocError, Global};
 use std::fs;
 use std::random::RandomSource;
@@ -12,6 +12,7 @@ use std::rt::Files;
 use std::time::{Clock, Duration};
 use udp_net::{BindError, Net, NodePort};
 use udp_runs::{Loopback, NodeMachine, NodeNet, NodeStatus, Notice, Tally};
+use vsync_text::{Part, put, put_address, put_number, put_parts};
 
 /// This machine, which says on the standard error what whoever looks after a node should know, and writes the node's status to a file where it is given one (docs/CLI.md, "Nodes over UDP").
 pub(crate) struct Watched<'a, 'b, R> {
@@ -44,29 +45,34 @@ impl<R> Drop for Watched<'_, '_, R> {
     }
 }
 
-// Appends a text.
-fn put(text: &mut Vec<u8>, more: &str) -> Result<(), AllocError> {
-    text.extend_from_slice(more.as_bytes())
-}
-
-// Appends a line of a word and a value.
-fn put_value<V: std::fmt::Display + Drop>(
+// Appends the lines of the view: its id, its members and its coordinator.
+fn put_view(
     text: &mut Vec<u8>,
-    word: &str,
-    value: V,
+    view: Option<ViewId>,
+    members: &[Address],
 ) -> Result<(), AllocError> {
-    let line = format!(in *text.allocator(); "{word} {value}\n")?;
-    put(text, line.as_str())
-}
-
-// Appends a line of a word and addresses.
-fn put_addresses(text: &mut Vec<u8>, word: &str, addresses: &[Address]) -> Result<(), AllocError> {
-    put(text, word)?;
-    for address in addresses {
-        let shown = format!(in *text.allocator(); " {address}")?;
-        put(text, shown.as_str())?;
+    let Some(view) = view else {
+        return put(text, b"view\nmembers\ncoordinator\n");
+    };
+    put_parts(
+        text,
+        &[
+            Part::Text(b"view "),
+            Part::View(view),
+            Part::Text(b"\nmembers"),
+        ],
+    )?;
+    for address in members {
+        put_address(text, b' ', address)?;
     }
-    put(text, "\n")
+    put_parts(
+        text,
+        &[
+            Part::Text(b"\ncoordinator "),
+            Part::Address(view.creator()),
+            Part::Text(b"\n"),
+        ],
+    )
 }
 
 // Appends the line of the other nodes at which there is no member of the view.
@@ -76,16 +82,29 @@ fn put_sought(
     own: Node,
     members: &[Address],
 ) -> Result<(), AllocError> {
-    put(text, "sought")?;
+    put(text, b"sought")?;
     for place in nodes {
         let is_there = members.iter().any(|member| member.node() == place.node);
         if place.node != own && !is_there {
-            let node = place.node;
-            let shown = format!(in *text.allocator(); " {node}")?;
-            put(text, shown.as_str())?;
+            put_number(text, b' ', u64::from(place.node.number()))?;
         }
     }
-    put(text, "\n")
+    put(text, b"\n")
+}
+
+// Appends the line of how long the member is blocked.
+fn put_blocked(text: &mut Vec<u8>, blocked: Option<Duration>) -> Result<(), AllocError> {
+    match blocked {
+        Some(time) => put_parts(
+            text,
+            &[
+                Part::Text(b"blocked "),
+                Part::Number(time.as_secs()),
+                Part::Text(b"\n"),
+            ],
+        ),
+        None => put(text, b"blocked\n"),
+    }
 }
 
 // The text of a status.
@@ -96,23 +115,35 @@ fn status_text(
     members: &[Address],
 ) -> Result<Vec<u8>, AllocError> {
     let mut text = Vec::new(alloc);
-    put_value(&mut text, "address", status.address)?;
-    match status.view {
-        Some(view) => {
-            put_value(&mut text, "view", view)?;
-            put_addresses(&mut text, "members", members)?;
-            put_value(&mut text, "coordinator", view.creator())?;
-        }
-        None => put(&mut text, "view\nmembers\ncoordinator\n")?,
-    }
-    match status.blocked {
-        Some(time) => put_value(&mut text, "blocked", time.as_secs())?,
-        None => put(&mut text, "blocked\n")?,
-    }
-    put_value(&mut text, "outstanding", status.outstanding)?;
-    put_value(&mut text, "stable", status.stable)?;
+    put_parts(
+        &mut text,
+        &[
+            Part::Text(b"address "),
+            Part::Address(status.address),
+            Part::Text(b"\n"),
+        ],
+    )?;
+    put_view(&mut text, status.view, members)?;
+    put_blocked(&mut text, status.blocked)?;
+    put_parts(
+        &mut text,
+        &[
+            Part::Text(b"outstanding "),
+            Part::Number(status.outstanding),
+            Part::Text(b"\nstable "),
+            Part::Number(status.stable),
+            Part::Text(b"\n"),
+        ],
+    )?;
     put_sought(&mut text, nodes, status.address.node(), members)?;
-    put_value(&mut text, "strange", status.strange)?;
+    put_parts(
+        &mut text,
+        &[
+            Part::Text(b"strange "),
+            Part::Number(status.strange),
+            Part::Text(b"\n"),
+        ],
+    )?;
     Ok(text)
 }
 

@@ -2,3 +2,4 @@ pub mod TraceText
 pub mod Runs
 pub mod Writing
 pub mod PacketText
+pub mod Parts

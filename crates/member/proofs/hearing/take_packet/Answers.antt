@@ -6,11 +6,11 @@ use Rattle.member.proofs.hearing.take_packet.Goals as goal
 
 pub returns-in_ok-hear-clause-did : goal.returns-in_ok-hear-clause-did
 returns-in_ok-hear-clause-did g c =
-    take-did g.R.Receiver.meaning c.args.who.now.address c.args.who.now.group c.args.packet.now.source c.args.packet.now.body _ (handed g.R.Receiver.meaning c.args.who.now.address c.args.who.now.group c.args.member_state.now c.args.packet.now (sym c.is_handed.ensures ∙ c.if-is_handed.true)).0 c.args.member_state.now c.hear.new.member_state c.args.out.now c.hear.new.out c.in_ok-hear.ensures.did
+    take-did g.R.Receiver.meaning c.args.who.now.address c.args.who.now.group c.args.packet.now.source c.args.packet.now.body _ (handed g.R.Receiver.meaning c.args.who.now.address c.args.who.now.group c.args.member_state.now c.args.packet.now (sym c.is_handed.ensures ∙ c.if-is_handed.true)).0 c.args.member_state.now c.hear.new.member_state c.args.out.now c.hear.new.out c.in_ok-hear.ensures.hears.did
 
 pub returns-in_ok-hear-clause-connected : goal.returns-in_ok-hear-clause-connected
 returns-in_ok-hear-clause-connected g c =
-    stays-connected g.R.Receiver.meaning c.args.who.now.address c.args.who.now.group _ c.args.member_state.now c.hear.new.member_state c.args.out.now c.hear.new.out (handed g.R.Receiver.meaning c.args.who.now.address c.args.who.now.group c.args.member_state.now c.args.packet.now (sym c.is_handed.ensures ∙ c.if-is_handed.true)).1 c.in_ok-hear.ensures.did
+    stays-connected g.R.Receiver.meaning c.args.who.now.address c.args.who.now.group _ c.args.member_state.now c.hear.new.member_state c.args.out.now c.hear.new.out (handed g.R.Receiver.meaning c.args.who.now.address c.args.who.now.group c.args.member_state.now c.args.packet.now (sym c.is_handed.ensures ∙ c.if-is_handed.true)).1 c.in_ok-hear.ensures.hears.did
 
 pub returns-in_ok-hear-clause-ignored : goal.returns-in_ok-hear-clause-ignored
 returns-in_ok-hear-clause-ignored g c =
