@@ -3,15 +3,21 @@
 use crate::CHANGES;
 use crate::history::{Tag, put_tag};
 use std::alloc::{AllocError, Global};
-use std::collections::VecDeque;
 
-/// The last changes of the map, each with the place behind which it stands.
+// A change: the place behind which it stands, and its key.
+#[derive(Drop)]
+struct Change {
+    tag: Tag,
+    key: Vec<u8>,
+}
+
+/// The last changes of the map.
 pub(crate) struct Changes {
     alloc: Global,
     // The place behind which they begin, and the one of the last.
     first: Option<Tag>,
     last: Option<Tag>,
-    log: VecDeque<(Tag, Vec<u8>)>,
+    log: Vec<Change>,
 }
 
 impl Drop for Changes {
@@ -42,7 +48,7 @@ impl Changes {
             alloc,
             first: None,
             last: None,
-            log: VecDeque::new(alloc),
+            log: Vec::new(alloc),
         }
     }
 
@@ -61,11 +67,14 @@ impl Changes {
     /// A key changed.
     pub(crate) fn note(&mut self, tag: Tag, key: Vec<u8>) -> Result<(), AllocError> {
         if self.log.len() >= CHANGES {
-            if let Some((gone, _key)) = self.log.pop_front() {
-                self.first = Some(gone);
-            }
+            let oldest = self.log.remove(0);
+            self.first = Some(oldest.tag.copied());
         }
-        self.log.push_back((tag.copied(), key))?;
+        let change = Change {
+            tag: tag.copied(),
+            key,
+        };
+        self.log.push(change)?;
         self.last = Some(tag);
         Ok(())
     }
@@ -90,13 +99,22 @@ impl Changes {
             }
         }
         let mut index = 0usize;
-        for (tag, _key) in self.log.iter() {
+        for change in self.log.iter() {
             index = index.saturating_add(1);
-            if self.names(tag, text)? {
+            if self.names(&change.tag, text)? {
                 return Ok(Some(index));
             }
         }
         Ok(None)
+    }
+
+    // The keys of the changes from one on.
+    fn keys_from(&self, index: usize) -> Result<Vec<Vec<u8>>, AllocError> {
+        let mut keys = Vec::new(self.alloc);
+        for change in self.log.as_slice().get(index..).unwrap_or(&[]) {
+            keys.push(Vec::from_slice(self.alloc, change.key.as_slice())?)?;
+        }
+        Ok(keys)
     }
 
     /// What changed behind the place that a text names.
@@ -109,10 +127,6 @@ impl Changes {
         let Some(index) = self.index_of(text)? else {
             return Ok(Since::Unknown);
         };
-        let mut keys = Vec::new(self.alloc);
-        for (_tag, key) in self.log.iter().skip(index) {
-            keys.push(Vec::from_slice(self.alloc, key.as_slice())?)?;
-        }
-        Ok(Since::Keys(keys))
+        Ok(Since::Keys(self.keys_from(index)?))
     }
 }

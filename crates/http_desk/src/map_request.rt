@@ -61,14 +61,13 @@ fn put_versioned<'a>(
 
 // Adds the line that says a command: a word and fields, each behind a space.
 fn put_command<'a>(line: &mut Vec<u8>, command: &Command<'a>) -> Result<(), AllocError> {
-    let space = Part::Text(b" ");
     match command {
         Command::Put { key, value, .. } => put_parts(
             line,
             &[
                 Part::Text(b"put "),
                 Part::Text(key.as_slice()),
-                space,
+                Part::Text(b" "),
                 Part::Text(value.as_slice()),
             ],
         ),
@@ -90,9 +89,9 @@ fn put_command<'a>(line: &mut Vec<u8>, command: &Command<'a>) -> Result<(), Allo
                 &[
                     Part::Text(b"replace "),
                     Part::Text(key.as_slice()),
-                    space,
+                    Part::Text(b" "),
                     Part::Text(expected),
-                    space,
+                    Part::Text(b" "),
                     Part::Text(value.as_slice()),
                 ],
             )
@@ -105,7 +104,7 @@ fn put_command<'a>(line: &mut Vec<u8>, command: &Command<'a>) -> Result<(), Allo
             ..
         } => {
             put_versioned(line, b"replace_at", key.as_slice(), version.token())?;
-            put_parts(line, &[space, Part::Text(value.as_slice())])
+            put_parts(line, &[Part::Text(b" "), Part::Text(value.as_slice())])
         }
         Command::RemoveAt { version, key } => {
             put_versioned(line, b"remove_at", key.as_slice(), version.token())

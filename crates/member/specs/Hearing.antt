@@ -12,17 +12,15 @@ use Rattle.law_acts.specs.Decisions.{is_readable}
 use Rattle.law_acts.specs.Acts.{packet}
 use Rattle.membership.specs.declared.member_state.MemberState.{MemberState}
 use Rattle.wire_values.specs.Kinds.{install_said}
-use Rattle.membership.specs.MemberStates.{IsMemberState, would_hold}
-use Rattle.membership.specs.Doing.{Did}
+use Rattle.membership.specs.MemberStates.{would_hold}
 use Rattle.membership.specs.Changes.{TakesInstall, TakesChunk, would_enter}
 use Rattle.state_chunks.specs.HeldChunks.{given_in}
 use Rattle.member_messages.specs.Heard.{takes_forward, takes_nak, takes_ack, takes_order, takes_status}
-use Rattle.member_messages.specs.Ordered.{IsOrdered}
+use Rattle.member_messages.specs.Ordered.{HearsBy}
 use Rattle.member_messages.specs.Messages.{OnForward, OnAck, OnNak, OnOrder, OnStatus}
 use Rattle.member_views.specs.Views.{OnJoin, OnRedirect, OnSuspect, OnFlush, OnBehind, OnReport, OnMerge, is_suspectable, is_proposing}
 use Rattle.member_views.specs.Ignoring.{is_misdirected, is_flush_ignored, is_report_ignored, is_merge_ignored}
 use Rattle.step_output.specs.Steps.{Who}
-use Rattle.step_output.specs.Calm.{IsCalm}
 use Rattle.membership.specs.InSteps.{InStep}
 
 -- each kind of packet by its rule; source is who put it out
@@ -43,12 +41,8 @@ FollowsRule meaning who source (bodies.Merge view) old new = OnMerge meaning who
 FollowsRule meaning who source (bodies.State proposal chunk) old new = TakesChunk source proposal chunk old new
 
 -- it follows the rule of the kind by acts, and is afterwards what a member is between its calls; few events come of it
-pub record Hears {S : Type 0} (meaning : Meaning S) (who : Who) (source : Address) (body : Body) (old new : InStep S) : Type 0 where
-  pub member_state : IsMemberState who new.member
-  pub ordered : IsOrdered who.address new.member
-  pub does : FollowsRule meaning who source body old new
-  pub did : Did meaning (Some (packet source body who.address)) who old new
-  pub calm : IsCalm (WINDOW + 3) old.out new.out
+abbrev pub Hears : {S : Type 0} → Meaning S → Who → Address → Body → InStep S → InStep S → Type 0
+Hears meaning who source body old new = HearsBy meaning who (Some (packet source body who.address)) (WINDOW + 3) (FollowsRule meaning who source body) old new
 
 -- whether the rule of its kind ignores a packet
 abbrev pub ignores : {S : Type 0} → Address → Address → Body → MemberState S → Bool

@@ -5,10 +5,8 @@ ghost use Rattle.address.specs.declared.limits.TheConstants.{WINDOW};
 ghost use Rattle.address.specs.Ids.{same_address};
 ghost use Rattle.wire_values.specs.declared.packet.Body.TheVariants as bodies;
 ghost use Rattle.law_acts.specs.Acts.{packet};
-ghost use Rattle.step_output.specs.Calm.{IsCalm};
 ghost use Rattle.membership.specs.MemberStates.{IsMemberState};
-ghost use Rattle.membership.specs.Doing.{Did};
-ghost use Rattle.member_messages.specs.Ordered.{IsOrdered};
+ghost use Rattle.member_messages.specs.Ordered.{HearsBy, IsOrdered};
 ghost use Rattle.member_messages.specs.Heard.{takes_forward, takes_ack, takes_nak};
 ghost use Rattle.member_messages.specs.Messages.{OnForward, OnAck, OnNak};
 ghost use Rattle.membership.specs.Changes.{StaysAs};
@@ -38,11 +36,7 @@ pub fn on_forward<R: Receiver>(
     requires member_state { IsMemberState (who_of who.now) member_state.old }
     requires ordered { IsOrdered who.now.address member_state.old }
     requires other { same_address source.now who.now.address ≡ false }
-    ensures member_state { OnOk result (IsMemberState (who_of who.now) member_state.new) }
-    ensures ordered { OnOk result (IsOrdered who.now.address member_state.new) }
-    ensures does { OnOk result (OnForward R.meaning (who_of who.now) source.now view number payload.now (in_step member_state.old out.old) (in_step member_state.new out.new)) }
-    ensures did { OnOk result (Did R.meaning (Some (packet source.now (bodies.Forward view number payload.now) who.now.address)) (who_of who.now) (in_step member_state.old out.old) (in_step member_state.new out.new)) }
-    ensures calm { OnOk result (IsCalm WINDOW out.old out.new) }
+    ensures hears { OnOk result (HearsBy R.meaning (who_of who.now) (Some (packet source.now (bodies.Forward view number payload.now) who.now.address)) WINDOW (OnForward R.meaning (who_of who.now) source.now view number payload.now) (in_step member_state.old out.old) (in_step member_state.new out.new)) }
     ensures ignored { takes_forward source.now view member_state.old ≡ false → (result ≡ Ok tt) × StaysAs (in_step member_state.old out.old) (in_step member_state.new out.new) }
 {
     if !takes_forward(member_state, source, view) {
@@ -77,11 +71,7 @@ pub fn on_ack<R: Receiver>(
     requires member_state { IsMemberState (who_of who.now) member_state.old }
     requires ordered { IsOrdered who.now.address member_state.old }
     requires other { same_address source.now who.now.address ≡ false }
-    ensures member_state { OnOk result (IsMemberState (who_of who.now) member_state.new) }
-    ensures ordered { OnOk result (IsOrdered who.now.address member_state.new) }
-    ensures does { OnOk result (OnAck R.meaning (who_of who.now) source.now view delivered (in_step member_state.old out.old) (in_step member_state.new out.new)) }
-    ensures did { OnOk result (Did R.meaning (Some (packet source.now (bodies.Ack view delivered) who.now.address)) (who_of who.now) (in_step member_state.old out.old) (in_step member_state.new out.new)) }
-    ensures calm { OnOk result (IsCalm WINDOW out.old out.new) }
+    ensures hears { OnOk result (HearsBy R.meaning (who_of who.now) (Some (packet source.now (bodies.Ack view delivered) who.now.address)) WINDOW (OnAck R.meaning (who_of who.now) source.now view delivered) (in_step member_state.old out.old) (in_step member_state.new out.new)) }
     ensures ignored { takes_ack source.now view delivered member_state.old ≡ false → (result ≡ Ok tt) × StaysAs (in_step member_state.old out.old) (in_step member_state.new out.new) }
 {
     let count = delivered.get();
@@ -110,11 +100,7 @@ pub fn on_nak<R: Receiver>(
     requires member_state { IsMemberState (who_of who.now) member_state.old }
     requires ordered { IsOrdered who.now.address member_state.old }
     requires other { same_address source.now who.now.address ≡ false }
-    ensures member_state { OnOk result (IsMemberState (who_of who.now) member_state.new) }
-    ensures ordered { OnOk result (IsOrdered who.now.address member_state.new) }
-    ensures does { OnOk result (OnNak (who_of who.now) source.now view missing (in_step member_state.old out.old) (in_step member_state.new out.new)) }
-    ensures did { OnOk result (Did R.meaning (Some (packet source.now (bodies.Nak view missing) who.now.address)) (who_of who.now) (in_step member_state.old out.old) (in_step member_state.new out.new)) }
-    ensures calm { OnOk result (IsCalm WINDOW out.old out.new) }
+    ensures hears { OnOk result (HearsBy R.meaning (who_of who.now) (Some (packet source.now (bodies.Nak view missing) who.now.address)) WINDOW (OnNak (who_of who.now) source.now view missing) (in_step member_state.old out.old) (in_step member_state.new out.new)) }
     ensures ignored { takes_nak source.now view member_state.old ≡ false → (result ≡ Ok tt) × StaysAs (in_step member_state.old out.old) (in_step member_state.new out.new) }
 {
     if !takes_forward(member_state, source, view) {

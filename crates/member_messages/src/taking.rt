@@ -5,10 +5,8 @@ ghost use Rattle.address.specs.declared.limits.TheConstants.{WINDOW};
 ghost use Rattle.address.specs.Ids.{same_address};
 ghost use Rattle.wire_values.specs.declared.packet.Body.TheVariants as bodies;
 ghost use Rattle.law_acts.specs.Acts.{packet};
-ghost use Rattle.step_output.specs.Calm.{IsCalm};
 ghost use Rattle.membership.specs.MemberStates.{IsMemberState};
-ghost use Rattle.membership.specs.Doing.{Did};
-ghost use Rattle.member_messages.specs.Ordered.{IsOrdered};
+ghost use Rattle.member_messages.specs.Ordered.{HearsBy, IsOrdered};
 ghost use Rattle.member_messages.specs.Heard.{takes_order, takes_status};
 ghost use Rattle.member_messages.specs.Messages.{OnOrder, OnStatus};
 ghost use Rattle.membership.specs.Changes.{StaysAs};
@@ -38,11 +36,7 @@ pub fn on_order<R: Receiver>(
     requires member_state { IsMemberState (who_of who.now) member_state.old }
     requires ordered { IsOrdered who.now.address member_state.old }
     requires other { same_address source.now who.now.address ≡ false }
-    ensures member_state { OnOk result (IsMemberState (who_of who.now) member_state.new) }
-    ensures ordered { OnOk result (IsOrdered who.now.address member_state.new) }
-    ensures does { OnOk result (OnOrder R.meaning (who_of who.now) source.now view place entry.now (in_step member_state.old out.old) (in_step member_state.new out.new)) }
-    ensures did { OnOk result (Did R.meaning (Some (packet source.now (bodies.Order view place entry.now) who.now.address)) (who_of who.now) (in_step member_state.old out.old) (in_step member_state.new out.new)) }
-    ensures calm { OnOk result (IsCalm WINDOW out.old out.new) }
+    ensures hears { OnOk result (HearsBy R.meaning (who_of who.now) (Some (packet source.now (bodies.Order view place entry.now) who.now.address)) WINDOW (OnOrder R.meaning (who_of who.now) source.now view place entry.now) (in_step member_state.old out.old) (in_step member_state.new out.new)) }
     ensures ignored { takes_order source.now view place member_state.old ≡ false → (result ≡ Ok tt) × StaysAs (in_step member_state.old out.old) (in_step member_state.new out.new) }
 {
     if !takes_order(member_state, source, view, place) {
@@ -70,11 +64,7 @@ pub fn on_status<R: Receiver>(
     requires member_state { IsMemberState (who_of who.now) member_state.old }
     requires ordered { IsOrdered who.now.address member_state.old }
     requires other { same_address source.now who.now.address ≡ false }
-    ensures member_state { OnOk result (IsMemberState (who_of who.now) member_state.new) }
-    ensures ordered { OnOk result (IsOrdered who.now.address member_state.new) }
-    ensures does { OnOk result (OnStatus (who_of who.now) source.now view progress (in_step member_state.old out.old) (in_step member_state.new out.new)) }
-    ensures did { OnOk result (Did R.meaning (Some (packet source.now (bodies.Status view progress) who.now.address)) (who_of who.now) (in_step member_state.old out.old) (in_step member_state.new out.new)) }
-    ensures calm { OnOk result (IsCalm WINDOW out.old out.new) }
+    ensures hears { OnOk result (HearsBy R.meaning (who_of who.now) (Some (packet source.now (bodies.Status view progress) who.now.address)) WINDOW (OnStatus (who_of who.now) source.now view progress) (in_step member_state.old out.old) (in_step member_state.new out.new)) }
     ensures ignored { takes_status source.now view progress member_state.old ≡ false → (result ≡ Ok tt) × StaysAs (in_step member_state.old out.old) (in_step member_state.new out.new) }
 {
     if !takes_status(member_state, source, view, progress) {

@@ -1,9 +1,9 @@
 //! Long bursts over sockets of this machine: they come in pieces, and in order.
 
-use crate::lines::{put_number, put_truth};
-use crate::sockets::{bound, free_settings};
-use address::Node;
-use std::alloc::{AllocError, Global};
+use crate::lines::Told;
+use crate::sockets::first_two;
+use crate::stories::first_at;
+use std::alloc::AllocError;
 use udp_net::{Net, SocketNet};
 
 /// How long each datagram is, in bytes.
@@ -12,14 +12,63 @@ const LENGTH: usize = 32_768;
 /// The most turns that are waited for.
 const TURNS: u64 = 100;
 
-/// The nets of nodes 1 and 2.
+/// What came to node 2.
+#[derive(Clone, Copy)]
+struct Came {
+    // How many datagrams, the number of the last one, and whether each has a greater one than that before it.
+    datagrams: u64,
+    last: u8,
+    are_in_order: bool,
+    // How many came before the first turn of the sender, and how many turns it had.
+    first: u64,
+    turns: u64,
+}
+
+impl Came {
+    // Nothing yet.
+    fn new() -> Came {
+        Came {
+            datagrams: 0,
+            last: 0,
+            are_in_order: true,
+            first: 0,
+            turns: 0,
+        }
+    }
+
+    // Counts a datagram with this number.
+    fn count(&mut self, number: u8) {
+        let is_next = self.datagrams == 0 || self.last < number;
+        self.are_in_order = self.are_in_order && is_next;
+        self.datagrams = self.datagrams.wrapping_add(1);
+        self.last = number;
+    }
+
+    // Counts a turn of the sender.
+    fn turn(&mut self) {
+        if self.turns == 0 {
+            self.first = self.datagrams;
+        }
+        self.turns = self.turns.wrapping_add(1);
+    }
+
+    // Tells it.
+    fn put(&self, told: &mut Told) {
+        told.number("datagrams that came", self.datagrams);
+        told.truth("in order, and none twice", self.are_in_order);
+        told.number("in the first turn", self.first);
+        told.number("turns", self.turns);
+    }
+}
+
+/// The nets of nodes 1 and 2, what node 1 offers, and what came to node 2.
 struct Pair {
     from: SocketNet,
     to: SocketNet,
+    // Zeros behind its number.
+    datagram: Vec<u8>,
     buffer: Vec<u8>,
-    // The numbers of the datagrams that came, and how many came before each turn of the sender.
-    came: Vec<u8>,
-    turns: Vec<usize>,
+    came: Came,
 }
 
 impl Drop for Pair {
@@ -27,67 +76,51 @@ impl Drop for Pair {
         let Pair {
             from: _,
             to: _,
+            datagram: _,
             buffer: _,
             came: _,
-            turns: _,
         } = self;
     }
 }
 
 /// The nets, at free ports.
 fn nets(rt: &HostRuntime) -> Result<Pair, AllocError> {
-    let settings = free_settings(rt)?;
-    let alloc = rt.alloc();
-    match (bound(rt, &settings, 1), bound(rt, &settings, 2)) {
-        (Ok(from), Ok(to)) => Ok(Pair {
-            from,
-            to,
-            buffer: vec![in alloc; 0; LENGTH]?,
-            came: Vec::new(alloc),
-            turns: Vec::new(alloc),
-        }),
-        _ => Err(AllocError),
-    }
-}
-
-// A datagram of zeros, with its number as its first byte.
-fn numbered(alloc: Global, number: u8) -> Result<Vec<u8>, AllocError> {
-    let mut datagram = vec![in alloc; 0; LENGTH]?;
-    if let Some(first) = datagram.as_mut_slice().first_mut() {
-        *first = number;
-    }
-    Ok(datagram)
+    let datagram = vec![in rt.alloc(); 0; LENGTH]?;
+    let buffer = vec![in rt.alloc(); 0; LENGTH]?;
+    let (from, to) = first_two(rt)?;
+    Ok(Pair {
+        from,
+        to,
+        datagram,
+        buffer,
+        came: Came::new(),
+    })
 }
 
 impl Pair {
-    // Offers a datagram for node 2.
-    fn send(&mut self, datagram: &[u8]) {
-        if let Some(node) = Node::new(2) {
-            self.from.send(node, datagram);
-        }
-    }
-
     // Offers so many datagrams for node 2.
-    fn offer(&mut self, alloc: Global, count: u8) -> Result<(), AllocError> {
+    fn offer(&mut self, count: u8) {
         for number in 0..count {
-            self.send(numbered(alloc, number)?.as_slice());
+            if let Some(first) = self.datagram.first_mut() {
+                *first = number;
+            }
+            self.from.send(first_at(2).node(), self.datagram.as_slice());
         }
-        Ok(())
     }
 
     // Takes what came to node 2; whether anything did.
-    fn take(&mut self) -> Result<bool, AllocError> {
-        let before = self.came.len();
+    fn take(&mut self) -> bool {
+        let before = self.came.datagrams;
         for _ in 0..u16::MAX {
             match self.to.receive(self.buffer.as_mut_slice()) {
                 Ok(Some(_)) => {
                     let number = self.buffer.first().copied().unwrap_or(0);
-                    self.came.push(number)?;
+                    self.came.count(number);
                 }
                 _ => break,
             }
         }
-        Ok(self.came.len() > before)
+        self.came.datagrams > before
     }
 
     // Node 1 takes a datagram that came to it; whether there was one.
@@ -105,71 +138,59 @@ impl Pair {
     }
 
     // Turns of node 1, until nothing comes of one; node 2 says a word in each.
-    fn turns(&mut self) -> Result<(), AllocError> {
-        let node = Node::new(1).ok_or(AllocError)?;
+    fn turns(&mut self) {
         for _ in 0..TURNS {
-            let has_come = self.take()?;
-            if !has_come {
+            if !self.take() {
                 break;
             }
-            self.turns.push(self.came.len())?;
-            self.to.send(node, b"more");
+            self.came.turn();
+            self.to.send(first_at(1).node(), b"more");
             self.turn();
         }
-        Ok(())
-    }
-
-    // Tells what came.
-    fn put(&self, told: &mut Vec<u8>) -> Result<(), AllocError> {
-        let came = self.came.as_slice();
-        put_number(told, "datagrams that came", came.len() as u64)?;
-        let are_in_order = came.windows(2).all(|pair| pair.first() < pair.last());
-        put_truth(told, "in order, and none twice", are_in_order)?;
-        let first = self.turns.first().copied().unwrap_or(0);
-        put_number(told, "in the first turn", first as u64)?;
-        put_number(told, "turns", self.turns.len() as u64)
     }
 }
 
 /// As many datagrams as a long state has.
-pub fn once(rt: &HostRuntime, told: &mut Vec<u8>) -> Result<(), AllocError> {
+pub fn once(rt: &HostRuntime, told: &mut Told) -> Result<(), AllocError> {
     let mut pair = nets(rt)?;
-    pair.offer(rt.alloc(), 33)?;
-    pair.turns()?;
-    pair.put(told)
+    pair.offer(33);
+    pair.turns();
+    pair.came.put(told);
+    Ok(())
 }
 
 /// As many datagrams, and all of them again while most are held back: those that went come again behind the others.
-pub fn twice(rt: &HostRuntime, told: &mut Vec<u8>) -> Result<(), AllocError> {
+pub fn twice(rt: &HostRuntime, told: &mut Told) -> Result<(), AllocError> {
     let mut pair = nets(rt)?;
-    pair.offer(rt.alloc(), 33)?;
-    pair.offer(rt.alloc(), 33)?;
-    pair.turns()?;
-    let numbers = pair.came.as_slice();
-    put_number(told, "datagrams that came", numbers.len() as u64)?;
-    let last = numbers.last().copied().unwrap_or(0);
-    put_number(told, "the last", u64::from(last))
+    pair.offer(33);
+    pair.offer(33);
+    pair.turns();
+    told.number("datagrams that came", pair.came.datagrams);
+    told.number("the last", u64::from(pair.came.last));
+    Ok(())
 }
 
 /// As many datagrams, to one from whom nothing comes.
-pub fn unheard(rt: &HostRuntime, told: &mut Vec<u8>) -> Result<(), AllocError> {
+pub fn unheard(rt: &HostRuntime, told: &mut Told) -> Result<(), AllocError> {
     let mut pair = nets(rt)?;
-    pair.offer(rt.alloc(), 33)?;
+    pair.offer(33);
     for _ in 0..100u8 {
         pair.turn();
-        let _ = pair.take()?;
+        let _ = pair.take();
     }
-    put_number(told, "came in 100 turns", pair.came.len() as u64)?;
+    told.number("came in 100 turns", pair.came.datagrams);
     pair.turn();
     pair.turn();
-    let _ = pair.take()?;
-    put_number(told, "came in 102 turns", pair.came.len() as u64)
+    let _ = pair.take();
+    told.number("came in 102 turns", pair.came.datagrams);
+    Ok(())
 }
 
 /// More than is held back.
-pub fn too_long(rt: &HostRuntime, told: &mut Vec<u8>) -> Result<(), AllocError> {
+pub fn too_long(rt: &HostRuntime, told: &mut Told) -> Result<(), AllocError> {
     let mut pair = nets(rt)?;
-    pair.offer(rt.alloc(), 100)?;
-    pair.turns()?;
-    pair.put(told)
+    pair.offer(100);
+    pair.turns();
+    pair.came.put(told);
+    Ok(())
 }

@@ -14,8 +14,8 @@ mod next;
 mod stands;
 mod story;
 mod tally;
-mod told;
 
+use crate::lines::Told;
 use crate::{NOT_BEGUN, OUTSIDE};
 use calls::payloads;
 use catch_up::LEVEL;
@@ -24,19 +24,32 @@ use stands::{Chat, apart};
 use std::alloc::{AllocError, Global};
 use std::io::{self, Write};
 use story::tell;
-use told::Told;
 
 /// A reading of a damaged packet is wrong.
 const WRONG: u8 = 1;
 
-/// The story's lines; an error where memory was refused before it began.
-fn whole_story(alloc: Global) -> Result<Told, AllocError> {
-    let mut told = Told::new(alloc)?;
-    let mut sends = payloads(alloc)?;
+/// How many bytes the lines of the story may have.
+const ROOM: usize = 16_384;
+
+/// Tells the story of 1.1 and 2.1, unless memory is refused before it begins.
+fn tell_of_both(alloc: Global, told: &mut Told, sends: &mut Vec<Vec<u8>>) -> Result<(), AllocError> {
     let mut first: Chat = apart(alloc, 1)?;
     let mut second: Chat = apart(alloc, 2)?;
-    tell(&mut told, &mut sends, &mut first, &mut second);
+    tell(told, sends, &mut first, &mut second);
+    Ok(())
+}
+
+/// The story's lines, for which there is room from the beginning, so that a line takes no memory; an error where memory was refused before it began.
+fn whole_story(alloc: Global) -> Result<Told, AllocError> {
+    let mut told = Told::with_room(alloc, ROOM)?;
+    let mut sends = payloads(alloc)?;
+    tell_of_both(alloc, &mut told, &mut sends)?;
     Ok(told)
+}
+
+/// Prints the story's lines.
+fn print_story(rt: &HostRuntime, told: &Told) -> io::Result<()> {
+    io::writer(rt).write_all(told.text()?)
 }
 
 /// Tells the story of the calls; the exit status.
@@ -44,7 +57,7 @@ pub fn tell_calls(rt: &HostRuntime) -> u8 {
     let Ok(told) = whole_story(rt.alloc()) else {
         return NOT_BEGUN;
     };
-    match io::writer(rt).write_all(told.text()) {
+    match print_story(rt, &told) {
         Ok(()) => 0,
         Err(_) => OUTSIDE,
     }

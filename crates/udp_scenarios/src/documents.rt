@@ -1,10 +1,11 @@
 //! Which texts are settings.
 
 use crate::files::{first_block, first_line};
-use crate::lines::{put_number, put_refusal};
+use crate::lines::Told;
 use address::Node;
 use std::alloc::{AllocError, Global};
 use udp_net::{Settings, settings};
+use vsync_text::Part;
 
 /// The most documents of a file.
 const DOCUMENTS: u8 = 100;
@@ -20,64 +21,71 @@ fn refusal(alloc: Global, text: &[u8]) -> u8 {
     }
 }
 
-/// Adds what a document shows, and how it is refused.
-fn put_document(alloc: Global, told: &mut Vec<u8>, document: &[u8]) -> Result<(), AllocError> {
-    told.extend_from_slice(first_line(document))?;
-    put_refusal(told, "", refusal(alloc, document))
-}
-
-/// The refusal of settings of as many nodes.
-fn of_many(alloc: Global, count: u16) -> Result<u8, AllocError> {
-    let mut text = format!(in alloc; "group = \"chat\"\nsilent = 50\n")?;
-    for before in 0..count {
-        let number = before + 1;
-        let node = format!(in alloc; "[[node]]\nnumber = {number}\nport = {number}\n")?;
-        text.push_str(node.as_str())?;
-    }
-    Ok(refusal(alloc, text.as_bytes()))
-}
-
-/// What settings say.
-fn put_found(told: &mut Vec<u8>, found: &Settings) -> Result<(), AllocError> {
-    told.extend_from_slice(found.group().as_slice())?;
-    put_number(told, ", with rounds of silence", u64::from(found.silent()))?;
-    for listed in found.nodes() {
-        put_number(told, "port of a node", u64::from(listed.port))?;
-    }
-    for number in 1..=3u16 {
-        if let Some(node) = Node::new(number) {
-            let port = found.port(node).unwrap_or(0);
-            put_number(
-                told,
-                "port by the node's number, 0 for none",
-                u64::from(port),
-            )?;
-        }
-    }
-    Ok(())
-}
-
-/// What the settings of nodes 2 and 1 say.
-pub fn found(alloc: Global, told: &mut Vec<u8>) -> Result<(), AllocError> {
-    let text =
-        "group = \"chat\"\nsilent = 50\n[[node]]\nnumber = 2\nport = 27002\n[[node]]\nnumber = 1\nport = 27001\n";
-    match settings(alloc, text) {
-        Ok(found) => put_found(told, &found),
-        Err(error) => put_refusal(told, "settings", error.number()),
-    }
-}
-
-/// How each document of a file is refused, and those of 16 and of 17 nodes.
-pub fn all(alloc: Global, told: &mut Vec<u8>, file: &[u8]) -> Result<(), AllocError> {
+/// Adds what each document of a file shows, and how it is refused.
+fn put_documents(alloc: Global, told: &mut Told, file: &[u8]) {
     let mut rest = file;
     for _ in 0..DOCUMENTS {
         let Some((document, behind)) = first_block(rest) else {
             break;
         };
-        put_document(alloc, told, document)?;
+        told.bytes(first_line(document));
+        told.refusal("", refusal(alloc, document));
         rest = behind;
     }
-    put_refusal(told, "16 nodes", of_many(alloc, 16)?)?;
-    put_refusal(told, "17 nodes", of_many(alloc, 17)?)?;
+}
+
+/// The text of settings of so many nodes, at the ports behind this one.
+pub fn text_of_nodes(alloc: Global, count: u16, port: u16) -> Result<Vec<u8>, AllocError> {
+    let mut text = Told::new(alloc);
+    text.bytes(b"group = \"chat\"\nsilent = 50\n");
+    for before in 0..count {
+        let number = before + 1;
+        text.parts(&[
+            Part::Text(b"[[node]]\nnumber = "),
+            Part::Number(u64::from(number)),
+            Part::Text(b"\nport = "),
+            Part::Number(u64::from(port.wrapping_add(number))),
+            Part::Text(b"\n"),
+        ]);
+    }
+    text.into_text()
+}
+
+/// The refusal of settings of as many nodes.
+fn of_many(alloc: Global, count: u16) -> Result<u8, AllocError> {
+    let text = text_of_nodes(alloc, count, 0)?;
+    Ok(refusal(alloc, text.as_slice()))
+}
+
+/// What settings say.
+fn put_found(told: &mut Told, found: &Settings) {
+    told.bytes(found.group().as_slice());
+    told.number(", with rounds of silence", u64::from(found.silent()));
+    for listed in found.nodes() {
+        told.number("port of a node", u64::from(listed.port));
+    }
+    for number in 1..=3u16 {
+        if let Some(node) = Node::new(number) {
+            let port = found.port(node).unwrap_or(0);
+            told.number("port by the node's number, 0 for none", u64::from(port));
+        }
+    }
+}
+
+/// What the settings of nodes 2 and 1 say.
+pub fn found(alloc: Global, told: &mut Told) {
+    let text =
+        "group = \"chat\"\nsilent = 50\n[[node]]\nnumber = 2\nport = 27002\n[[node]]\nnumber = 1\nport = 27001\n";
+    match settings(alloc, text) {
+        Ok(found) => put_found(told, &found),
+        Err(error) => told.refusal("settings", error.number()),
+    }
+}
+
+/// How each document of a file is refused, and those of 16 and of 17 nodes.
+pub fn all(alloc: Global, told: &mut Told, file: &[u8]) -> Result<(), AllocError> {
+    put_documents(alloc, told, file);
+    told.refusal("16 nodes", of_many(alloc, 16)?);
+    told.refusal("17 nodes", of_many(alloc, 17)?);
     Ok(())
 }

@@ -1,7 +1,7 @@
 //! Four members over nets in memory come into one view, part into two pairs and merge. Each receive fails in turn, and each send: as four runners, whose rounds are counted, and as a script of
 //! nodes, whose trace is judged.
 
-use crate::lines::put_number;
+use crate::lines::Told;
 use crate::{failing_nodes, failing_runners};
 use std::alloc::{AllocError, Global};
 
@@ -31,19 +31,21 @@ impl Tried {
 }
 
 /// Adds what came of a list.
-fn put(text: &mut Vec<u8>, failing: &str, came: Tried) -> Result<(), AllocError> {
-    put_number(text, failing, came.tried)?;
-    put_number(text, "  as it must be", came.passed)
+fn put(told: &mut Told, failing: &str, came: Tried) {
+    told.number(failing, came.tried);
+    told.number("  as it must be", came.passed);
 }
 
 /// Each receive and each send fails in turn: the rounds of four runners.
-pub fn runners(alloc: Global, text: &mut Vec<u8>) -> Result<(), AllocError> {
-    put(text, "each receive", failing_runners::receives(alloc)?)?;
-    put(text, "each send", failing_runners::sends(alloc)?)
+pub fn runners(alloc: Global, told: &mut Told) -> Result<(), AllocError> {
+    put(told, "each receive", failing_runners::receives(alloc)?);
+    put(told, "each send", failing_runners::sends(alloc)?);
+    Ok(())
 }
 
 /// Each receive and each send fails in turn: the trace of a script of four nodes.
-pub fn nodes(alloc: Global, text: &mut Vec<u8>) -> Result<(), AllocError> {
-    put(text, "each receive", failing_nodes::receives(alloc)?)?;
-    put(text, "each send", failing_nodes::sends(alloc)?)
+pub fn nodes(alloc: Global, told: &mut Told) -> Result<(), AllocError> {
+    put(told, "each receive", failing_nodes::receives(alloc)?);
+    put(told, "each send", failing_nodes::sends(alloc)?);
+    Ok(())
 }

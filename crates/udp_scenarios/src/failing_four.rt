@@ -1,6 +1,7 @@
 //! Four runners, and what is counted of their rounds.
 
-use crate::stories::first_at;
+use crate::lines::Told;
+use crate::stories::{first_at, put_events};
 use channel::Channel;
 use chat_log::ChatLog;
 use memory_nets::{Failing, Wire, Wires};
@@ -8,7 +9,6 @@ use state_transfer::Receiver;
 use std::alloc::{AllocError, Global};
 use std::cell::RefCell;
 use udp_member::Runner;
-use vsync_text::append_event;
 
 /// One of the four.
 type Member<'a> = Runner<Wire<'a>, ChatLog>;
@@ -47,7 +47,7 @@ struct Four<'a> {
     alloc: Global,
     wires: &'a RefCell<Wires>,
     members: Vec<Member<'a>>,
-    text: Vec<u8>,
+    told: Told,
     after: Vec<After>,
 }
 
@@ -65,84 +65,121 @@ fn connected(alloc: Global, number: u16) -> Result<Channel<ChatLog>, AllocError>
     }
 }
 
+/// The member of a node.
+fn member(alloc: Global, wires: &RefCell<Wires>, number: u16) -> Result<Member<'_>, AllocError> {
+    let channel = connected(alloc, number)?;
+    let net = Wire::new(wires, first_at(number).node());
+    Runner::new(alloc, net, channel, &[], SILENT)
+}
+
 impl<'a> Four<'a> {
     /// The four, before their first round.
     fn new(alloc: Global, wires: &'a RefCell<Wires>) -> Result<Four<'a>, AllocError> {
         let mut members = Vec::new(alloc);
         for number in 1..=4u16 {
-            let channel = connected(alloc, number)?;
-            let net = Wire::new(wires, first_at(number).node());
-            members.push(Runner::new(alloc, net, channel, &[], SILENT)?)?;
+            members.push(member(alloc, wires, number)?)?;
         }
         Ok(Four {
             alloc,
             wires,
             members,
-            text: Vec::new(alloc),
+            told: Told::new(alloc),
             after: Vec::new(alloc),
         })
     }
 
-    /// A round of one of them.
-    fn round(&mut self, index: usize) -> Result<(), AllocError> {
-        let member = self.members.get_mut(index).ok_or(AllocError)?;
-        let _ = member.round();
-        for _ in 0..100u16 {
-            match member.channel().happened() {
-                Some(event) => append_event(&mut self.text, &event)?,
-                None => break,
-            }
-        }
-        member.offer();
-        let faults = member.faults();
+    /// Counts what there is after a round of one of them, so many of whose receives failed.
+    fn count(&mut self, index: usize, faults: u64) {
         let (sends, receives) = match self.wires.try_borrow() {
             Ok(wires) => (wires.sends, wires.receives),
-            Err(_) => return Err(AllocError),
+            Err(_) => (0, 0),
         };
-        self.after.push(After {
+        let after = After {
             index,
             sends,
             receives,
             faults,
-            length: self.text.len(),
-        })?;
-        Ok(())
+            length: self.told.len(),
+        };
+        if self.after.push(after).is_err() {
+            self.told.refuse();
+        }
+    }
+
+    /// A round of one of them.
+    fn round(&mut self, index: usize) {
+        let Some(member) = self.members.get_mut(index) else {
+            return;
+        };
+        let _ = member.round();
+        put_events(&mut self.told, member.channel());
+        member.offer();
+        let faults = member.faults();
+        self.count(index, faults);
     }
 
     /// Rounds of each, in turn, which are enough for a view to be made.
-    fn rounds(&mut self) -> Result<(), AllocError> {
+    fn rounds(&mut self) {
         for _ in 0..ROUNDS {
             for index in 0..4usize {
-                self.round(index)?;
+                self.round(index);
             }
+        }
+    }
+
+    /// The channel of a node.
+    fn at(&mut self, number: usize) -> Option<&mut Channel<ChatLog>> {
+        match self.members.get_mut(number.saturating_sub(1)) {
+            Some(member) => Some(member.channel()),
+            None => None,
+        }
+    }
+
+    /// The member of a node sends.
+    fn send(&mut self, number: usize, text: &[u8]) -> Result<(), AllocError> {
+        let payload = Vec::from_slice(self.alloc, text)?;
+        if let Some(channel) = self.at(number) {
+            let _ = channel.send(payload);
         }
         Ok(())
     }
 
-    /// The channel of a node.
-    fn at(&mut self, number: usize) -> Result<&mut Channel<ChatLog>, AllocError> {
-        match self.members.get_mut(number.saturating_sub(1)) {
-            Some(member) => Ok(member.channel()),
-            None => Err(AllocError),
+    /// They part into two pairs.
+    fn part(&mut self) {
+        for (number, whom) in [(1, 3), (1, 4), (3, 1), (3, 2)] {
+            if let Some(channel) = self.at(number) {
+                let _ = channel.suspect(first_at(whom));
+            }
+        }
+    }
+
+    /// The pairs are to merge.
+    fn merge(&mut self) {
+        if let Some(channel) = self.at(3) {
+            let _ = channel.merge_hint(first_at(1));
         }
     }
 
     /// They come into one view, part into two pairs, send on each side, and merge.
     fn part_and_merge(&mut self) -> Result<(), AllocError> {
-        self.rounds()?;
-        for (at, whom) in [(1, 3), (1, 4), (3, 1), (3, 2)] {
-            let _ = self.at(at)?.suspect(first_at(whom));
-        }
-        self.rounds()?;
-        let (a, b) = (
-            Vec::from_slice(self.alloc, b"a")?,
-            Vec::from_slice(self.alloc, b"b")?,
-        );
-        let _ = self.at(1)?.send(a);
-        let _ = self.at(3)?.send(b);
-        self.rounds()?;
-        let _ = self.at(3)?.merge_hint(first_at(1));
-        self.rounds()
+        self.rounds();
+        self.part();
+        self.rounds();
+        self.send(1, b"a")?;
+        self.send(3, b"b")?;
+        self.rounds();
+        self.merge();
+        self.rounds();
+        Ok(())
+    }
+
+    /// Their story.
+    fn into_story(self) -> Result<Story, AllocError> {
+        let Four { told, after, .. } = self;
+        Ok(Story {
+            text: told.into_text()?,
+            after,
+        })
     }
 }
 
@@ -151,6 +188,5 @@ pub fn play(alloc: Global, failing: Failing) -> Result<Story, AllocError> {
     let wires = RefCell::new(Wires::failing(alloc, failing));
     let mut four = Four::new(alloc, &wires)?;
     four.part_and_merge()?;
-    let Four { text, after, .. } = four;
-    Ok(Story { text, after })
+    four.into_story()
 }

@@ -1,6 +1,6 @@
 //! A script over nets that list what happens at them.
 
-use crate::lines::{put_number, put_truth};
+use crate::lines::Told;
 use crate::shelf::Shelf;
 use crate::stories::first_at;
 use chat_log::ChatLog;
@@ -13,49 +13,63 @@ use udp_runs::run_udp;
 const APART: &[u8] = b"start 1\ncreate 1\nstart 2\njoin 2 1.1\nrounds 3\n";
 
 /// How many things a net lists, and of how many of these it was an offer.
-fn put_listed(text: &mut Vec<u8>, net: &MemoryNet) -> Result<(), AllocError> {
-    let listed = net.listed().ok_or(AllocError)?;
+fn put_listed(told: &mut Told, net: &MemoryNet) {
+    let Some(listed) = net.listed() else {
+        return told.refuse();
+    };
     let mut offered = 0u64;
     for event in listed {
         if let Listed::Offered(_) = event {
             offered = offered.wrapping_add(1);
         }
     }
-    put_number(text, "listed", listed.len() as u64)?;
-    put_number(text, "offered", offered)
+    told.number("listed", listed.len() as u64);
+    told.number("offered", offered);
 }
 
 /// What the nets list that are given back after a script, by node.
-pub fn all(alloc: Global, text: &mut Vec<u8>) -> Result<(), AllocError> {
+pub fn all(alloc: Global, told: &mut Told) -> Result<(), AllocError> {
     let settings = settings_of(alloc, FOUR)?;
     let mut shelf = Shelf::new(alloc);
     let mut reader = APART;
-    let mut told = Vec::new(alloc);
-    let status = run_udp::<ChatLog, _, _, _>(alloc, &settings, &mut shelf, &mut reader, &mut told);
-    put_number(text, "status", u64::from(status.code()))?;
+    let mut text = Vec::new(alloc);
+    let status = run_udp::<ChatLog, _, _, _>(alloc, &settings, &mut shelf, &mut reader, &mut text);
+    told.code("status", status.code());
     for returned in shelf.returned() {
-        put_listed(text, &returned.net)?;
+        put_listed(told, &returned.net);
     }
     Ok(())
 }
 
-/// What a net with one datagram of two answers where its first receive fails, and what it lists of two sends of which the first fails.
-pub fn failing(alloc: Global, text: &mut Vec<u8>) -> Result<(), AllocError> {
-    let mut net = MemoryNet::new(alloc);
-    net.put(b"hi")?;
+/// Which of the sends were lost that a net lists.
+fn put_lost(told: &mut Told, net: &MemoryNet) {
+    let Some(listed) = net.listed() else {
+        return told.refuse();
+    };
+    for event in listed {
+        if let Some(offered) = event.offered() {
+            told.truth("a send is lost", offered.is_lost);
+        }
+    }
+}
+
+fn put_failing(told: &mut Told, net: &mut MemoryNet) {
     net.fail_receive(1);
     net.fail_send(1);
     let mut buffer = [0; 8];
     for asked in ["the first receive finds a datagram", "the second does"] {
-        put_truth(text, asked, net.receive(&mut buffer) == Ok(Some(2)))?;
+        told.truth(asked, net.receive(&mut buffer) == Ok(Some(2)));
     }
     for _ in 0..2u8 {
         net.send(first_at(1).node(), b"there");
     }
-    for listed in net.listed().ok_or(AllocError)? {
-        if let Some(offered) = listed.offered() {
-            put_truth(text, "a send is lost", offered.is_lost)?;
-        }
-    }
+    put_lost(told, net);
+}
+
+/// What a net with one datagram of two answers where its first receive fails, and what it lists of two sends of which the first fails.
+pub fn failing(alloc: Global, told: &mut Told) -> Result<(), AllocError> {
+    let mut net = MemoryNet::new(alloc);
+    net.put(b"hi")?;
+    put_failing(told, &mut net);
     Ok(())
 }

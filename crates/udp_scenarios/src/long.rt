@@ -1,8 +1,8 @@
 //! A fifth joins four whose state goes in chunks, over sockets of this machine.
 
-use crate::lines::{put_number, put_truth};
-use crate::sockets::{free_settings, run_with};
-use crate::stories::{holds, trace_of};
+use crate::lines::Told;
+use crate::sockets::{free_settings, put_judged, run_with};
+use crate::stories::chats_of;
 use chat_log::LongChat;
 use std::alloc::{AllocError, Global};
 
@@ -11,20 +11,20 @@ const TIMES: u16 = 16;
 
 /// Four come together; 2.1 says the lines; 5.1 joins.
 fn script(alloc: Global) -> Result<Vec<u8>, AllocError> {
-    let mut script = Vec::new(alloc);
-    script.extend_from_slice(
+    let mut script = Told::new(alloc);
+    script.bytes(
         b"start 1\nstart 2\nstart 3\nstart 4\ncreate 1\njoin 2 1.1\njoin 3 1.1\njoin 4 1.1\nrounds 20\n",
-    )?;
+    );
     for _ in 0..TIMES {
         for letter in b'a'..=b'h' {
-            script.extend_from_slice(b"send 2 ")?;
-            script.extend_from_slice(vec![in alloc; letter; 512]?.as_slice())?;
-            script.push(b'\n')?;
+            script.bytes(b"send 2 ");
+            script.bytes(&[letter; 512]);
+            script.bytes(b"\n");
         }
-        script.extend_from_slice(b"rounds 3\n")?;
+        script.bytes(b"rounds 3\n");
     }
-    script.extend_from_slice(b"start 5\njoin 5 1.1\nrounds 20\n")?;
-    Ok(script)
+    script.bytes(b"start 5\njoin 5 1.1\nrounds 20\n");
+    script.into_text()
 }
 
 /// The chat of a chat line: what stands behind the member.
@@ -32,19 +32,8 @@ fn chat_of(line: &[u8]) -> &[u8] {
     line.splitn(3, |byte| *byte == b' ').last().unwrap_or(&[])
 }
 
-/// Whether it has it, and the chat is everywhere the same.
-pub fn joins(rt: &HostRuntime, told: &mut Vec<u8>) -> Result<(), AllocError> {
-    let settings = free_settings(rt)?;
-    let script = script(rt.alloc())?;
-    let (text, status) = run_with::<LongChat>(rt, &settings, script.as_slice());
-    put_number(told, "status", u64::from(status.code()))?;
-    put_truth(
-        told,
-        "the trace holds",
-        holds::<LongChat>(rt.alloc(), text.as_slice()),
-    )?;
-    let before = trace_of(text.as_slice()).len();
-    let chats = text.get(before..).unwrap_or(&[]);
+/// How many chats there are, whether they are everywhere the same, and how many lines the first has.
+fn put_chats(told: &mut Told, chats: &[u8]) {
     let mut count = 0u64;
     let mut are_equal = true;
     let mut first: &[u8] = &[];
@@ -59,8 +48,18 @@ pub fn joins(rt: &HostRuntime, told: &mut Vec<u8>) -> Result<(), AllocError> {
         count = count.wrapping_add(1);
         are_equal = are_equal && chat == first;
     }
-    put_number(told, "chats", count)?;
-    put_truth(told, "they are equal", are_equal)?;
+    told.number("chats", count);
+    told.truth("they are equal", are_equal);
     let lines = first.split(|byte| *byte == b',').count();
-    put_number(told, "lines of each", lines as u64)
+    told.number("lines of each", lines as u64);
+}
+
+/// Whether it has it, and the chat is everywhere the same.
+pub fn joins(rt: &HostRuntime, told: &mut Told) -> Result<(), AllocError> {
+    let settings = free_settings(rt)?;
+    let script = script(rt.alloc())?;
+    let (text, status) = run_with::<LongChat>(rt, &settings, script.as_slice());
+    put_judged::<LongChat>(rt.alloc(), told, text.as_slice(), status);
+    put_chats(told, chats_of(text.as_slice()));
+    Ok(())
 }

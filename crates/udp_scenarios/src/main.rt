@@ -21,6 +21,7 @@ mod stories;
 mod words;
 
 use files::bytes_of;
+use lines::Told;
 use std::alloc::AllocError;
 use std::env;
 use std::io::{self, Write};
@@ -59,103 +60,104 @@ fn asked(rt: &HostRuntime) -> io::Result<Wanted> {
 fn print(
     rt: &HostRuntime,
     name: &str,
-    told: Result<(), AllocError>,
-    text: &mut Vec<u8>,
+    came: Result<(), AllocError>,
+    told: &mut Told,
 ) -> io::Result<()> {
     let mut writer = io::writer(rt);
     writeln!(writer, "== {name}")?;
-    told?;
-    writer.write_all(text.as_slice())?;
-    text.clear();
+    came?;
+    writer.write_all(told.text()?)?;
+    told.clear();
     Ok(())
 }
 
 /// Prints which documents are settings.
-fn print_settings(rt: &HostRuntime, text: &mut Vec<u8>) -> io::Result<()> {
-    let told = documents::found(rt.alloc(), text);
-    print(rt, "settings", told, text)?;
+fn print_settings(rt: &HostRuntime, told: &mut Told) -> io::Result<()> {
+    documents::found(rt.alloc(), told);
+    print(rt, "settings", Ok(()), told)?;
     let file = bytes_of(rt, "settings.txt")?;
-    let told = documents::all(rt.alloc(), text, file.as_slice());
-    print(rt, "documents", told, text)
+    let came = documents::all(rt.alloc(), told, file.as_slice());
+    print(rt, "documents", came, told)
 }
 
 /// Prints what the commands over datagrams write.
-fn print_commands(rt: &HostRuntime, text: &mut Vec<u8>) -> io::Result<()> {
+fn print_commands(rt: &HostRuntime, told: &mut Told) -> io::Result<()> {
     let file = bytes_of(rt, "scripts.txt")?;
-    let told = scripts::all(rt.alloc(), text, file.as_slice());
-    print(rt, "scripts of nodes over datagrams", told, text)?;
-    let told = listing::all(rt.alloc(), text);
-    print(rt, "nets that list what happens at them", told, text)?;
-    let told = listing::failing(rt.alloc(), text);
-    print(rt, "a net whose calls fail", told, text)?;
-    let told = scripts::members(rt.alloc(), text);
-    print(rt, "a node by itself", told, text)?;
-    let told = scripts::lines(rt.alloc(), text);
-    print(rt, "a node that says lines", told, text)?;
-    let told = scripts::finding(rt.alloc(), text);
-    print(rt, "a node that says a line later", told, text)
+    let came = scripts::all(rt.alloc(), told, file.as_slice());
+    print(rt, "scripts of nodes over datagrams", came, told)?;
+    let came = listing::all(rt.alloc(), told);
+    print(rt, "nets that list what happens at them", came, told)?;
+    let came = listing::failing(rt.alloc(), told);
+    print(rt, "a net whose calls fail", came, told)
+}
+
+/// Prints what the command for one node writes.
+fn print_members(rt: &HostRuntime, told: &mut Told) -> io::Result<()> {
+    let came = scripts::members(rt.alloc(), told);
+    print(rt, "a node by itself", came, told)?;
+    let came = scripts::lines(rt.alloc(), told);
+    print(rt, "a node that says lines", came, told)?;
+    let came = scripts::finding(rt.alloc(), told);
+    print(rt, "a node that says a line later", came, told)
 }
 
 /// Prints the stories of words, and of what a socket's net drops.
-fn print_words(rt: &HostRuntime, text: &mut Vec<u8>) -> io::Result<()> {
-    let told = words::said(rt, text);
-    print(rt, "words, over sockets", told, text)?;
-    let told = words::strange(rt, text);
-    print(rt, "who comes from elsewhere", told, text)?;
-    let told = words::asks(rt, text);
-    print(rt, "one who asks again and again", told, text)?;
-    let told = words::sieved(rt, text);
-    print(rt, "packets that a net drops", told, text)
+fn print_words(rt: &HostRuntime, told: &mut Told) -> io::Result<()> {
+    let came = words::said(rt, told);
+    print(rt, "words, over sockets", came, told)?;
+    let came = words::strange(rt, told);
+    print(rt, "who comes from elsewhere", came, told)?;
+    let came = words::asks(rt, told);
+    print(rt, "one who asks again and again", came, told)?;
+    let came = words::sieved(rt, told);
+    print(rt, "packets that a net drops", came, told)
 }
 
 /// Prints the stories over sockets.
-fn print_nets(rt: &HostRuntime, text: &mut Vec<u8>) -> io::Result<()> {
-    let told = sockets::two(rt, text);
-    print(rt, "sockets", told, text)?;
-    let told = sockets::waits(rt, text);
-    print(rt, "waits at sockets", told, text)?;
-    let told = sockets::hosts(rt, text);
-    print(rt, "hosts", told, text)?;
-    let told = sockets::merge(rt, text);
-    print(rt, "a partition and its merge, over sockets", told, text)?;
-    let told = bursts::once(rt, text);
-    print(rt, "a long burst, over sockets", told, text)?;
-    let told = bursts::twice(rt, text);
-    print(rt, "a long burst that is offered twice", told, text)?;
-    let told = bursts::unheard(rt, text);
-    print(rt, "a long burst to one who is not heard", told, text)?;
-    let told = bursts::too_long(rt, text);
-    print(rt, "a burst that is too long", told, text)?;
-    let told = long::joins(rt, text);
-    print(
-        rt,
-        "a fifth is given a long state, over sockets",
-        told,
-        text,
-    )
+fn print_sockets(rt: &HostRuntime, told: &mut Told) -> io::Result<()> {
+    let came = sockets::two(rt, told);
+    print(rt, "sockets", came, told)?;
+    let came = sockets::waits(rt, told);
+    print(rt, "waits at sockets", came, told)?;
+    sockets::hosts(rt, told);
+    print(rt, "hosts", Ok(()), told)?;
+    let came = sockets::merge(rt, told);
+    print(rt, "a partition and its merge, over sockets", came, told)
+}
+
+/// Prints the stories of long bursts and of a long state.
+fn print_bursts(rt: &HostRuntime, told: &mut Told) -> io::Result<()> {
+    let came = bursts::once(rt, told);
+    print(rt, "a long burst, over sockets", came, told)?;
+    let came = bursts::twice(rt, told);
+    print(rt, "a long burst that is offered twice", came, told)?;
+    let came = bursts::unheard(rt, told);
+    print(rt, "a long burst to one who is not heard", came, told)?;
+    let came = bursts::too_long(rt, told);
+    print(rt, "a burst that is too long", came, told)?;
+    let came = long::joins(rt, told);
+    print(rt, "a fifth is given a long state, over sockets", came, told)
 }
 
 /// Prints the stories of nets that fail.
-fn print_failing(rt: &HostRuntime, text: &mut Vec<u8>) -> io::Result<()> {
-    let told = failing::runners(rt.alloc(), text);
-    print(rt, "four runners, a call of whose nets fails", told, text)?;
-    let told = failing::nodes(rt.alloc(), text);
-    print(
-        rt,
-        "a script of four nodes, a call of whose nets fails",
-        told,
-        text,
-    )
+fn print_failing(rt: &HostRuntime, told: &mut Told) -> io::Result<()> {
+    let came = failing::runners(rt.alloc(), told);
+    print(rt, "four runners, a call of whose nets fails", came, told)?;
+    let came = failing::nodes(rt.alloc(), told);
+    let name = "a script of four nodes, a call of whose nets fails";
+    print(rt, name, came, told)
 }
 
 /// Prints all stories.
 fn print_all(rt: &HostRuntime) -> io::Result<()> {
-    let mut text = Vec::new(rt.alloc());
-    print_settings(rt, &mut text)?;
-    print_commands(rt, &mut text)?;
-    print_words(rt, &mut text)?;
-    print_nets(rt, &mut text)?;
-    print_failing(rt, &mut text)
+    let mut told = Told::new(rt.alloc());
+    print_settings(rt, &mut told)?;
+    print_commands(rt, &mut told)?;
+    print_members(rt, &mut told)?;
+    print_words(rt, &mut told)?;
+    print_sockets(rt, &mut told)?;
+    print_bursts(rt, &mut told)?;
+    print_failing(rt, &mut told)
 }
 
 /// Tells all stories, and tries channels; the exit status.

@@ -4,7 +4,7 @@ ghost use Rattle.std.specs.Prelude.{None};
 
 use crate::files::{first_block, first_line};
 use crate::hub::Hub;
-use crate::lines::put_number;
+use crate::lines::Told;
 use crate::stories::first_at;
 use address::Node;
 use chat_log::ChatLog;
@@ -13,7 +13,7 @@ use memory_nets::Wires;
 use std::alloc::{AllocError, Global};
 use std::cell::RefCell;
 use std::time::Duration;
-use udp_net::{FOUR, settings_of};
+use udp_net::{FOUR, Settings, settings_of};
 use udp_runs::{Lines, LinesError, MemberPlan, NoLines, NodeManner, Tally, run_member, run_udp};
 
 /// The most scripts of a file.
@@ -22,37 +22,51 @@ const SCRIPTS: u8 = 100;
 /// The settings of node 2 alone.
 const OTHERS: &str = "group = \"chat\"\nsilent = 50\n[[node]]\nnumber = 2\nport = 27402\n";
 
+/// Wires at which node `taken` can have no net.
+fn wires_without(alloc: Global, taken: Option<Node>) -> Wires {
+    let mut wires = Wires::new(alloc);
+    wires.taken = taken;
+    wires
+}
+
 /// Runs a script where node `taken` can have no net, and adds what it writes, and its status.
 fn put_run(
     alloc: Global,
-    told: &mut Vec<u8>,
+    told: &mut Told,
+    settings: &Settings,
     script: &[u8],
     taken: Option<Node>,
-) -> Result<(), AllocError> {
-    let settings = settings_of(alloc, FOUR)?;
-    let mut wires = Wires::new(alloc);
-    wires.taken = taken;
-    let wires = RefCell::new(wires);
-    let mut reader = script;
+) {
+    let wires = RefCell::new(wires_without(alloc, taken));
     let mut hub = Hub::new(&wires);
-    let status = run_udp::<ChatLog, _, _, _>(alloc, &settings, &mut hub, &mut reader, told);
-    put_number(told, "status", u64::from(status.code()))
+    let mut reader = script;
+    let mut text = Vec::new(alloc);
+    let status = run_udp::<ChatLog, _, _, _>(alloc, settings, &mut hub, &mut reader, &mut text);
+    told.bytes(text.as_slice());
+    told.code("status", status.code());
 }
 
-/// Each script of a file, and one that starts a node whose socket cannot be bound.
-pub fn all(alloc: Global, told: &mut Vec<u8>, file: &[u8]) -> Result<(), AllocError> {
+/// Each script of a file.
+fn put_scripts(alloc: Global, told: &mut Told, settings: &Settings, file: &[u8]) {
     let mut rest = file;
     for _ in 0..SCRIPTS {
         let Some((script, behind)) = first_block(rest) else {
             break;
         };
-        told.extend_from_slice(first_line(script))?;
-        told.extend_from_slice(b"\n")?;
-        put_run(alloc, told, script, None)?;
+        told.bytes(first_line(script));
+        told.bytes(b"\n");
+        put_run(alloc, told, settings, script, None);
         rest = behind;
     }
-    told.extend_from_slice(b"# the socket of node 2 cannot be bound\n")?;
-    put_run(alloc, told, b"start 1\n\nstart 2\nstart 3", Node::new(2))?;
+}
+
+/// Each script of a file, and one that starts a node whose socket cannot be bound.
+pub fn all(alloc: Global, told: &mut Told, file: &[u8]) -> Result<(), AllocError> {
+    let settings = settings_of(alloc, FOUR)?;
+    put_scripts(alloc, told, &settings, file);
+    told.bytes(b"# the socket of node 2 cannot be bound\n");
+    let script = b"start 1\n\nstart 2\nstart 3";
+    put_run(alloc, told, &settings, script, Node::new(2));
     Ok(())
 }
 
@@ -69,54 +83,52 @@ fn plain() -> NodeManner {
     }
 }
 
-/// Adds a status, how often its net waited, and what it told.
-fn put_end(told: &mut Vec<u8>, status: Status, hub: &Hub<'_>) -> Result<(), AllocError> {
-    put_number(told, "status", u64::from(status.code()))?;
+/// Adds what a node wrote, its status, how often its net waited, and what it told.
+fn put_end(told: &mut Told, text: &[u8], status: Status, hub: &Hub<'_>) {
+    told.bytes(text);
+    told.code("status", status.code());
     if let Ok(wires) = hub.wires.try_borrow() {
-        put_number(told, "waits", wires.waits)?;
+        told.number("waits", wires.waits);
     }
-    put_tally(told, hub.tally)
+    if let Some(tally) = hub.tally {
+        put_tally(told, &tally);
+    }
 }
 
-/// Adds what a node told, if it did.
-fn put_tally(told: &mut Vec<u8>, tally: Option<Tally>) -> Result<(), AllocError> {
-    let Some(tally) = tally else {
-        return Ok(());
-    };
-    put_number(told, "sent", tally.sent)?;
-    put_number(told, "delivered", tally.delivered)?;
-    put_number(told, "installed", tally.installed)
+/// Adds what a node told.
+fn put_tally(told: &mut Told, tally: &Tally) {
+    told.number("sent", tally.sent);
+    told.number("delivered", tally.delivered);
+    told.number("installed", tally.installed);
 }
 
-/// Runs node 1 by itself where node `taken` can have no net, and adds what it writes, its status, and how often it waited.
+/// Runs node 1 by itself, which sends `hi`, where node `taken` can have no net, and adds what it writes, its status, and how often it waited.
 fn put_member(
     alloc: Global,
-    told: &mut Vec<u8>,
-    settings: &str,
+    told: &mut Told,
+    settings: &Settings,
     rounds: u64,
     taken: Option<Node>,
-) -> Result<(), AllocError> {
+) {
     let plan = MemberPlan {
         address: first_at(1),
         rounds,
         contact: None,
         send: Some(b"hi"),
     };
-    let settings = settings_of(alloc, settings)?;
-    let mut wires = Wires::new(alloc);
-    wires.taken = taken;
-    let wires = RefCell::new(wires);
+    let wires = RefCell::new(wires_without(alloc, taken));
     let mut hub = Hub::new(&wires);
+    let mut text = Vec::new(alloc);
     let status = run_member::<ChatLog, _, _, _>(
         alloc,
-        &settings,
+        settings,
         &plan,
         plain(),
         &mut NoLines,
         &mut hub,
-        told,
+        &mut text,
     );
-    put_end(told, status, &hub)
+    put_end(told, text.as_slice(), status, &hub);
 }
 
 /// Lines that all have come.
@@ -138,11 +150,12 @@ impl Lines for Typed<'_> {
 /// Runs node 1 by itself with these lines for so many rounds, and adds what it writes, its status, and what it told; it leaves at its end.
 fn put_lines(
     alloc: Global,
-    told: &mut Vec<u8>,
+    told: &mut Told,
+    settings: &Settings,
     lines: &[u8],
     rounds: u64,
     manner: NodeManner,
-) -> Result<(), AllocError> {
+) {
     let plan = MemberPlan {
         address: first_at(1),
         rounds,
@@ -153,64 +166,72 @@ fn put_lines(
         leaves: true,
         ..manner
     };
-    let settings = settings_of(alloc, FOUR)?;
     let wires = RefCell::new(Wires::new(alloc));
     let mut hub = Hub::new(&wires);
     let mut lines = Typed { rest: lines };
+    let mut text = Vec::new(alloc);
     let status = run_member::<ChatLog, _, _, _>(
-        alloc, &settings, &plan, manner, &mut lines, &mut hub, told,
+        alloc, settings, &plan, manner, &mut lines, &mut hub, &mut text,
     );
-    put_end(told, status, &hub)
+    put_end(told, text.as_slice(), status, &hub);
+}
+
+/// A line that is too long, and one behind it.
+fn long_line(alloc: Global) -> Result<Vec<u8>, AllocError> {
+    let mut lines = Told::new(alloc);
+    lines.bytes(&[b'x'; 513]);
+    lines.bytes(b"\none\n\x04\n");
+    lines.into_text()
 }
 
 /// Node 1 by itself says lines.
-pub fn lines(alloc: Global, told: &mut Vec<u8>) -> Result<(), AllocError> {
-    told.extend_from_slice(b"# lines, of which the last one ends it, as text\n")?;
+pub fn lines(alloc: Global, told: &mut Told) -> Result<(), AllocError> {
+    let long = long_line(alloc)?;
+    let settings = settings_of(alloc, FOUR)?;
     let speaking = NodeManner {
         speaks: true,
         ..plain()
     };
-    put_lines(
-        alloc,
-        told,
-        b"one\ntwo \x01\n\xc3\xa4\n\x04\nthree\n",
-        10,
-        speaking,
-    )?;
-    told.extend_from_slice(b"# the same as a trace\n")?;
-    put_lines(alloc, told, b"one\n\x04\n", 10, plain())?;
-    told.extend_from_slice(b"# a line that is too long, and one behind it\n")?;
-    let mut long = vec![in alloc; b'x'; 513]?;
-    long.extend_from_slice(b"\none\n\x04\n")?;
-    put_lines(alloc, told, long.as_slice(), 10, plain())
+    told.bytes(b"# lines, of which the last one ends it, as text\n");
+    let lines = b"one\ntwo \x01\n\xc3\xa4\n\x04\nthree\n";
+    put_lines(alloc, told, &settings, lines, 10, speaking);
+    told.bytes(b"# the same as a trace\n");
+    put_lines(alloc, told, &settings, b"one\n\x04\n", 10, plain());
+    told.bytes(b"# a line that is too long, and one behind it\n");
+    put_lines(alloc, told, &settings, long.as_slice(), 10, plain());
+    Ok(())
 }
 
 /// Node 1 by itself says a line: where two members are to be there, and where it looks for others first.
-pub fn finding(alloc: Global, told: &mut Vec<u8>) -> Result<(), AllocError> {
-    told.extend_from_slice(b"# two members are to be there\n")?;
+pub fn finding(alloc: Global, told: &mut Told) -> Result<(), AllocError> {
+    let settings = settings_of(alloc, FOUR)?;
+    told.bytes(b"# two members are to be there\n");
     let careful = NodeManner {
         quorum: 2,
         stable: false,
         ..plain()
     };
-    put_lines(alloc, told, b"one\n", 10, careful)?;
-    told.extend_from_slice(b"# it looks for 50 ticks, finds nobody, and makes a group\n")?;
+    put_lines(alloc, told, &settings, b"one\n", 10, careful);
+    told.bytes(b"# it looks for 50 ticks, finds nobody, and makes a group\n");
     let finding = NodeManner {
         finds: true,
         ..plain()
     };
-    put_lines(alloc, told, b"one\n\x04\n", 60, finding)
+    put_lines(alloc, told, &settings, b"one\n\x04\n", 60, finding);
+    Ok(())
 }
 
 /// Node 1 by itself, which makes a group and sends `hi`.
-pub fn members(alloc: Global, told: &mut Vec<u8>) -> Result<(), AllocError> {
-    told.extend_from_slice(b"# three rounds\n")?;
-    put_member(alloc, told, FOUR, 3, None)?;
-    told.extend_from_slice(b"# no round\n")?;
-    put_member(alloc, told, FOUR, 0, None)?;
-    told.extend_from_slice(b"# a node that is not listed\n")?;
-    put_member(alloc, told, OTHERS, 3, Node::new(1))?;
-    told.extend_from_slice(b"# a socket that cannot be bound\n")?;
-    put_member(alloc, told, FOUR, 3, Node::new(1))?;
+pub fn members(alloc: Global, told: &mut Told) -> Result<(), AllocError> {
+    let settings = settings_of(alloc, FOUR)?;
+    let others = settings_of(alloc, OTHERS)?;
+    told.bytes(b"# three rounds\n");
+    put_member(alloc, told, &settings, 3, None);
+    told.bytes(b"# no round\n");
+    put_member(alloc, told, &settings, 0, None);
+    told.bytes(b"# a node that is not listed\n");
+    put_member(alloc, told, &others, 3, Node::new(1));
+    told.bytes(b"# a socket that cannot be bound\n");
+    put_member(alloc, told, &settings, 3, Node::new(1));
     Ok(())
 }

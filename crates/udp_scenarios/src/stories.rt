@@ -1,6 +1,9 @@
 //! A story of four nodes over UDP, and how texts of stories are judged.
 
+use crate::lines::Told;
 use address::{Address, Node};
+use channel::Channel;
+use chat_log::ChatLog;
 use state_transfer::Receiver;
 use std::alloc::Global;
 use trace_checker::check;
@@ -16,11 +19,20 @@ pub fn first_at(number: u16) -> Address {
     Address::first_at(Node::new(number).unwrap_or(Node::new(1).unwrap()))
 }
 
+/// A text's trace, and the chat lines behind it.
+fn parted(text: &[u8]) -> (&[u8], &[u8]) {
+    let end = text.windows(5).position(|word| word == b"chat ".as_slice());
+    text.split_at(end.unwrap_or(text.len()).min(text.len()))
+}
+
 /// The beginning of a text before its chat lines.
 pub fn trace_of(text: &[u8]) -> &[u8] {
-    let end = text.windows(5).position(|word| word == b"chat ".as_slice());
-    let (trace, _) = text.split_at(end.unwrap_or(text.len()).min(text.len()));
-    trace
+    parted(text).0
+}
+
+/// The chat lines of a text.
+pub fn chats_of(text: &[u8]) -> &[u8] {
+    parted(text).1
 }
 
 /// Whether the trace of a text, of receivers that are `R`, is virtually synchronous.
@@ -28,5 +40,15 @@ pub fn holds<R: Receiver>(alloc: Global, text: &[u8]) -> bool {
     match read_trace(alloc, trace_of(text)) {
         Ok(trace) => check::<R>(alloc, &trace) == Ok(Verdict::Holds),
         Err(_) => false,
+    }
+}
+
+/// Adds the line of each event of a channel that was not taken yet.
+pub fn put_events(told: &mut Told, channel: &mut Channel<ChatLog>) {
+    for _ in 0..1000u16 {
+        match channel.happened() {
+            Some(event) => told.event(&event),
+            None => break,
+        }
     }
 }

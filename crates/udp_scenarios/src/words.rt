@@ -1,7 +1,7 @@
 //! Words over sockets of this machine, and what a socket's net drops.
 
-use crate::lines::{put_number, put_truth};
-use crate::sockets::{bound, free_settings};
+use crate::lines::Told;
+use crate::sockets::first_two;
 use crate::stories::first_at;
 use address::{Address, Node, ViewId};
 use std::alloc::{AllocError, Global};
@@ -34,16 +34,13 @@ impl Drop for Pair {
 
 /// The nets, at free ports. Their settings have a `silent` of 50.
 fn nets(rt: &HostRuntime) -> Result<Pair, AllocError> {
-    let settings = free_settings(rt)?;
-    match (bound(rt, &settings, 1), bound(rt, &settings, 2)) {
-        (Ok(one), Ok(two)) => Ok(Pair {
-            alloc: rt.alloc(),
-            one,
-            two,
-            buffer: [0; 512],
-        }),
-        _ => Err(AllocError),
-    }
+    let (one, two) = first_two(rt)?;
+    Ok(Pair {
+        alloc: rt.alloc(),
+        one,
+        two,
+        buffer: [0; 512],
+    })
 }
 
 /// The word of one that looks for a view.
@@ -56,14 +53,14 @@ fn looking(source: Address, said: u64, echo: Option<Echo>) -> Word {
     }
 }
 
-/// The view of 1.1 alone with this counter.
-fn view_at(counter: u64) -> Result<ViewId, AllocError> {
-    ViewId::new(counter, first_at(1)).ok_or(AllocError)
+/// The view of 1.1 alone with this counter; the first one where no view has it.
+fn view_at(counter: u64) -> ViewId {
+    ViewId::new(counter, first_at(1)).unwrap_or(ViewId::first_of(first_at(1)))
 }
 
 /// The second address of node 2.
-fn second() -> Result<Address, AllocError> {
-    first_at(2).next_incarnation().ok_or(AllocError)
+fn second() -> Address {
+    first_at(2).next_incarnation().unwrap_or(first_at(2))
 }
 
 /// What words told of a node.
@@ -91,11 +88,15 @@ impl Pair {
         matches!(self.one.receive(&mut self.buffer), Ok(Some(_)))
     }
 
-    // Whether node 1 is given a packet that node 2 sends it.
-    fn gives(&mut self, source: Address, body: Body<'_>) -> Result<bool, AllocError> {
-        let bytes = packet(self.alloc, source, body)?;
-        self.two.send(first_at(1).node(), bytes.as_slice());
-        Ok(self.is_given())
+    // Tells whether node 1 is given a packet that node 2 sends it.
+    fn put_given(&mut self, told: &mut Told, asked: &str, source: Address, body: Body<'_>) {
+        match packet(self.alloc, source, body) {
+            Ok(bytes) => {
+                self.two.send(first_at(1).node(), bytes.as_slice());
+                told.truth(asked, self.is_given());
+            }
+            Err(_) => told.refuse(),
+        }
     }
 
     // Node 1 has so many rounds, alone in a view.
@@ -107,124 +108,136 @@ impl Pair {
     }
 
     // Tells whether node 1 knows a word of a node, and whether it is asked by it.
-    fn put_known(&self, told: &mut Vec<u8>, number: u16) -> Result<(), AllocError> {
+    fn put_known(&self, told: &mut Told, number: u16) {
         let known = told_of(self.one.words(), first_at(number).node());
         let has_word = known.is_some_and(|neighbour| neighbour.word.is_some());
-        put_truth(told, "a word is known", has_word)?;
+        told.truth("a word is known", has_word);
         let is_asked = known.is_some_and(|neighbour| neighbour.is_asked);
-        put_truth(told, "it is asked", is_asked)
+        told.truth("it is asked", is_asked);
     }
 }
 
 /// Words are said, heard and forgotten.
-pub fn said(rt: &HostRuntime, told: &mut Vec<u8>) -> Result<(), AllocError> {
+pub fn said(rt: &HostRuntime, told: &mut Told) -> Result<(), AllocError> {
     let mut pair = nets(rt)?;
-    put_said(&mut pair, told)
+    put_asked(&mut pair, told);
+    put_answered(&mut pair, told);
+    for rounds in [500, 1] {
+        pair.pass(rounds);
+        pair.put_known(told, 2);
+    }
+    Ok(())
 }
 
-fn put_said(pair: &mut Pair, told: &mut Vec<u8>) -> Result<(), AllocError> {
+/// Node 2 says a word.
+fn put_asked(pair: &mut Pair, told: &mut Told) {
+    let word = looking(first_at(2), 7, None);
+    pair.two.say(first_at(1).node(), &word);
+    told.truth("a word is given", pair.is_given());
+    pair.put_known(told, 2);
+}
+
+/// Node 1 answers it.
+fn put_answered(pair: &mut Pair, told: &mut Told) {
     let (first, second) = (first_at(1), first_at(2));
-    pair.two.say(first.node(), &looking(second, 7, None));
-    let is_given = pair.is_given();
-    put_truth(told, "a word is given", is_given)?;
-    pair.put_known(told, 2)?;
-    let echo = Some(Echo {
+    let echo = Echo {
         address: second,
         said: 7,
-    });
+    };
+    let place = Place {
+        view: ViewId::first_of(first),
+        members: 1,
+        stays: true,
+    };
     let answer = Word {
         source: first,
         said: 9,
-        echo,
-        place: Some(Place {
-            view: ViewId::first_of(first),
-            members: 1,
-            stays: true,
-        }),
+        echo: Some(echo),
+        place: Some(place),
     };
     pair.one.say(second.node(), &answer);
-    pair.put_known(told, 2)?;
+    pair.put_known(told, 2);
     pair.two.wait(Duration::from_secs(PATIENCE));
     let _ = pair.two.receive(&mut pair.buffer);
     let heard = told_of(pair.two.words(), first.node());
     let is_heard = heard.is_some_and(|neighbour| neighbour.word == Some(answer));
-    put_truth(told, "the answer is heard as it was said", is_heard)?;
-    pair.pass(500);
-    pair.put_known(told, 2)?;
-    pair.pass(1);
-    pair.put_known(told, 2)
+    told.truth("the answer is heard as it was said", is_heard);
+    pair.put_known(told, 2);
 }
 
 /// What names node 3 and comes from node 2 is dropped, until it is heard from anywhere.
-pub fn strange(rt: &HostRuntime, told: &mut Vec<u8>) -> Result<(), AllocError> {
+pub fn strange(rt: &HostRuntime, told: &mut Told) -> Result<(), AllocError> {
     let mut pair = nets(rt)?;
-    put_strange(&mut pair, told)
+    put_strange(&mut pair, told, 1);
+    pair.one.hear_from_anywhere();
+    put_strange(&mut pair, told, 2);
+    Ok(())
 }
 
-fn put_strange(pair: &mut Pair, told: &mut Vec<u8>) -> Result<(), AllocError> {
+/// Node 2 sends a packet that names node 3, and says a word of it.
+fn put_strange(pair: &mut Pair, told: &mut Told, said: u64) {
     let third = first_at(3);
-    let is_given = pair.gives(third, Body::Leave)?;
-    put_truth(told, "a packet is given", is_given)?;
-    pair.two.say(first_at(1).node(), &looking(third, 1, None));
+    pair.put_given(told, "a packet is given", third, Body::Leave);
+    pair.two
+        .say(first_at(1).node(), &looking(third, said, None));
     let _ = pair.is_given();
-    pair.put_known(told, 3)?;
-    put_number(told, "strange", pair.one.strange())?;
-    pair.one.hear_from_anywhere();
-    let is_given = pair.gives(third, Body::Leave)?;
-    put_truth(told, "a packet is given", is_given)?;
-    pair.two.say(first_at(1).node(), &looking(third, 2, None));
-    let _ = pair.is_given();
-    pair.put_known(told, 3)?;
-    put_number(told, "strange", pair.one.strange())
+    pair.put_known(told, 3);
+    told.number("strange", pair.one.strange());
 }
 
 /// An address asks to be let in again and again.
-pub fn asks(rt: &HostRuntime, told: &mut Vec<u8>) -> Result<(), AllocError> {
+pub fn asks(rt: &HostRuntime, told: &mut Told) -> Result<(), AllocError> {
     let mut pair = nets(rt)?;
-    put_asks(&mut pair, told)
+    put_asks(&mut pair, told);
+    Ok(())
 }
 
-fn put_asks(pair: &mut Pair, told: &mut Vec<u8>) -> Result<(), AllocError> {
+fn put_asks(pair: &mut Pair, told: &mut Told) {
     for rounds in [1, 49, 1, 99, 1, 50, 199, 1] {
         pair.pass(rounds);
-        let is_given = pair.gives(first_at(2), Body::Join)?;
-        put_number(told, "rounds", u64::from(rounds))?;
-        put_truth(told, "a JOIN is given", is_given)?;
+        told.number("rounds", u64::from(rounds));
+        pair.put_given(told, "a JOIN is given", first_at(2), Body::Join);
     }
     pair.pass(50);
-    let is_given = pair.gives(first_at(2), Body::Join)?;
-    put_truth(told, "one of 2.1 is given in its pause", is_given)?;
-    let is_given = pair.gives(second()?, Body::Join)?;
-    put_truth(told, "one of 2.2 is given then", is_given)?;
-    put_number(told, "sieved", pair.one.sieved())
+    for (asked, source) in [
+        ("one of 2.1 is given in its pause", first_at(2)),
+        ("one of 2.2 is given then", second()),
+    ] {
+        pair.put_given(told, asked, source, Body::Join);
+    }
+    told.number("sieved", pair.one.sieved());
 }
 
 /// Counters that are far ahead, and a MERGE where words are said.
-pub fn sieved(rt: &HostRuntime, told: &mut Vec<u8>) -> Result<(), AllocError> {
+pub fn sieved(rt: &HostRuntime, told: &mut Told) -> Result<(), AllocError> {
     let mut pair = nets(rt)?;
-    put_sieved(&mut pair, told)
+    pair.pass(1);
+    put_ahead(&mut pair, told);
+    put_merge(&mut pair, told, false)?;
+    let word = looking(first_at(1), 1, None);
+    pair.one.say(first_at(2).node(), &word);
+    put_merge(&mut pair, told, true)?;
+    told.number("sieved", pair.one.sieved());
+    Ok(())
 }
 
-fn put_sieved(pair: &mut Pair, told: &mut Vec<u8>) -> Result<(), AllocError> {
-    pair.pass(1);
+/// ACKs of views whose counters are far ahead.
+fn put_ahead(pair: &mut Pair, told: &mut Told) {
     for counter in [4_294_967_297, 4_294_967_298] {
         let ack = Body::Ack {
-            view: view_at(counter)?,
-            delivered: Count::new(0).ok_or(AllocError)?,
+            view: view_at(counter),
+            delivered: Count::zero(),
         };
-        let is_given = pair.gives(first_at(2), ack)?;
-        put_number(told, "counter", counter)?;
-        put_truth(told, "an ACK is given", is_given)?;
+        told.number("counter", counter);
+        pair.put_given(told, "an ACK is given", first_at(2), ack);
     }
-    for says in [false, true] {
-        if says {
-            pair.one
-                .say(first_at(2).node(), &looking(first_at(1), 1, None));
-        }
-        let other = Roster::new(ViewId::first_of(first_at(2)), &[first_at(2)]).ok_or(AllocError)?;
-        let is_given = pair.gives(first_at(2), Body::Merge(other))?;
-        put_truth(told, "words are said here", says)?;
-        put_truth(told, "a MERGE is given", is_given)?;
-    }
-    put_number(told, "sieved", pair.one.sieved())
+}
+
+/// A MERGE of a view of 2.1, and whether words are said where it comes.
+fn put_merge(pair: &mut Pair, told: &mut Told, are_said: bool) -> Result<(), AllocError> {
+    let other = first_at(2);
+    let roster = Roster::new(ViewId::first_of(other), &[other]).ok_or(AllocError)?;
+    told.truth("words are said here", are_said);
+    pair.put_given(told, "a MERGE is given", other, Body::Merge(roster));
+    Ok(())
 }

@@ -1,9 +1,9 @@
 //! Cases by themselves: numbers at their greatest, the greatest proposal, packets that are ignored, and (in `chunks`) a state in chunks.
 
 use crate::channels::hexadecimal::unhex;
-use crate::channels::next::{next_of, number, put_waiting, send};
-use crate::channels::stands::{Chat, GROUP, Stand, apart, channel_at, drain, hand};
-use crate::lines::{put_number, put_word};
+use crate::channels::next::{are_alike, number, put_step, put_tick, put_waiting, send};
+use crate::channels::stands::{Chat, GROUP, Stand, apart, channel_at};
+use crate::lines::Told;
 use crate::stories::first_at;
 use address::{ViewId, next_after};
 use std::alloc::{AllocError, Global};
@@ -70,14 +70,6 @@ const STATE_TO_FIRST: &[u8] = b"5653030e 05 776f726c64 000200000001 000100000001
 const ACK_ABOVE: &[u8] = b"56530307 05 776f726c64 000200000001 000100000001
     0000000000000002 000100000001 0000000000000001";
 
-// FLUSH and INSTALL of 3@1.1 with 1.1, 2.1 and 3.1, to 2.1.
-const FLUSH_OF_THREE: &[u8] = b"56530309 05 776f726c64 000100000001 000200000001
-    0000000000000003 000100000001 03 000100000001 000200000001 000300000001";
-
-const INSTALL_OF_THREE: &[u8] = b"5653030c 05 776f726c64 000100000001 000200000001
-    0000000000000003 000100000001 03 000100000001 000200000001 000300000001 01 000200000001
-    0000000000000000 00 01 00000001 00";
-
 // ORDER of the first message of 3.1 in that view: from 3.1, and from the coordinator.
 const ORDER_OF_THIRD: &[u8] = b"56530305 05 776f726c64 000300000001 000200000001
     0000000000000003 000100000001 0000000000000001 000300000001 0000000000000001 0001 61";
@@ -109,6 +101,12 @@ const FOR_NOBODY: &[(&str, &[u8])] = &[
     ),
 ];
 
+/// Packets that another member ignores.
+const FOR_OTHERS: &[(&str, &[u8])] = &[(
+    "ORDER from one that is not the coordinator, from node",
+    ORDER_OF_THIRD,
+)];
+
 /// The number with which bytes are refused; 0 where they are a packet.
 fn refusal(bytes: &[u8]) -> u8 {
     match decode(bytes) {
@@ -120,15 +118,8 @@ fn refusal(bytes: &[u8]) -> u8 {
 /// The text of the cases.
 #[derive(Drop)]
 pub struct Cases {
-    alloc: Global,
-    text: Vec<u8>,
-}
-
-// A channel takes the packet that these digits spell.
-fn take(alloc: Global, channel: &mut Chat, digits: &[u8]) -> Result<(), AllocError> {
-    let packet = unhex(alloc, digits)?;
-    hand(channel, packet.as_slice());
-    Ok(())
+    pub(crate) alloc: Global,
+    pub(crate) told: Told,
 }
 
 impl Cases {
@@ -136,200 +127,128 @@ impl Cases {
     pub fn new(alloc: Global) -> Cases {
         Cases {
             alloc,
-            text: Vec::new(alloc),
+            told: Told::new(alloc),
         }
     }
 
-    /// The text.
-    pub fn text(&self) -> &[u8] {
-        self.text.as_slice()
-    }
-
-    pub(crate) fn alloc(&self) -> Global {
-        self.alloc
-    }
-
-    // The line over cases.
-    pub(crate) fn head(&mut self, line: &[u8]) -> Result<(), AllocError> {
-        self.text.extend_from_slice(line)
-    }
-
-    // A line of what was asked and a word.
-    pub(crate) fn put(&mut self, asked: &str, answer: &str) -> Result<(), AllocError> {
-        put_word(&mut self.text, asked, answer)
-    }
-
-    // A line of what was asked and a number.
-    pub(crate) fn put_number(&mut self, asked: &str, answer: u64) -> Result<(), AllocError> {
-        put_number(&mut self.text, asked, answer)
-    }
-
-    // How packets in hexadecimal are read.
-    fn read_all(&mut self, packets: &[(&str, &[u8])]) -> Result<(), AllocError> {
-        for (asked, digits) in packets {
-            let bytes = unhex(self.alloc, digits)?;
-            self.put_number(asked, u64::from(refusal(bytes.as_slice())))?;
-        }
-        Ok(())
+    /// The text; an error where memory was refused.
+    pub fn text(&self) -> Result<&[u8], AllocError> {
+        self.told.text()
     }
 
     // Counters at their greatest.
     fn counters(&mut self) -> Result<(), AllocError> {
-        self.head(b"== counters\n")?;
-        self.read_all(COUNTERS)
-    }
-
-    // The id after one with this counter.
-    fn next(&mut self, asked: &str, counter: u64) -> Result<(), AllocError> {
-        let Some(last) = ViewId::new(counter, first_at(2)) else {
-            return self.put(asked, "no view id");
-        };
-        match next_after(&last, first_at(1)) {
-            Ok(next) => self.put_number(asked, next.counter()),
-            Err(exhausted) => self.put_number(asked, u64::from(exhausted.number())),
-        }
-    }
-
-    // What a channel answers to a packet in hexadecimal: whose it was, and what came of it.
-    pub(crate) fn hand(
-        &mut self,
-        channel: &mut Chat,
-        asked: &str,
-        digits: &[u8],
-    ) -> Result<(), AllocError> {
-        let bytes = unhex(self.alloc, digits)?;
-        self.hand_bytes(channel, asked, bytes.as_slice())
-    }
-
-    // The same of a packet's bytes.
-    pub(crate) fn hand_bytes(
-        &mut self,
-        channel: &mut Chat,
-        asked: &str,
-        bytes: &[u8],
-    ) -> Result<(), AllocError> {
-        match channel.incoming(bytes) {
-            Ok(Some(heard)) => self.put_number(asked, u64::from(heard.source.node().number()))?,
-            Ok(None) => self.put(asked, "of nobody")?,
-            Err(error) => self.put_number("refused", u64::from(error.number()))?,
-        }
-        put_waiting(&mut self.text, channel)
-    }
-
-    // What a lone member does by the greatest proposal.
-    fn promise_greatest(&mut self, channel: &mut Chat) -> Result<(), AllocError> {
-        self.hand(channel, "FLUSH of 2^62@2.1, from node", GREATEST_FLUSH)?;
-        let answer = number(channel.suspect(first_at(2)));
-        self.put_number("suspect 2.1", u64::from(answer))?;
-        put_waiting(&mut self.text, channel)?;
-        let answer = number(channel.tick());
-        self.put_number("tick", u64::from(answer))?;
-        put_waiting(&mut self.text, channel)?;
-        let answer = send(channel, Vec::new(self.alloc));
-        self.put_number("send", u64::from(answer))?;
-        put_waiting(&mut self.text, channel)?;
-        self.hand(channel, "JOIN, from node", JOIN_OF_THIRD)?;
-        self.hand(channel, "FLUSH of 5@3.1, from node", LOWER_FLUSH)
-    }
-
-    // A lone member's group is made, and the greatest proposal comes to it.
-    fn found_and_promise(&mut self, channel: &mut Chat) -> Result<(), AllocError> {
-        let answer = number(channel.connect_new(GROUP));
-        self.put_number("connect_new", u64::from(answer))?;
-        put_waiting(&mut self.text, channel)?;
-        self.promise_greatest(channel)
-    }
-
-    // The greatest proposal comes to a lone member.
-    fn greatest(&mut self) -> Result<(), AllocError> {
-        self.head(b"== the greatest proposal\n")?;
-        let mut channel = apart(self.alloc, 1)?;
-        self.found_and_promise(&mut channel)
-    }
-
-    // Whether two channels do the same next.
-    pub(crate) fn compare(&mut self, came: &mut Chat, fresh: &mut Chat) -> Result<(), AllocError> {
-        let came = next_of(self.alloc, came)?;
-        let wanted = next_of(self.alloc, fresh)?;
-        let is_same = came.as_slice() == wanted.as_slice() && wanted.len() > 100;
-        self.put(
-            "as one that was handed none of these",
-            if is_same { "yes" } else { "no" },
-        )
-    }
-
-    // What a channel answers to packets, one after another.
-    fn hand_all(
-        &mut self,
-        channel: &mut Chat,
-        packets: &[(&str, &[u8])],
-    ) -> Result<(), AllocError> {
-        for (asked, digits) in packets {
-            self.hand(channel, asked, digits)?;
+        self.told.bytes(b"== counters\n");
+        for (asked, digits) in COUNTERS {
+            let bytes = unhex(self.alloc, digits)?;
+            self.told.code(asked, refusal(bytes.as_slice()));
         }
         Ok(())
     }
 
-    // What the coordinator ignores; that it does next what a fresh one does; and a packet that another takes.
-    fn ignore_and_take(
-        &mut self,
-        channel: &mut Chat,
-        fresh: &mut Chat,
-        other: &mut Chat,
-    ) -> Result<(), AllocError> {
-        self.hand_all(channel, FOR_NOBODY)?;
-        self.compare(channel, fresh)?;
-        self.hand(other, "FORWARD as it should be, from node", FORWARD)
+    // The id after one with this counter.
+    fn next(&mut self, asked: &str, counter: u64) {
+        let Some(last) = ViewId::new(counter, first_at(2)) else {
+            return self.told.word(asked, "no view id");
+        };
+        match next_after(&last, first_at(1)) {
+            Ok(next) => self.told.number(asked, next.counter()),
+            Err(exhausted) => self.told.code(asked, exhausted.number()),
+        }
     }
 
-    // What the coordinator ignores.
+    // What a channel answers to a packet's bytes: whose it was, and what came of it.
+    pub(crate) fn hand_bytes(&mut self, channel: &mut Chat, asked: &str, bytes: &[u8]) {
+        match channel.incoming(bytes) {
+            Ok(Some(heard)) => {
+                let node = heard.source.node().number();
+                self.told.number(asked, u64::from(node));
+            }
+            Ok(None) => self.told.word(asked, "of nobody"),
+            Err(error) => self.told.code("refused", error.number()),
+        }
+        put_waiting(&mut self.told, channel);
+    }
+
+    // The same of a packet in hexadecimal.
+    pub(crate) fn hand(&mut self, channel: &mut Chat, asked: &str, digits: &[u8]) {
+        match unhex(self.alloc, digits) {
+            Ok(bytes) => self.hand_bytes(channel, asked, bytes.as_slice()),
+            Err(_) => self.told.refuse(),
+        }
+    }
+
+    // What a lone member does by the greatest proposal.
+    fn promise_greatest(&mut self, channel: &mut Chat) {
+        self.hand(channel, "FLUSH of 2^62@2.1, from node", GREATEST_FLUSH);
+        let answer = number(channel.suspect(first_at(2)));
+        put_step(&mut self.told, "suspect 2.1", answer, channel);
+        put_tick(&mut self.told, channel);
+        let answer = send(channel, Vec::new(self.alloc));
+        put_step(&mut self.told, "send", answer, channel);
+        self.hand(channel, "JOIN, from node", JOIN_OF_THIRD);
+        self.hand(channel, "FLUSH of 5@3.1, from node", LOWER_FLUSH);
+    }
+
+    // The greatest proposal comes to a lone member.
+    fn greatest(&mut self) -> Result<(), AllocError> {
+        self.told.bytes(b"== the greatest proposal\n");
+        let mut channel = apart(self.alloc, 1)?;
+        let answer = number(channel.connect_new(GROUP));
+        put_step(&mut self.told, "connect_new", answer, &mut channel);
+        self.promise_greatest(&mut channel);
+        Ok(())
+    }
+
+    // Whether two channels do the same next.
+    pub(crate) fn compare(&mut self, came: &mut Chat, fresh: &mut Chat) {
+        match are_alike(self.alloc, came, fresh) {
+            Ok(is_same) => self
+                .told
+                .truth("as one that was handed none of these", is_same),
+            Err(_) => self.told.refuse(),
+        }
+    }
+
+    // What a channel that stands so ignores, and that it does next what a fresh one does.
+    fn ignore(&mut self, stand: Stand, packets: &[(&str, &[u8])]) -> Result<(), AllocError> {
+        let mut channel = channel_at(self.alloc, stand)?;
+        for (asked, digits) in packets {
+            self.hand(&mut channel, asked, digits);
+        }
+        let mut fresh = channel_at(self.alloc, stand)?;
+        self.compare(&mut channel, &mut fresh);
+        Ok(())
+    }
+
+    // A packet that a fresh channel takes that stands so.
+    fn take(&mut self, stand: Stand, asked: &str, digits: &[u8]) -> Result<(), AllocError> {
+        let mut channel = channel_at(self.alloc, stand)?;
+        self.hand(&mut channel, asked, digits);
+        Ok(())
+    }
+
+    // What the coordinator ignores, and a packet that it takes.
     fn at_first(&mut self) -> Result<(), AllocError> {
-        self.head(b"== ignored by the coordinator\n")?;
-        let mut channel = channel_at(self.alloc, Stand::Coordinator)?;
-        let mut fresh = channel_at(self.alloc, Stand::Coordinator)?;
-        let mut other = channel_at(self.alloc, Stand::Coordinator)?;
-        self.ignore_and_take(&mut channel, &mut fresh, &mut other)
+        self.told.bytes(b"== ignored by the coordinator\n");
+        self.ignore(Stand::Coordinator, FOR_NOBODY)?;
+        let asked = "FORWARD as it should be, from node";
+        self.take(Stand::Coordinator, asked, FORWARD)
     }
 
-    // 2.1 in a view of three.
-    fn of_three(&mut self) -> Result<Chat, AllocError> {
-        let mut channel = channel_at(self.alloc, Stand::Joining)?;
-        take(self.alloc, &mut channel, FLUSH_OF_THREE)?;
-        take(self.alloc, &mut channel, INSTALL_OF_THREE)?;
-        drain(&mut channel);
-        Ok(channel)
-    }
-
-    // What it ignores there; that it does next what a fresh one does; and a packet that another takes.
-    fn ignore_third(
-        &mut self,
-        channel: &mut Chat,
-        fresh: &mut Chat,
-        other: &mut Chat,
-    ) -> Result<(), AllocError> {
-        self.hand(
-            channel,
-            "ORDER from one that is not the coordinator, from node",
-            ORDER_OF_THIRD,
-        )?;
-        self.compare(channel, fresh)?;
-        self.hand(other, "ORDER as it should be, from node", ORDER_OF_FIRST)
-    }
-
-    // What another member ignores.
+    // What another member of a view of three ignores, and a packet that it takes.
     fn at_other(&mut self) -> Result<(), AllocError> {
-        self.head(b"== ignored by another member\n")?;
-        let mut channel = self.of_three()?;
-        let mut fresh = self.of_three()?;
-        let mut other = self.of_three()?;
-        self.ignore_third(&mut channel, &mut fresh, &mut other)
+        self.told.bytes(b"== ignored by another member\n");
+        self.ignore(Stand::OfThree, FOR_OTHERS)?;
+        let asked = "ORDER as it should be, from node";
+        self.take(Stand::OfThree, asked, ORDER_OF_FIRST)
     }
 
     /// All cases.
     pub fn all(&mut self) -> Result<(), AllocError> {
         self.counters()?;
-        self.next("the counter after 2^62 - 1", GREATEST - 1)?;
-        self.next("the counter after 2^62, refused with", GREATEST)?;
+        self.next("the counter after 2^62 - 1", GREATEST - 1);
+        self.next("the counter after 2^62, refused with", GREATEST);
         self.greatest()?;
         self.at_first()?;
         self.at_other()?;

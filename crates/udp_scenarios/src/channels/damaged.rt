@@ -9,8 +9,10 @@ use crate::channels::judge::Judge;
 use crate::channels::stands::Stand;
 use crate::channels::tally::Tally;
 use crate::files::bytes_of;
+use crate::lines::Told;
 use std::alloc::{AllocError, Global};
 use std::io::{self, Write};
+use vsync_text::Part;
 
 /// Packets up to this length come each to a channel that was handed no other.
 const SHORT: usize = 200;
@@ -41,24 +43,42 @@ fn judged(alloc: Global, packet: &[u8], stand: Stand) -> Result<Tally, AllocErro
     Ok(judge.into_tally())
 }
 
-/// Reads the packet of a line, and prints what came of it.
+/// Prints what came of a packet with this name.
+fn print_tally(rt: &HostRuntime, name: &[u8], length: usize, tally: &Tally) -> io::Result<()> {
+    let mut told = Told::new(rt.alloc());
+    told.parts(&[
+        Part::Text(name),
+        Part::Text(b", "),
+        Part::Number(length as u64),
+        Part::Text(b" bytes, "),
+    ]);
+    tally.put(&mut told);
+    io::writer(rt).write_all(told.text()?)
+}
+
+/// Reads a packet with this name, for a channel that stands so, and prints what came of it.
+fn read_packet(
+    rt: &HostRuntime,
+    name: &[u8],
+    stand: Stand,
+    digits: &[u8],
+    total: &mut Total,
+) -> io::Result<()> {
+    let packet = unhex(rt.alloc(), digits)?;
+    let tally = judged(rt.alloc(), packet.as_slice(), stand)?;
+    total.add(&tally);
+    print_tally(rt, name, packet.len(), &tally)
+}
+
+/// Reads the packet of a line, if it has one.
 fn read_line(rt: &HostRuntime, line: &[u8], total: &mut Total) -> io::Result<()> {
     let mut words = line.split(|byte| *byte == b' ');
-    let (Some(name), Some(stand), Some(digits)) = (words.next(), words.next(), words.next()) else {
-        return Ok(());
-    };
-    let packet = unhex(rt.alloc(), digits)?;
-    let tally = judged(rt.alloc(), packet.as_slice(), Stand::of(stand))?;
-    let mut writer = io::writer(rt);
-    let length = packet.len();
-    write!(
-        writer,
-        "{}, {length} bytes, ",
-        str::from_utf8(name).unwrap_or("?")
-    )?;
-    tally.print(&mut writer)?;
-    total.add(&tally);
-    Ok(())
+    match (words.next(), words.next(), words.next()) {
+        (Some(name), Some(stand), Some(digits)) => {
+            read_packet(rt, name, Stand::of(stand), digits, total)
+        }
+        _ => Ok(()),
+    }
 }
 
 /// Reads all packets of the file.
@@ -74,7 +94,7 @@ fn read_packets(rt: &HostRuntime, total: &mut Total) -> io::Result<()> {
 fn print_cases(rt: &HostRuntime) -> io::Result<()> {
     let mut cases = Cases::new(rt.alloc());
     cases.all()?;
-    io::writer(rt).write_all(cases.text())
+    io::writer(rt).write_all(cases.text()?)
 }
 
 /// Reads all and prints all; answers whether nothing was wrong.

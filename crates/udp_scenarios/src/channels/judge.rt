@@ -1,6 +1,6 @@
 //! Readings of a packet, and what channels answer.
 
-use crate::channels::next::{next_of, number};
+use crate::channels::next::{are_alike, number};
 use crate::channels::stands::{Chat, Stand, channel_at, drain, is_silent};
 use crate::channels::tally::{ENDED, IGNORED, TAKEN, Tally};
 use address::Address;
@@ -183,9 +183,7 @@ impl Judge {
     // Whether the quiet one does next what one does that was handed nothing.
     fn is_as_before(&mut self) -> Result<bool, AllocError> {
         let mut fresh = channel_at(self.alloc, self.stand)?;
-        let wanted = next_of(self.alloc, &mut fresh)?;
-        let came = next_of(self.alloc, &mut self.quiet)?;
-        Ok(came.as_slice() == wanted.as_slice())
+        are_alike(self.alloc, &mut self.quiet, &mut fresh)
     }
 
     /// Reads all that damage makes of a packet.

@@ -1,40 +1,28 @@
 //! What a channel does next, by which two are known to be equal.
 
 use crate::channels::stands::Chat;
-use crate::stories::first_at;
+use crate::lines::Told;
+use crate::stories::{first_at, put_events};
 use std::alloc::{AllocError, Global};
-use vsync_text::{append_event, put_decimal, put_hex};
+
+/// How many bytes tell at least of calls by which anything happens or is put out.
+const LEAST: usize = 200;
 
 /// Adds what waits of a channel: each event's line, and each packet.
-pub fn put_waiting(text: &mut Vec<u8>, channel: &mut Chat) -> Result<(), AllocError> {
-    for _ in 0..1000u16 {
-        match channel.happened() {
-            Some(event) => append_event(text, &event)?,
-            None => break,
-        }
-    }
+pub fn put_waiting(told: &mut Told, channel: &mut Chat) {
+    put_events(told, channel);
     for _ in 0..1000u16 {
         match channel.outgoing() {
-            Some(packet) => {
-                text.extend_from_slice(b"to ")?;
-                put_decimal(text, u64::from(packet.destination.node().number()))?;
-                text.push(b'.')?;
-                put_decimal(text, u64::from(packet.destination.incarnation()))?;
-                text.extend_from_slice(b": ")?;
-                put_hex(text, packet.bytes.as_slice())?;
-                text.push(b'\n')?;
-            }
+            Some(packet) => told.packet(packet.destination, packet.bytes.as_slice()),
             None => break,
         }
     }
-    Ok(())
 }
 
-// What comes of a call that answered this.
-fn put_step(text: &mut Vec<u8>, channel: &mut Chat, answer: u8) -> Result<(), AllocError> {
-    put_decimal(text, u64::from(answer))?;
-    text.push(b'\n')?;
-    put_waiting(text, channel)
+/// Adds what a call answered, and what came of it.
+pub fn put_step(told: &mut Told, asked: &str, answer: u8, channel: &mut Chat) {
+    told.code(asked, answer);
+    put_waiting(told, channel);
 }
 
 /// The number of a refusal; 0 where there is none.
@@ -53,23 +41,44 @@ pub fn send(channel: &mut Chat, payload: Vec<u8>) -> u8 {
     }
 }
 
-/// What a channel does by calls from a tick to its end.
-pub fn next_of(alloc: Global, channel: &mut Chat) -> Result<Vec<u8>, AllocError> {
-    let mut text = Vec::new(alloc);
-    let payload = Vec::from_slice(alloc, b"next")?;
+/// Adds what comes of a tick.
+pub fn put_tick(told: &mut Told, channel: &mut Chat) {
     let answer = number(channel.tick());
-    put_step(&mut text, channel, answer)?;
+    put_step(told, "tick", answer, channel);
+}
+
+/// Adds what comes of a suspicion of the member of a node.
+pub fn put_suspicion(told: &mut Told, channel: &mut Chat, whom: u16) {
+    let answer = number(channel.suspect(first_at(whom)));
+    put_step(told, "suspect", answer, channel);
+}
+
+// What a channel does by calls from a tick to its end, of which one sends this payload.
+fn put_next(told: &mut Told, channel: &mut Chat, payload: Vec<u8>) {
+    put_tick(told, channel);
     let answer = send(channel, payload);
-    put_step(&mut text, channel, answer)?;
+    put_step(told, "send", answer, channel);
     let answer = number(channel.merge_hint(first_at(9)));
-    put_step(&mut text, channel, answer)?;
+    put_step(told, "merge_hint", answer, channel);
     for whom in 1..=3u16 {
-        let answer = number(channel.suspect(first_at(whom)));
-        put_step(&mut text, channel, answer)?;
+        put_suspicion(told, channel, whom);
     }
-    let answer = number(channel.tick());
-    put_step(&mut text, channel, answer)?;
+    put_tick(told, channel);
     let answer = number(channel.disconnect());
-    put_step(&mut text, channel, answer)?;
-    Ok(text)
+    put_step(told, "disconnect", answer, channel);
+}
+
+// What a channel does by calls from a tick to its end.
+fn next_of(alloc: Global, channel: &mut Chat) -> Result<Vec<u8>, AllocError> {
+    let payload = Vec::from_slice(alloc, b"next")?;
+    let mut told = Told::new(alloc);
+    put_next(&mut told, channel, payload);
+    told.into_text()
+}
+
+/// Whether two channels do the same next, and more than to answer.
+pub fn are_alike(alloc: Global, one: &mut Chat, other: &mut Chat) -> Result<bool, AllocError> {
+    let ours = next_of(alloc, one)?;
+    let theirs = next_of(alloc, other)?;
+    Ok(ours.as_slice() == theirs.as_slice() && ours.len() > LEAST)
 }

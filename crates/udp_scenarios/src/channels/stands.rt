@@ -17,6 +17,14 @@ pub const GROUP: &[u8] = b"world";
 const FLUSH: &[u8] = b"56530309 05 776f726c64 000100000001 000200000001
     0000000000000002 000100000001 02 000100000001 000200000001";
 
+/// FLUSH and INSTALL of 3@1.1 with 1.1, 2.1 and 3.1, to 2.1.
+const FLUSH_OF_THREE: &[u8] = b"56530309 05 776f726c64 000100000001 000200000001
+    0000000000000003 000100000001 03 000100000001 000200000001 000300000001";
+
+const INSTALL_OF_THREE: &[u8] = b"5653030c 05 776f726c64 000100000001 000200000001
+    0000000000000003 000100000001 03 000100000001 000200000001 000300000001 01 000200000001
+    0000000000000000 00 01 00000001 00";
+
 /// How a channel stands.
 #[derive(Clone, Copy)]
 pub enum Stand {
@@ -26,6 +34,8 @@ pub enum Stand {
     Other,
     /// 2.1 before that view, which it has promised.
     Joining,
+    /// 2.1 in the view 3@1.1 with 1.1 and 3.1.
+    OfThree,
 }
 
 impl Stand {
@@ -112,11 +122,29 @@ fn joining(alloc: Global) -> Result<Chat, AllocError> {
     Ok(channel)
 }
 
+// It takes the packets of a view of three, and nothing waits of it.
+fn enter(alloc: Global, channel: &mut Chat) -> Result<(), AllocError> {
+    for digits in [FLUSH_OF_THREE, INSTALL_OF_THREE] {
+        let packet = unhex(alloc, digits)?;
+        hand(channel, packet.as_slice());
+    }
+    drain(channel);
+    Ok(())
+}
+
+// 2.1 in a view of three.
+fn of_three(alloc: Global) -> Result<Chat, AllocError> {
+    let mut channel = joining(alloc)?;
+    enter(alloc, &mut channel)?;
+    Ok(channel)
+}
+
 /// A channel that stands so.
 pub fn channel_at(alloc: Global, stand: Stand) -> Result<Chat, AllocError> {
     match stand {
         Stand::Coordinator => Ok(both(alloc)?.0),
         Stand::Other => Ok(both(alloc)?.1),
         Stand::Joining => joining(alloc),
+        Stand::OfThree => of_three(alloc),
     }
 }

@@ -5,7 +5,7 @@ use crate::channels::calls::{
     suspect, tick, watched,
 };
 use crate::channels::stands::Chat;
-use crate::channels::told::Told;
+use crate::lines::Told;
 
 /// What both are and what happened to them.
 fn look(told: &mut Told, first: &mut Chat, second: &mut Chat) {

@@ -1,6 +1,7 @@
 //! How often each outcome came.
 
-use std::io::{self, Write};
+use crate::lines::Told;
+use vsync_text::Part;
 
 /// What a channel answers to bytes that spell a packet for another.
 pub const IGNORED: u8 = 0;
@@ -80,16 +81,30 @@ impl Tally {
         }
     }
 
-    /// Prints the outcomes.
-    pub fn print<W: Write>(&self, writer: &mut W) -> io::Result<()> {
-        write!(
-            writer,
-            "{} changes: {} ignored, {} taken, {} 6",
-            self.changes, self.ignored, self.taken, self.ended
-        )?;
+    /// Adds the outcomes.
+    pub fn put(&self, told: &mut Told) {
+        told.parts(&[
+            Part::Number(self.changes),
+            Part::Text(b" changes: "),
+            Part::Number(self.ignored),
+            Part::Text(b" ignored, "),
+            Part::Number(self.taken),
+            Part::Text(b" taken, "),
+            Part::Number(self.ended),
+            Part::Text(b" 6"),
+        ]);
         for (index, count) in self.refused.iter().enumerate() {
-            write!(writer, ", {count} {}", index.saturating_add(20))?;
+            told.parts(&[
+                Part::Text(b", "),
+                Part::Number(*count),
+                Part::Text(b" "),
+                Part::Number(index.saturating_add(20) as u64),
+            ]);
         }
-        writeln!(writer, "; sum {}", self.sum)
+        told.parts(&[
+            Part::Text(b"; sum "),
+            Part::Number(u64::from(self.sum)),
+            Part::Text(b"\n"),
+        ]);
     }
 }

@@ -91,19 +91,19 @@ returns-in_ok-take_chunk-in-State-clause-hears g c = by-kind g.R.Receiver.meanin
 }
 
 pub returns-in_ok-on_forward-in-Forward-clause-hears : goal.returns-in_ok-on_forward-in-Forward-clause-hears
-returns-in_ok-on_forward-in-Forward-clause-hears g c = let e = c.in_ok-on_forward-in-Forward.ensures in by-kind g.R.Receiver.meaning (who_of c.args.who.now) c.args.source _ _ (in_step c.args.member_state.now c.args.out.now) (in_step c.on_forward.new.member_state c.on_forward.new.out) c.in-Forward.is record { member_state = e.member_state; ordered = e.ordered; does = e.does; did = e.did; calm = search rules }
+returns-in_ok-on_forward-in-Forward-clause-hears g c = let e = c.in_ok-on_forward-in-Forward.ensures.hears in by-kind g.R.Receiver.meaning (who_of c.args.who.now) c.args.source _ _ (in_step c.args.member_state.now c.args.out.now) (in_step c.on_forward.new.member_state c.on_forward.new.out) c.in-Forward.is record { member_state = e.member_state; ordered = e.ordered; does = e.does; did = e.did; calm = search rules }
 
 pub returns-in_ok-on_order-in-Order-clause-hears : goal.returns-in_ok-on_order-in-Order-clause-hears
-returns-in_ok-on_order-in-Order-clause-hears g c = let e = c.in_ok-on_order-in-Order.ensures in by-kind g.R.Receiver.meaning (who_of c.args.who.now) c.args.source _ _ (in_step c.args.member_state.now c.args.out.now) (in_step c.on_order.new.member_state c.on_order.new.out) c.in-Order.is record { member_state = e.member_state; ordered = e.ordered; does = e.does; did = e.did; calm = search rules }
+returns-in_ok-on_order-in-Order-clause-hears g c = let e = c.in_ok-on_order-in-Order.ensures.hears in by-kind g.R.Receiver.meaning (who_of c.args.who.now) c.args.source _ _ (in_step c.args.member_state.now c.args.out.now) (in_step c.on_order.new.member_state c.on_order.new.out) c.in-Order.is record { member_state = e.member_state; ordered = e.ordered; does = e.does; did = e.did; calm = search rules }
 
 pub returns-in_ok-on_nak-in-Nak-clause-hears : goal.returns-in_ok-on_nak-in-Nak-clause-hears
-returns-in_ok-on_nak-in-Nak-clause-hears g c = let e = c.in_ok-on_nak-in-Nak.ensures in by-kind g.R.Receiver.meaning (who_of c.args.who.now) c.args.source _ _ (in_step c.args.member_state.now c.args.out.now) (in_step c.on_nak.new.member_state c.on_nak.new.out) c.in-Nak.is record { member_state = e.member_state; ordered = e.ordered; does = e.does; did = e.did; calm = search rules }
+returns-in_ok-on_nak-in-Nak-clause-hears g c = let e = c.in_ok-on_nak-in-Nak.ensures.hears in by-kind g.R.Receiver.meaning (who_of c.args.who.now) c.args.source _ _ (in_step c.args.member_state.now c.args.out.now) (in_step c.on_nak.new.member_state c.on_nak.new.out) c.in-Nak.is record { member_state = e.member_state; ordered = e.ordered; does = e.does; did = e.did; calm = search rules }
 
 pub returns-in_ok-on_ack-in-Ack-clause-hears : goal.returns-in_ok-on_ack-in-Ack-clause-hears
-returns-in_ok-on_ack-in-Ack-clause-hears g c = let e = c.in_ok-on_ack-in-Ack.ensures in by-kind g.R.Receiver.meaning (who_of c.args.who.now) c.args.source _ _ (in_step c.args.member_state.now c.args.out.now) (in_step c.on_ack.new.member_state c.on_ack.new.out) c.in-Ack.is record { member_state = e.member_state; ordered = e.ordered; does = e.does; did = e.did; calm = search rules }
+returns-in_ok-on_ack-in-Ack-clause-hears g c = let e = c.in_ok-on_ack-in-Ack.ensures.hears in by-kind g.R.Receiver.meaning (who_of c.args.who.now) c.args.source _ _ (in_step c.args.member_state.now c.args.out.now) (in_step c.on_ack.new.member_state c.on_ack.new.out) c.in-Ack.is record { member_state = e.member_state; ordered = e.ordered; does = e.does; did = e.did; calm = search rules }
 
 pub returns-in_ok-on_status-in-Status-clause-hears : goal.returns-in_ok-on_status-in-Status-clause-hears
-returns-in_ok-on_status-in-Status-clause-hears g c = let e = c.in_ok-on_status-in-Status.ensures in by-kind g.R.Receiver.meaning (who_of c.args.who.now) c.args.source _ _ (in_step c.args.member_state.now c.args.out.now) (in_step c.on_status.new.member_state c.on_status.new.out) c.in-Status.is record { member_state = e.member_state; ordered = e.ordered; does = e.does; did = e.did; calm = search rules }
+returns-in_ok-on_status-in-Status-clause-hears g c = let e = c.in_ok-on_status-in-Status.ensures.hears in by-kind g.R.Receiver.meaning (who_of c.args.who.now) c.args.source _ _ (in_step c.args.member_state.now c.args.out.now) (in_step c.on_status.new.member_state c.on_status.new.out) c.in-Status.is record { member_state = e.member_state; ordered = e.ordered; does = e.does; did = e.did; calm = search rules }
 
 pub returns-in_ok-on_redirect-in-Redirect-clause-hears : goal.returns-in_ok-on_redirect-in-Redirect-clause-hears
 returns-in_ok-on_redirect-in-Redirect-clause-hears g c = by-kind g.R.Receiver.meaning (who_of c.args.who.now) c.args.source _ _ (in_step c.args.member_state.now c.args.out.now) (in_step c.on_redirect.new.member_state c.on_redirect.new.out) c.in-Redirect.is record {

@@ -1,4 +1,4 @@
-use Rattle.std.proofs.Common.{Some, sym}
+use Rattle.std.proofs.Common.{Some, sym, rules}
 use Rattle.wire_values.specs.declared.packet.Body.TheVariants as bodies
 use Rattle.law_acts.specs.Acts.{packet}
 use Rattle.member_messages.proofs.MembersAreOpen.{there-is, orderly-in, nothing-did}
@@ -6,8 +6,8 @@ use Rattle.member_messages.proofs.PacketsHeard.{heard-in, heard-member_state, he
 use Rattle.member_messages.proofs.MessagesAreCalm.{ordering-calm}
 use Rattle.member_messages.proofs.ordering.on_forward.Goals as goal
 
-pub returns-then-not-takes_forward-clause-did : goal.returns-then-not-takes_forward-clause-did
-returns-then-not-takes_forward-clause-did g c = nothing-did g.R.Receiver.meaning _ _ _ _ _
+pub returns-then-not-takes_forward-clause-hears : goal.returns-then-not-takes_forward-clause-hears
+returns-then-not-takes_forward-clause-hears g c = record { member_state = c.requires.member_state; ordered = c.requires.ordered; does = search rules; did = nothing-did g.R.Receiver.meaning _ _ _ _ _; calm = search rules }
 
 pub forward-requires-clause-coordinator : goal.forward-requires-clause-coordinator
 forward-requires-clause-coordinator g c =
@@ -19,21 +19,15 @@ forward-requires-clause-settled g c =
     let there = there-is _ _ _ c.in-Some-Coordinator.is c.in-Some-Coordinator.field-0-is in
     (orderly-in _ _ _ c.requires.ordered there).1
 
-pub returns-clause-member_state : goal.returns-clause-member_state
-returns-clause-member_state g c =
+pub returns-clause-hears : goal.returns-clause-hears
+returns-clause-hears g c =
     let there = there-is _ _ _ c.in-Some-Coordinator.is c.in-Some-Coordinator.field-0-is in
     let heard = heard-in _ _ _ _ _ there (sym c.if-not-takes_forward.ensures) in
     let does = c.in_ok-forward-in-Some-Coordinator.ensures in
-    heard-member_state _ _ _ _ _ _ _ _ c.requires.member_state heard there does.goes.view
-
-pub returns-clause-did : goal.returns-clause-did
-returns-clause-did g c =
-    let there = there-is _ _ _ c.in-Some-Coordinator.is c.in-Some-Coordinator.field-0-is in
-    let heard = heard-in _ _ _ _ _ there (sym c.if-not-takes_forward.ensures) in
-    let does = c.in_ok-forward-in-Some-Coordinator.ensures in
-    heard-did g.R.Receiver.meaning (λ i. Some (packet c.args.source.now (bodies.Forward i c.args.number c.args.payload.now) c.args.who.now.address)) _ _ _ _ _ _ _ _ _ _ c.requires.member_state heard there does.goes.view does.goes.goes
-
-pub returns-clause-calm : goal.returns-clause-calm
-returns-clause-calm g c =
-    let does = c.in_ok-forward-in-Some-Coordinator.ensures in
-    ordering-calm g.R.Receiver.meaning _ _ _ _ _ _ _ _ does.orders does.few
+    record {
+      member_state = heard-member_state _ _ _ _ _ _ _ _ c.requires.member_state heard there does.goes.view;
+      ordered = search rules;
+      does = search rules;
+      did = heard-did g.R.Receiver.meaning (λ i. Some (packet c.args.source.now (bodies.Forward i c.args.number c.args.payload.now) c.args.who.now.address)) _ _ _ _ _ _ _ _ _ _ c.requires.member_state heard there does.goes.view does.goes.goes;
+      calm = ordering-calm g.R.Receiver.meaning _ _ _ _ _ _ _ _ does.orders does.few;
+    }

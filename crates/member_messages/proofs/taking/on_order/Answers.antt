@@ -1,4 +1,4 @@
-use Rattle.std.proofs.Common.{◌-◌, Some, not, sym}
+use Rattle.std.proofs.Common.{◌-◌, Some, not, sym, rules}
 use Rattle.std.specs.Prelude.{nat_lt}
 use Rattle.address.specs.declared.limits.TheConstants.{WINDOW}
 use Rattle.wire_values.specs.declared.packet.Body.TheVariants as bodies
@@ -9,36 +9,24 @@ use Rattle.member_messages.proofs.MessagesAreCalm.{takes-calm}
 use Rattle.member_messages.proofs.NumbersNotHeld.{order-orderly}
 use Rattle.member_messages.proofs.taking.on_order.Goals as goal
 
-pub returns-then-not-takes_order-clause-did : goal.returns-then-not-takes_order-clause-did
-returns-then-not-takes_order-clause-did g c = nothing-did g.R.Receiver.meaning _ _ _ _ _
-
-pub returns-clause-member_state : goal.returns-clause-member_state
-returns-clause-member_state g c =
-    let there = there-is _ _ _ c.in-Some-Follower.is c.in-Some-Follower.field-0-is in
-    let heard = heard-in _ _ _ _ _ there (sym c.if-not-takes_order.ensures) in
-    let does = c.in_ok-order-in-Some-Follower.ensures in
-    heard-member_state _ _ _ _ _ _ _ _ c.requires.member_state heard there does.goes.1
+pub returns-then-not-takes_order-clause-hears : goal.returns-then-not-takes_order-clause-hears
+returns-then-not-takes_order-clause-hears g c = record { member_state = c.requires.member_state; ordered = c.requires.ordered; does = search rules; did = nothing-did g.R.Receiver.meaning _ _ _ _ _; calm = search rules }
 
 pub order-requires : goal.order-requires
 order-requires g c =
     let there = there-is _ _ _ c.in-Some-Follower.is c.in-Some-Follower.field-0-is in
     record { other = (orderly-in _ _ _ c.requires.ordered there).0 }
 
-pub returns-clause-ordered : goal.returns-clause-ordered
-returns-clause-ordered g c =
-    let there = there-is _ _ _ c.in-Some-Follower.is c.in-Some-Follower.field-0-is in
-    let does = c.in_ok-order-in-Some-Follower.ensures in
-    ordered-by _ _ (order-orderly g.R.Receiver.meaning c.args.who.now.address c.args.who.now.group _ _ c.in-Some-Follower.follower _ _ _ _ _ does.takes does.goes.1 (orderly-in _ _ _ c.requires.ordered there))
-
-pub returns-clause-did : goal.returns-clause-did
-returns-clause-did g c =
+pub returns-clause-hears : goal.returns-clause-hears
+returns-clause-hears g c =
     let there = there-is _ _ _ c.in-Some-Follower.is c.in-Some-Follower.field-0-is in
     let heard = heard-in _ _ _ _ _ there (sym c.if-not-takes_order.ensures) in
     let does = c.in_ok-order-in-Some-Follower.ensures in
-    other-did g.R.Receiver.meaning (λ q i. Some (packet q (bodies.Order i c.args.place c.args.entry.now) c.args.who.now.address)) _ _ _ _ _ _ _ _ _ _ c.requires.member_state heard there
-    (from-in _ _ c.args.member_state.now c.in-Some-Follower.follower (λ m. not (nat_lt m.window.delivered (c.args.place - WINDOW))) there (sym c.if-not-takes_order.ensures)) does.goes
-
-pub returns-clause-calm : goal.returns-clause-calm
-returns-clause-calm g c =
-    let does = c.in_ok-order-in-Some-Follower.ensures in
-    takes-calm g.R.Receiver.meaning _ _ _ _ _ _ _ _ _ _ does.takes does.few
+    record {
+      member_state = heard-member_state _ _ _ _ _ _ _ _ c.requires.member_state heard there does.goes.1;
+      ordered = ordered-by _ _ (order-orderly g.R.Receiver.meaning c.args.who.now.address c.args.who.now.group _ _ c.in-Some-Follower.follower _ _ _ _ _ does.takes does.goes.1 (orderly-in _ _ _ c.requires.ordered there));
+      does = search rules;
+      did = other-did g.R.Receiver.meaning (λ q i. Some (packet q (bodies.Order i c.args.place c.args.entry.now) c.args.who.now.address)) _ _ _ _ _ _ _ _ _ _ c.requires.member_state heard there
+      (from-in _ _ c.args.member_state.now c.in-Some-Follower.follower (λ m. not (nat_lt m.window.delivered (c.args.place - WINDOW))) there (sym c.if-not-takes_order.ensures)) does.goes;
+      calm = takes-calm g.R.Receiver.meaning _ _ _ _ _ _ _ _ _ _ does.takes does.few;
+    }
