@@ -6,10 +6,9 @@ ghost use Rattle.node_turns.specs.OwnLines.{stable_line};
 
 use address::{Address, ViewId};
 use std::alloc::AllocError;
-use vsync_text::{put, put_address, put_number, put_view_id};
+use vsync_text::{Part, put_parts};
 
 // Appends the line, or a part of it.
-#[tactic(auto, using(vsync_text::proofs::KeepFront::goes_on))]
 fn put_stable(
     out: &mut Vec<u8>,
     member: &Address,
@@ -19,11 +18,18 @@ fn put_stable(
     ensures text { OnOk result (out.new.items ≡ out.old.items ++ stable_line member.now view.now count) }
     ensures kept { GoesOnFrom out.old.items out.new.items }
 {
-    put(out, b"stable")?;
-    put_address(out, b' ', member)?;
-    put_view_id(out, b' ', view)?;
-    put_number(out, b' ', count)?;
-    put(out, b"\n")
+    put_parts(
+        out,
+        &[
+            Part::Text(b"stable "),
+            Part::Address(*member),
+            Part::Text(b" "),
+            Part::View(*view),
+            Part::Text(b" "),
+            Part::Number(count),
+            Part::Text(b"\n"),
+        ],
+    )
 }
 
 /// Appends `stable MEMBER VIEW COUNT` with its line feed: so many messages of its view are stable, as far as the member knows.

@@ -1,5 +1,18 @@
-use Rattle.std.proofs.Common.{rules}
+use Rattle.std.proofs.Common.{ap, refl, ◌∙◌}
+use Rattle.node_turns.specs.Processes.{all_told}
 use Rattle.node_turns.proofs.telling.Teller.tell_then_offer.Goals as goal
 
+pub returns-in-Ok-clause-tells : goal.returns-in-Ok-clause-tells
+returns-in-Ok-clause-tells g c = rw c.channel.ensures.value at c.in-Ok.ensures.tells
+
+pub returns-in-Ok-clause-offers : goal.returns-in-Ok-clause-offers
+returns-in-Ok-clause-offers g c = rw (c.in-Ok.ensures.told ∙ ap all_told c.channel.ensures.value) at c.offer.ensures.offers
+
+pub returns-in-Ok-clause-unsaid : goal.returns-in-Ok-clause-unsaid
+returns-in-Ok-clause-unsaid g c = c.in-Ok.ensures.unsaid
+
+pub returns-in-Err-clause-tells : goal.returns-in-Err-clause-tells
+returns-in-Err-clause-tells g c = rw c.channel.ensures.value at c.in-Err.ensures.tells
+
 pub returns-in-Err-clause-offers : goal.returns-in-Err-clause-offers
-returns-in-Err-clause-offers g c = search rules
+returns-in-Err-clause-offers g c = refl
