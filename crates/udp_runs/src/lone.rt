@@ -172,8 +172,7 @@ impl<'a, N: Net, C: Application> LoneNode<'a, N, C> {
     // A round; it seeks whom its view lacks, where it is time to.
     fn round(&mut self) -> Result<(), Cut>
         ensures drives { (group : List ℕ) (start came later : Option (List ℕ)) → Owes start came self.old.outbox self.old.teller.unsaid → IsEarlier came later → Quietly N.log N.failed (MaySay (option_copied self.old.once) start later C.payload_within C.first_said) C.meaning group self.old.member self.new.member }
-        ensures voice { self.new.teller.voice ≡ self.old.teller.voice }
-        ensures once { self.new.once ≡ self.old.once }
+        ensures same { (self.new.teller.voice ≡ self.old.teller.voice) × (self.new.once ≡ self.old.once) }
         ensures owes { OnOk result (Keeps self.old.outbox self.old.teller.unsaid self.new.outbox self.new.teller.unsaid) }
     {
         self.send_all()?;
@@ -190,8 +189,7 @@ impl<'a, N: Net, C: Application> LoneNode<'a, N, C> {
     // Takes the lines that came, sends what it may, and listens; answers whether there is more to do at once.
     fn listen<L: Lines>(&mut self, lines: &mut L) -> Result<bool, Cut>
         ensures drives { (group : List ℕ) (start later : Option (List ℕ)) → Owes start (L.came lines.old) self.old.outbox self.old.teller.unsaid → IsEarlier (L.came lines.new) later → Quietly N.log N.failed (MaySay (option_copied self.old.once) start later C.payload_within C.first_said) C.meaning group self.old.member self.new.member }
-        ensures voice { self.new.teller.voice ≡ self.old.teller.voice }
-        ensures once { self.new.once ≡ self.old.once }
+        ensures same { (self.new.teller.voice ≡ self.old.teller.voice) × (self.new.once ≡ self.old.once) }
         ensures owes { (start : Option (List ℕ)) → Owes start (L.came lines.old) self.old.outbox self.old.teller.unsaid → OnOk result (Owes start (L.came lines.new) self.new.outbox self.new.teller.unsaid) }
         ensures grows { IsEarlier (L.came lines.old) (L.came lines.new) }
     {
@@ -214,8 +212,7 @@ impl<'a, N: Net, C: Application> LoneNode<'a, N, C> {
     ) -> Result<(), Cut>
         ensures tells { WritesTurn C.line_of self.old.teller.voice self.old.member.channel (W.contents writer.old) (W.contents writer.new) result }
         ensures offers { ThenOffers N.log N.failed self.old.member self.new.member result }
-        ensures voice { self.new.teller.voice ≡ self.old.teller.voice }
-        ensures once { self.new.once ≡ self.old.once }
+        ensures same { (self.new.teller.voice ≡ self.old.teller.voice) × (self.new.once ≡ self.old.once) }
         ensures owes { OnOk result (Keeps self.old.outbox self.old.teller.unsaid self.new.outbox self.new.teller.unsaid) }
         ensures came { L.came lines.new ≡ L.came lines.old }
     {
@@ -232,8 +229,7 @@ impl<'a, N: Net, C: Application> LoneNode<'a, N, C> {
     ) -> Result<(), Cut>
         ensures tells { (start later : Option (List ℕ)) → TellsFrom N.log N.failed (MaySay (option_copied self.old.once) start later C.payload_within C.first_said) C.meaning C.line_of settings.now.group self.old.teller.voice (first_call self.old.manner.finds contact) self.old.member self.new.member
             (W.contents writer.old) (W.contents writer.new) result }
-        ensures voice { self.new.teller.voice ≡ self.old.teller.voice }
-        ensures once { self.new.once ≡ self.old.once }
+        ensures same { (self.new.teller.voice ≡ self.old.teller.voice) × (self.new.once ≡ self.old.once) }
         ensures owes { OnOk result (Keeps self.old.outbox self.old.teller.unsaid self.new.outbox self.new.teller.unsaid) }
         ensures came { L.came lines.new ≡ L.came lines.old }
     {
@@ -247,8 +243,7 @@ impl<'a, N: Net, C: Application> LoneNode<'a, N, C> {
     // A round, and then what it does to find its group.
     fn round_and_find(&mut self, settings: &Settings) -> Result<(), Cut>
         ensures drives { (start came later : Option (List ℕ)) → Owes start came self.old.outbox self.old.teller.unsaid → IsEarlier came later → Quietly N.log N.failed (MaySay (option_copied self.old.once) start later C.payload_within C.first_said) C.meaning settings.now.group self.old.member self.new.member }
-        ensures voice { self.new.teller.voice ≡ self.old.teller.voice }
-        ensures once { self.new.once ≡ self.old.once }
+        ensures same { (self.new.teller.voice ≡ self.old.teller.voice) × (self.new.once ≡ self.old.once) }
         ensures owes { OnOk result (Keeps self.old.outbox self.old.teller.unsaid self.new.outbox self.new.teller.unsaid) }
     {
         self.round()?;
@@ -263,8 +258,7 @@ impl<'a, N: Net, C: Application> LoneNode<'a, N, C> {
         writer: &mut W,
     ) -> Result<(), Cut>
         ensures tells { (start later : Option (List ℕ)) → Owes start (L.came lines.old) self.old.outbox self.old.teller.unsaid → IsEarlier (L.came lines.new) later → TellsOn N.log N.failed (MaySay (option_copied self.old.once) start later C.payload_within C.first_said) C.meaning C.line_of settings.now.group self.old.teller.voice self.old.member self.new.member (W.contents writer.old) (W.contents writer.new) result }
-        ensures voice { self.new.teller.voice ≡ self.old.teller.voice }
-        ensures once { self.new.once ≡ self.old.once }
+        ensures same { (self.new.teller.voice ≡ self.old.teller.voice) × (self.new.once ≡ self.old.once) }
         ensures owes { (start : Option (List ℕ)) → Owes start (L.came lines.old) self.old.outbox self.old.teller.unsaid → OnOk result (Owes start (L.came lines.new) self.new.outbox self.new.teller.unsaid) }
         ensures grows { IsEarlier (L.came lines.old) (L.came lines.new) }
     {
@@ -286,8 +280,7 @@ impl<'a, N: Net, C: Application> LoneNode<'a, N, C> {
         writer: &mut W,
     ) -> Result<(), Cut>
         ensures tells { (group : List ℕ) (start later : Option (List ℕ)) → Owes start (L.came lines.old) self.old.outbox self.old.teller.unsaid → IsEarlier (L.came lines.new) later → TellsOn N.log N.failed (MaySay (option_copied self.old.once) start later C.payload_within C.first_said) C.meaning C.line_of group self.old.teller.voice self.old.member self.new.member (W.contents writer.old) (W.contents writer.new) result }
-        ensures voice { self.new.teller.voice ≡ self.old.teller.voice }
-        ensures once { self.new.once ≡ self.old.once }
+        ensures same { (self.new.teller.voice ≡ self.old.teller.voice) × (self.new.once ≡ self.old.once) }
         ensures owes { (start : Option (List ℕ)) → Owes start (L.came lines.old) self.old.outbox self.old.teller.unsaid → OnOk result (Owes start (L.came lines.new) self.new.outbox self.new.teller.unsaid) }
         ensures grows { IsEarlier (L.came lines.old) (L.came lines.new) }
     {
@@ -336,8 +329,7 @@ impl<'a, N: Net, C: Application> LoneNode<'a, N, C> {
         writer: &mut W,
     ) -> Result<(), Cut>
         ensures tells { (group : List ℕ) (start later : Option (List ℕ)) → Owes start (L.came lines.old) self.old.outbox self.old.teller.unsaid → IsEarlier (L.came lines.new) later → self.old.member.channel.happened ≡ [] → TellsOn N.log N.failed (MaySay (option_copied self.old.once) start later C.payload_within C.first_said) C.meaning C.line_of group self.old.teller.voice self.old.member self.new.member (W.contents writer.old) (W.contents writer.new) result }
-        ensures voice { self.new.teller.voice ≡ self.old.teller.voice }
-        ensures once { self.new.once ≡ self.old.once }
+        ensures same { (self.new.teller.voice ≡ self.old.teller.voice) × (self.new.once ≡ self.old.once) }
         ensures owes { (start : Option (List ℕ)) → Owes start (L.came lines.old) self.old.outbox self.old.teller.unsaid → OnOk result (Owes start (L.came lines.new) self.new.outbox self.new.teller.unsaid) }
         ensures grows { IsEarlier (L.came lines.old) (L.came lines.new) }
         ensures gone { M.gone machine.new ≡ M.gone machine.old }
@@ -382,8 +374,7 @@ impl<'a, N: Net, C: Application> LoneNode<'a, N, C> {
         writer: &mut W,
     ) -> Result<(), Cut>
         ensures tells { (group : List ℕ) (start later : Option (List ℕ)) → Owes start (L.came lines.old) self.old.outbox self.old.teller.unsaid → IsEarlier (L.came lines.new) later → self.old.member.channel.happened ≡ [] → TellsOn N.log N.failed (MaySay (option_copied self.old.once) start later C.payload_within C.first_said) C.meaning C.line_of group self.old.teller.voice self.old.member self.new.member (W.contents writer.old) (W.contents writer.new) result }
-        ensures voice { self.new.teller.voice ≡ self.old.teller.voice }
-        ensures once { self.new.once ≡ self.old.once }
+        ensures same { (self.new.teller.voice ≡ self.old.teller.voice) × (self.new.once ≡ self.old.once) }
         ensures owes { (start : Option (List ℕ)) → Owes start (L.came lines.old) self.old.outbox self.old.teller.unsaid → OnOk result (Owes start (L.came lines.new) self.new.outbox self.new.teller.unsaid) }
         ensures grows { IsEarlier (L.came lines.old) (L.came lines.new) }
         ensures gone { M.gone machine.new ≡ M.gone machine.old }
@@ -405,8 +396,7 @@ impl<'a, N: Net, C: Application> LoneNode<'a, N, C> {
         writer: &mut W,
     ) -> Result<(), Cut>
         ensures tells { (start later : Option (List ℕ)) → Owes start (L.came lines.old) self.old.outbox self.old.teller.unsaid → IsEarlier (L.came lines.new) later → self.old.member.channel.happened ≡ [] → TellsOn N.log N.failed (MaySay (option_copied self.old.once) start later C.payload_within C.first_said) C.meaning C.line_of settings.now.group self.old.teller.voice self.old.member self.new.member (W.contents writer.old) (W.contents writer.new) result }
-        ensures voice { self.new.teller.voice ≡ self.old.teller.voice }
-        ensures once { self.new.once ≡ self.old.once }
+        ensures same { (self.new.teller.voice ≡ self.old.teller.voice) × (self.new.once ≡ self.old.once) }
         ensures owes { (start : Option (List ℕ)) → Owes start (L.came lines.old) self.old.outbox self.old.teller.unsaid → OnOk result (Owes start (L.came lines.new) self.new.outbox self.new.teller.unsaid) }
         ensures grows { IsEarlier (L.came lines.old) (L.came lines.new) }
         ensures gone { M.gone machine.new ≡ M.gone machine.old }

@@ -43,8 +43,7 @@ impl<'a, N: Net, C: Application> LoneNode<'a, N, C> {
     // Sends, as the coordinator of its view, what that sends first in the view, if it may.
     fn send_first(&mut self) -> Result<(), Cut>
         ensures drives { (group : List ℕ) (start later : Option (List ℕ)) → Quietly N.log N.failed (MaySay (option_copied self.old.once) start later C.payload_within C.first_said) C.meaning group self.old.member self.new.member }
-        ensures voice { self.new.teller.voice ≡ self.old.teller.voice }
-        ensures once { self.new.once ≡ self.old.once }
+        ensures same { (self.new.teller.voice ≡ self.old.teller.voice) × (self.new.once ≡ self.old.once) }
         ensures owes { OnOk result (Keeps self.old.outbox self.old.teller.unsaid self.new.outbox self.new.teller.unsaid) }
     {
         let Some(id) = self.unopened() else {
@@ -77,8 +76,7 @@ impl<'a, N: Net, C: Application> LoneNode<'a, N, C> {
     // Sends what the coordinator of its view sends first there, if it sends anything; answers whether nothing of it is left.
     fn opens(&mut self) -> Result<bool, Cut>
         ensures drives { (group : List ℕ) (start later : Option (List ℕ)) → Quietly N.log N.failed (MaySay (option_copied self.old.once) start later C.payload_within C.first_said) C.meaning group self.old.member self.new.member }
-        ensures voice { self.new.teller.voice ≡ self.old.teller.voice }
-        ensures once { self.new.once ≡ self.old.once }
+        ensures same { (self.new.teller.voice ≡ self.old.teller.voice) × (self.new.once ≡ self.old.once) }
         ensures owes { OnOk result (Keeps self.old.outbox self.old.teller.unsaid self.new.outbox self.new.teller.unsaid) }
     {
         let Some(view) = self.member.channel().view() else {
@@ -107,8 +105,7 @@ impl<'a, N: Net, C: Application> LoneNode<'a, N, C> {
     // Sends what it has to send once, if it may.
     fn send_once(&mut self) -> Result<(), Cut>
         ensures drives { (group : List ℕ) (start later : Option (List ℕ)) → Quietly N.log N.failed (MaySay (option_copied self.old.once) start later C.payload_within C.first_said) C.meaning group self.old.member self.new.member }
-        ensures voice { self.new.teller.voice ≡ self.old.teller.voice }
-        ensures once { self.new.once ≡ self.old.once }
+        ensures same { (self.new.teller.voice ≡ self.old.teller.voice) × (self.new.once ≡ self.old.once) }
         ensures owes { OnOk result (Keeps self.old.outbox self.old.teller.unsaid self.new.outbox self.new.teller.unsaid) }
     {
         let Some(text) = self.next_once() else {
@@ -130,8 +127,7 @@ impl<'a, N: Net, C: Application> LoneNode<'a, N, C> {
     // Sends what a text says in its view, and answers what became of it.
     fn says(&mut self, text: &[u8], sent: Sent) -> Result<Said, Cut>
         ensures drives { (group : List ℕ) (start came later : Option (List ℕ)) → IsText (option_copied self.old.once) start came text.now → IsEarlier came later → Quietly N.log N.failed (MaySay (option_copied self.old.once) start later C.payload_within C.first_said) C.meaning group self.old.member self.new.member }
-        ensures voice { self.new.teller.voice ≡ self.old.teller.voice }
-        ensures once { self.new.once ≡ self.old.once }
+        ensures same { (self.new.teller.voice ≡ self.old.teller.voice) × (self.new.once ≡ self.old.once) }
         ensures owes { (start came : Option (List ℕ)) → IsSentOf start came sent → Owes start came self.old.outbox self.old.teller.unsaid → OnOk result (Owes start came self.new.outbox self.new.teller.unsaid) }
     {
         let Some(view) = self.member.channel().view() else {
@@ -156,8 +152,7 @@ impl<'a, N: Net, C: Application> LoneNode<'a, N, C> {
     fn sends(&mut self, payload: &Bytes, sent: Sent) -> Result<bool, Cut>
         ensures drives { (group : List ℕ) (start later : Option (List ℕ)) → ((view : ViewValue) → view_in self.old.member.channel.stage ≡ Some view
             → MaySay (option_copied self.old.once) start later C.payload_within C.first_said view.id payload.now) → Quietly N.log N.failed (MaySay (option_copied self.old.once) start later C.payload_within C.first_said) C.meaning group self.old.member self.new.member }
-        ensures voice { self.new.teller.voice ≡ self.old.teller.voice }
-        ensures once { self.new.once ≡ self.old.once }
+        ensures same { (self.new.teller.voice ≡ self.old.teller.voice) × (self.new.once ≡ self.old.once) }
         ensures owes { (start came : Option (List ℕ)) → IsSentOf start came sent → Owes start came self.old.outbox self.old.teller.unsaid → OnOk result (Owes start came self.new.outbox self.new.teller.unsaid) }
     {
         let answer = send(self.alloc, &mut self.member, payload)?;
@@ -170,8 +165,7 @@ impl<'a, N: Net, C: Application> LoneNode<'a, N, C> {
     // Notes what was sent, if it was and is said again where it comes back.
     fn note_sent(&mut self, is_taken: bool, sent: Sent) -> Result<(), Cut>
         ensures member { self.new.member ≡ self.old.member }
-        ensures voice { self.new.teller.voice ≡ self.old.teller.voice }
-        ensures once { self.new.once ≡ self.old.once }
+        ensures same { (self.new.teller.voice ≡ self.old.teller.voice) × (self.new.once ≡ self.old.once) }
         ensures owes { (start came : Option (List ℕ)) → IsSentOf start came sent → Owes start came self.old.outbox self.old.teller.unsaid → OnOk result (Owes start came self.new.outbox self.new.teller.unsaid) }
     {
         if is_taken && (self.manner.finds || C::says_again()) {
@@ -185,8 +179,7 @@ impl<'a, N: Net, C: Application> LoneNode<'a, N, C> {
         ensures outbox { OnOk result (self.new.outbox ≡ record (self.old.outbox) { waiting = self.old.teller.unsaid.back ++ self.old.outbox.waiting }) }
         ensures unsaid { OnOk result (self.new.teller.unsaid ≡ record (self.old.teller.unsaid) { back = [] }) }
         ensures member { self.new.member ≡ self.old.member }
-        ensures voice { self.new.teller.voice ≡ self.old.teller.voice }
-        ensures once { self.new.once ≡ self.old.once }
+        ensures same { (self.new.teller.voice ≡ self.old.teller.voice) × (self.new.once ≡ self.old.once) }
     {
         let lines = self.teller.unsaid.take_lines();
         self.outbox.begin_with(lines.as_slice())?;
@@ -196,8 +189,7 @@ impl<'a, N: Net, C: Application> LoneNode<'a, N, C> {
     // The line that it is to send next; none while a line is to be told of that cannot be sent.
     fn next_line(&mut self) -> Result<Option<Vec<u8>>, Cut>
         ensures member { self.new.member ≡ self.old.member }
-        ensures voice { self.new.teller.voice ≡ self.old.teller.voice }
-        ensures once { self.new.once ≡ self.old.once }
+        ensures same { (self.new.teller.voice ≡ self.old.teller.voice) × (self.new.once ≡ self.old.once) }
         ensures owes { OnOk result (Keeps self.old.outbox self.old.teller.unsaid self.new.outbox self.new.teller.unsaid) }
         ensures line { (start came : Option (List ℕ)) → Owes start came self.old.outbox self.old.teller.unsaid → IfOk result (λ line. IfSome line (λ text. IsLineOf start came text.items)) }
     {
@@ -219,8 +211,7 @@ impl<'a, N: Net, C: Application> LoneNode<'a, N, C> {
     // Sends the next line, and answers whether it did.
     fn send_line(&mut self) -> Result<bool, Cut>
         ensures drives { (group : List ℕ) (start came later : Option (List ℕ)) → Owes start came self.old.outbox self.old.teller.unsaid → IsEarlier came later → Quietly N.log N.failed (MaySay (option_copied self.old.once) start later C.payload_within C.first_said) C.meaning group self.old.member self.new.member }
-        ensures voice { self.new.teller.voice ≡ self.old.teller.voice }
-        ensures once { self.new.once ≡ self.old.once }
+        ensures same { (self.new.teller.voice ≡ self.old.teller.voice) × (self.new.once ≡ self.old.once) }
         ensures owes { OnOk result (Keeps self.old.outbox self.old.teller.unsaid self.new.outbox self.new.teller.unsaid) }
     {
         let Some(line) = self.next_line()? else {
@@ -244,8 +235,7 @@ impl<'a, N: Net, C: Application> LoneNode<'a, N, C> {
     // Sends the lines that wait, as many as it may, where it holds none back; answers whether it sent any.
     pub(crate) fn send_lines(&mut self) -> Result<bool, Cut>
         ensures drives { (group : List ℕ) (start came later : Option (List ℕ)) → Owes start came self.old.outbox self.old.teller.unsaid → IsEarlier came later → Quietly N.log N.failed (MaySay (option_copied self.old.once) start later C.payload_within C.first_said) C.meaning group self.old.member self.new.member }
-        ensures voice { self.new.teller.voice ≡ self.old.teller.voice }
-        ensures once { self.new.once ≡ self.old.once }
+        ensures same { (self.new.teller.voice ≡ self.old.teller.voice) × (self.new.once ≡ self.old.once) }
         ensures owes { OnOk result (Keeps self.old.outbox self.old.teller.unsaid self.new.outbox self.new.teller.unsaid) }
     {
         self.take_back()?;
@@ -264,8 +254,7 @@ impl<'a, N: Net, C: Application> LoneNode<'a, N, C> {
     // Sends what it has to send, as much as it may, where it holds nothing back.
     pub(crate) fn send_all(&mut self) -> Result<(), Cut>
         ensures drives { (group : List ℕ) (start came later : Option (List ℕ)) → Owes start came self.old.outbox self.old.teller.unsaid → IsEarlier came later → Quietly N.log N.failed (MaySay (option_copied self.old.once) start later C.payload_within C.first_said) C.meaning group self.old.member self.new.member }
-        ensures voice { self.new.teller.voice ≡ self.old.teller.voice }
-        ensures once { self.new.once ≡ self.old.once }
+        ensures same { (self.new.teller.voice ≡ self.old.teller.voice) × (self.new.once ≡ self.old.once) }
         ensures owes { OnOk result (Keeps self.old.outbox self.old.teller.unsaid self.new.outbox self.new.teller.unsaid) }
     {
         if self.holds() {
@@ -280,8 +269,7 @@ impl<'a, N: Net, C: Application> LoneNode<'a, N, C> {
     // Takes the lines that came.
     pub(crate) fn take_lines<L: Lines>(&mut self, lines: &mut L) -> Result<(), Cut>
         ensures member { self.new.member ≡ self.old.member }
-        ensures voice { self.new.teller.voice ≡ self.old.teller.voice }
-        ensures once { self.new.once ≡ self.old.once }
+        ensures same { (self.new.teller.voice ≡ self.old.teller.voice) × (self.new.once ≡ self.old.once) }
         ensures unsaid { self.new.teller.unsaid ≡ self.old.teller.unsaid }
         ensures fills { Fills (L.came lines.old) (L.came lines.new) self.old.outbox self.new.outbox result }
     {

@@ -9,21 +9,21 @@ pub returns-in_err-take_lines-clause-drives : goal.returns-in_err-take_lines-cla
 returns-in_err-take_lines-clause-drives g c group start later owed earlier = quiet-as _ _ _ _ group _ _ c.take_lines.ensures.member
 
 pub returns-in_err-has_sent-clause-drives : goal.returns-in_err-has_sent-clause-drives
-returns-in_err-has_sent-clause-drives g c group start later owed earlier = rw (c.take_lines.ensures.member, c.take_lines.ensures.once) at c.send_lines.ensures.drives group start _ later (filled-owes _ _ _ _ _ _ _ c.in_ok-take_lines.ensures.fills c.take_lines.ensures.unsaid owed) earlier
+returns-in_err-has_sent-clause-drives g c group start later owed earlier = rw (c.take_lines.ensures.member, c.take_lines.ensures.same.1) at c.send_lines.ensures.drives group start _ later (filled-owes _ _ _ _ _ _ _ c.in_ok-take_lines.ensures.fills c.take_lines.ensures.unsaid owed) earlier
 
 pub returns-in_err-goes_on-in-Err-clause-drives : goal.returns-in_err-goes_on-in-Err-clause-drives
 returns-in_err-goes_on-in-Err-clause-drives g c group start later owed earlier =
-    quiet-then _ _ _ _ group _ _ _ (rw (c.take_lines.ensures.member, c.take_lines.ensures.once) at c.send_lines.ensures.drives group start _ later (filled-owes _ _ _ _ _ _ _ c.in_ok-take_lines.ensures.fills c.take_lines.ensures.unsaid owed) earlier) (rw c.goes_on.ensures.member (quiet-by _ _ _ _ group _ _ _ (Listen _ _ c.listen.ensures) refl tt))
+    quiet-then _ _ _ _ group _ _ _ (rw (c.take_lines.ensures.member, c.take_lines.ensures.same.1) at c.send_lines.ensures.drives group start _ later (filled-owes _ _ _ _ _ _ _ c.in_ok-take_lines.ensures.fills c.take_lines.ensures.unsaid owed) earlier) (rw c.goes_on.ensures.member (quiet-by _ _ _ _ group _ _ _ (Listen _ _ c.listen.ensures) refl tt))
 
 pub returns-in_ok-goes_on-in-Err-clause-drives : goal.returns-in_ok-goes_on-in-Err-clause-drives
 returns-in_ok-goes_on-in-Err-clause-drives g c group start later owed earlier =
-    quiet-then _ _ _ _ group _ _ _ (rw (c.take_lines.ensures.member, c.take_lines.ensures.once) at c.send_lines.ensures.drives group start _ later (filled-owes _ _ _ _ _ _ _ c.in_ok-take_lines.ensures.fills c.take_lines.ensures.unsaid owed) earlier) (rw c.goes_on.ensures.member (quiet-by _ _ _ _ group _ _ _ (Listen _ _ c.listen.ensures) refl tt))
+    quiet-then _ _ _ _ group _ _ _ (rw (c.take_lines.ensures.member, c.take_lines.ensures.same.1) at c.send_lines.ensures.drives group start _ later (filled-owes _ _ _ _ _ _ _ c.in_ok-take_lines.ensures.fills c.take_lines.ensures.unsaid owed) earlier) (rw c.goes_on.ensures.member (quiet-by _ _ _ _ group _ _ _ (Listen _ _ c.listen.ensures) refl tt))
 
 pub returns-then-has_sent-clause-drives : goal.returns-then-has_sent-clause-drives
-returns-then-has_sent-clause-drives g c group start later owed earlier = quiet-then _ _ _ _ group _ _ _ (rw (c.take_lines.ensures.member, c.take_lines.ensures.once) at c.send_lines.ensures.drives group start _ later (filled-owes _ _ _ _ _ _ _ c.in_ok-take_lines.ensures.fills c.take_lines.ensures.unsaid owed) earlier) (quiet-by _ _ _ _ group _ _ _ (Listen _ _ c.listen.ensures) refl tt)
+returns-then-has_sent-clause-drives g c group start later owed earlier = quiet-then _ _ _ _ group _ _ _ (rw (c.take_lines.ensures.member, c.take_lines.ensures.same.1) at c.send_lines.ensures.drives group start _ later (filled-owes _ _ _ _ _ _ _ c.in_ok-take_lines.ensures.fills c.take_lines.ensures.unsaid owed) earlier) (quiet-by _ _ _ _ group _ _ _ (Listen _ _ c.listen.ensures) refl tt)
 
 pub returns-else-has_sent-clause-drives : goal.returns-else-has_sent-clause-drives
-returns-else-has_sent-clause-drives g c group start later owed earlier = quiet-then _ _ _ _ group _ _ _ (rw (c.take_lines.ensures.member, c.take_lines.ensures.once) at c.send_lines.ensures.drives group start _ later (filled-owes _ _ _ _ _ _ _ c.in_ok-take_lines.ensures.fills c.take_lines.ensures.unsaid owed) earlier) (quiet-by _ _ _ _ group _ _ _ (Listen _ _ c.listen.ensures) refl tt)
+returns-else-has_sent-clause-drives g c group start later owed earlier = quiet-then _ _ _ _ group _ _ _ (rw (c.take_lines.ensures.member, c.take_lines.ensures.same.1) at c.send_lines.ensures.drives group start _ later (filled-owes _ _ _ _ _ _ _ c.in_ok-take_lines.ensures.fills c.take_lines.ensures.unsaid owed) earlier) (quiet-by _ _ _ _ group _ _ _ (Listen _ _ c.listen.ensures) refl tt)
 
 pub returns-in_err-take_lines-clause-grows : goal.returns-in_err-take_lines-clause-grows
 returns-in_err-take_lines-clause-grows g c = fills-earlier _ _ _ _ _ c.take_lines.ensures.fills

@@ -6,12 +6,12 @@ use Rattle.udp_runs.proofs.lone.LoneNode.listen_for.Goals as goal
 pub returns-in-Ok-clause-tells : goal.returns-in-Ok-clause-tells
 returns-in-Ok-clause-tells g c group start later owed earlier =
     tells-waits _ _ _ _ group _ _ _ _ _ _ _ _
-    (tells-turn _ _ _ _ group _ _ _ _ _ _ _ _ (c.listen-went.ensures.drives group start later owed (rw c.tell_then_offer.ensures.came at earlier)) (rw c.listen-went.ensures.voice at c.in-Ok.ensures.tells) c.in-Ok.ensures.offers)
+    (tells-turn _ _ _ _ group _ _ _ _ _ _ _ _ (c.listen-went.ensures.drives group start later owed (rw c.tell_then_offer.ensures.came at earlier)) (rw c.listen-went.ensures.same.0 at c.in-Ok.ensures.tells) c.in-Ok.ensures.offers)
     c.wait_unless.ensures.waits
 
 pub returns-in-Err-clause-tells : goal.returns-in-Err-clause-tells
 returns-in-Err-clause-tells g c group start later owed earlier =
-    tells-turn _ _ _ _ group _ _ _ _ _ _ _ _ (c.listen-went.ensures.drives group start later owed (rw c.tell_then_offer.ensures.came at earlier)) (rw c.listen-went.ensures.voice at c.in-Err.ensures.tells) c.in-Err.ensures.offers
+    tells-turn _ _ _ _ group _ _ _ _ _ _ _ _ (c.listen-went.ensures.drives group start later owed (rw c.tell_then_offer.ensures.came at earlier)) (rw c.listen-went.ensures.same.0 at c.in-Err.ensures.tells) c.in-Err.ensures.offers
 
 pub returns-in-Ok-clause-owes : goal.returns-in-Ok-clause-owes
 returns-in-Ok-clause-owes g c start owed =

@@ -15,16 +15,16 @@ pub returns-in_err-copy-clause-drives : goal.returns-in_err-copy-clause-drives
 returns-in_err-copy-clause-drives g c group start came later owed earlier = quiet-as _ _ _ _ group _ _ c.next_line.ensures.member
 
 pub returns-in_err-says-clause-drives : goal.returns-in_err-says-clause-drives
-returns-in_err-says-clause-drives g c group start came later owed earlier = rw (c.next_line.ensures.member, c.next_line.ensures.once) at c.says.ensures.drives group start came later (inr (subst (IsLineOf start came) (sym c.as_slice-2.ensures.value) (rw c.in-Some.is at c.in_ok-line.ensures.line start came owed))) earlier
+returns-in_err-says-clause-drives g c group start came later owed earlier = rw (c.next_line.ensures.member, c.next_line.ensures.same.1) at c.says.ensures.drives group start came later (inr (subst (IsLineOf start came) (sym c.as_slice-2.ensures.value) (rw c.in-Some.is at c.in_ok-line.ensures.line start came owed))) earlier
 
 pub returns-in-Taken-clause-drives : goal.returns-in-Taken-clause-drives
-returns-in-Taken-clause-drives g c group start came later owed earlier = rw (c.next_line.ensures.member, c.next_line.ensures.once) at c.says.ensures.drives group start came later (inr (subst (IsLineOf start came) (sym c.as_slice-2.ensures.value) (rw c.in-Some.is at c.in_ok-line.ensures.line start came owed))) earlier
+returns-in-Taken-clause-drives g c group start came later owed earlier = rw (c.next_line.ensures.member, c.next_line.ensures.same.1) at c.says.ensures.drives group start came later (inr (subst (IsLineOf start came) (sym c.as_slice-2.ensures.value) (rw c.in-Some.is at c.in_ok-line.ensures.line start came owed))) earlier
 
 pub returns-in-Waits-clause-drives : goal.returns-in-Waits-clause-drives
-returns-in-Waits-clause-drives g c group start came later owed earlier = rw (c.next_line.ensures.member, c.next_line.ensures.once) at c.says.ensures.drives group start came later (inr (subst (IsLineOf start came) (sym c.as_slice-2.ensures.value) (rw c.in-Some.is at c.in_ok-line.ensures.line start came owed))) earlier
+returns-in-Waits-clause-drives g c group start came later owed earlier = rw (c.next_line.ensures.member, c.next_line.ensures.same.1) at c.says.ensures.drives group start came later (inr (subst (IsLineOf start came) (sym c.as_slice-2.ensures.value) (rw c.in-Some.is at c.in_ok-line.ensures.line start came owed))) earlier
 
 pub returns-clause-drives : goal.returns-clause-drives
-returns-clause-drives g c group start came later owed earlier = rw (c.next_line.ensures.member, c.next_line.ensures.once) at c.says.ensures.drives group start came later (inr (subst (IsLineOf start came) (sym c.as_slice-2.ensures.value) (rw c.in-Some.is at c.in_ok-line.ensures.line start came owed))) earlier
+returns-clause-drives g c group start came later owed earlier = rw (c.next_line.ensures.member, c.next_line.ensures.same.1) at c.says.ensures.drives group start came later (inr (subst (IsLineOf start came) (sym c.as_slice-2.ensures.value) (rw c.in-Some.is at c.in_ok-line.ensures.line start came owed))) earlier
 
 pub returns-in-Taken-clause-owes : goal.returns-in-Taken-clause-owes
 returns-in-Taken-clause-owes g c start came owed =

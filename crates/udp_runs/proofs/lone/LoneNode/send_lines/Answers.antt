@@ -14,13 +14,13 @@ returns-then-holds-clause-owes g c start came owed =
     same-keeps _ _ _ _ _ _ c.holds.ensures.texts start came (back-keeps _ _ _ _ c.in_ok-take_back.ensures.outbox c.in_ok-take_back.ensures.unsaid start came owed)
 
 pub returns-in_err-send_first-clause-drives : goal.returns-in_err-send_first-clause-drives
-returns-in_err-send_first-clause-drives g c group start came later owed earlier = rw (c.holds.ensures.member, c.holds.ensures.texts.0, c.take_back.ensures.member, c.take_back.ensures.once) at c.send_first.ensures.drives group start later
+returns-in_err-send_first-clause-drives g c group start came later owed earlier = rw (c.holds.ensures.member, c.holds.ensures.texts.0, c.take_back.ensures.member, c.take_back.ensures.same.1) at c.send_first.ensures.drives group start later
 
 pub loop-sent-init : goal.loop-sent-init
 loop-sent-init g c = (
-  λ group start came later owed earlier. rw (c.holds.ensures.member, c.holds.ensures.texts.0, c.take_back.ensures.member, c.take_back.ensures.once) at c.send_first.ensures.drives group start later,
-  c.send_first.ensures.voice ∙ c.holds.ensures.voice ∙ c.take_back.ensures.voice,
-  c.send_first.ensures.once ∙ c.holds.ensures.texts.0 ∙ c.take_back.ensures.once,
+  λ group start came later owed earlier. rw (c.holds.ensures.member, c.holds.ensures.texts.0, c.take_back.ensures.member, c.take_back.ensures.same.1) at c.send_first.ensures.drives group start later,
+  c.send_first.ensures.same.0 ∙ c.holds.ensures.voice ∙ c.take_back.ensures.same.0,
+  c.send_first.ensures.same.1 ∙ c.holds.ensures.texts.0 ∙ c.take_back.ensures.same.1,
   λ start came owed. after-same _ _ _ _ _ _ _ _ c.holds.ensures.texts c.in_ok-send_first.ensures.owes start came (back-keeps _ _ _ _ c.in_ok-take_back.ensures.outbox c.in_ok-take_back.ensures.unsaid start came owed),
 )
 
@@ -36,7 +36,7 @@ returns-then-not-branch-clause-owes g c start came owed = let (drives, voice, on
 pub loop-sent-preserved : goal.loop-sent-preserved
 loop-sent-preserved g c = let (drives, voice, once, keeps) = c.loop-sent.invariant in (
   λ group start came later owed earlier. quiet-then _ _ _ _ group _ _ _ (drives group start came later owed earlier) (rw once at c.send_line.ensures.drives group start came later (keeps start came owed) earlier),
-  c.send_line.ensures.voice ∙ voice,
-  c.send_line.ensures.once ∙ once,
+  c.send_line.ensures.same.0 ∙ voice,
+  c.send_line.ensures.same.1 ∙ once,
   λ start came owed. c.in_ok-send_line.ensures.owes start came (keeps start came owed),
 )

@@ -10,13 +10,13 @@ returns-in-Err-clause-tells g c start later owed earlier = tells-cut _ _ _ _ c.a
 
 pub returns-in-Ok-clause-tells : goal.returns-in-Ok-clause-tells
 returns-in-Ok-clause-tells g c start later owed earlier =
-    tells-went _ _ _ _ c.args.settings.now.group _ _ _ _ _ _ _ (tells-turn _ _ _ _ c.args.settings.now.group _ _ _ _ _ _ _ _ (rw (c.take_lines.ensures.member, c.take_lines.ensures.once) at c.round_and_find-went.ensures.drives start _ later (filled-then _ _ _ _ _ _ _ _ c.in_default.not-Err c.take_lines.ensures.fills c.take_lines.ensures.unsaid owed) (rw c.tell_then_offer.ensures.came at earlier))
-    (rw (c.round_and_find-went.ensures.voice, c.take_lines.ensures.voice) at c.in-Ok.ensures.tells) c.in-Ok.ensures.offers)
+    tells-went _ _ _ _ c.args.settings.now.group _ _ _ _ _ _ _ (tells-turn _ _ _ _ c.args.settings.now.group _ _ _ _ _ _ _ _ (rw (c.take_lines.ensures.member, c.take_lines.ensures.same.1) at c.round_and_find-went.ensures.drives start _ later (filled-then _ _ _ _ _ _ _ _ c.in_default.not-Err c.take_lines.ensures.fills c.take_lines.ensures.unsaid owed) (rw c.tell_then_offer.ensures.came at earlier))
+    (rw (c.round_and_find-went.ensures.same.0, c.take_lines.ensures.same.0) at c.in-Ok.ensures.tells) c.in-Ok.ensures.offers)
 
 pub returns-in-Err-tell_then_offer-clause-tells : goal.returns-in-Err-tell_then_offer-clause-tells
 returns-in-Err-tell_then_offer-clause-tells g c start later owed earlier =
-    tells-turn _ _ _ _ c.args.settings.now.group _ _ _ _ _ _ _ _ (rw (c.take_lines.ensures.member, c.take_lines.ensures.once) at c.round_and_find-went.ensures.drives start _ later (filled-then _ _ _ _ _ _ _ _ c.in_default.not-Err c.take_lines.ensures.fills c.take_lines.ensures.unsaid owed) (rw c.tell_then_offer.ensures.came at earlier))
-    (rw (c.round_and_find-went.ensures.voice, c.take_lines.ensures.voice) at c.in-Err-tell_then_offer.ensures.tells) c.in-Err-tell_then_offer.ensures.offers
+    tells-turn _ _ _ _ c.args.settings.now.group _ _ _ _ _ _ _ _ (rw (c.take_lines.ensures.member, c.take_lines.ensures.same.1) at c.round_and_find-went.ensures.drives start _ later (filled-then _ _ _ _ _ _ _ _ c.in_default.not-Err c.take_lines.ensures.fills c.take_lines.ensures.unsaid owed) (rw c.tell_then_offer.ensures.came at earlier))
+    (rw (c.round_and_find-went.ensures.same.0, c.take_lines.ensures.same.0) at c.in-Err-tell_then_offer.ensures.tells) c.in-Err-tell_then_offer.ensures.offers
 
 pub returns-in-Err-clause-grows : goal.returns-in-Err-clause-grows
 returns-in-Err-clause-grows g c = fills-earlier _ _ _ _ _ c.take_lines.ensures.fills
