@@ -7,11 +7,16 @@ use Rattle.frames.specs.declared.outlet.Seal.{Seal}
 use Rattle.frames.specs.Carried.{count_of, offering_long, offering_pieces, piece_at, piece_frame}
 use Rattle.frames.specs.Longs.{number_for}
 use Rattle.frames.specs.Outlets.{OutletModel, counter_behind, flushing}
-use Rattle.frames.proofs.Logs.{lists-on}
+use Rattle.frames.proofs.Logs.{lists-none, lists-on}
 
 pub on-ok : {A E : Type 0} (r : Result A E) (One Other : Type 0) → (One → Other) → OnOk r One → OnOk r Other
 on-ok (Ok x) One Other also one = also one
 on-ok (Err e) One Other also one = tt
+
+-- no piece is left
+pub no-pieces : (s : Seal) (node counter number index left : ℕ) (packet : List ℕ) (log : Option Log) → left ≡ 0
+    → Lists log (offering_pieces s node counter number index left packet) log
+no-pieces s node counter number index left packet log e = rw e (lists-none log)
 
 -- one, and then the others
 pub pieces-on : (s : Seal) (node counter number index left : ℕ) (packet : List ℕ) (one two three : Option Log) (m c k n : ℕ)

@@ -1,8 +1,11 @@
 -- How the list of a net grows.
-use Rattle.std.proofs.Common.{◌≡◌, ℕ, List, [], ◌∷◌, ◌++◌, take, length, refl, ap, ◌∙◌, Option, Some, None}
+use Rattle.std.proofs.Common.{◌≡◌, ◌≤◌, ℕ, arith, List, [], ◌∷◌, ◌++◌, take, length, refl, ap, ◌∙◌, Option, Some, None}
 use Rattle.std.specs.Prelude.{slice_get}
-use Rattle.std.proofs.Math.Seq.{take-append_seam}
-use Rattle.udp_net.specs.Logs.{Log, NetEvent, Answered, Lists, listing, receiving}
+use Rattle.std.specs.Prelude.{Result, Ok, Err}
+use Rattle.std.specs.Result.{IsErr}
+use Rattle.std.proofs.Math.Seq.{take-append_seam, take-length}
+use Rattle.udp_net.specs.Logs.{Log, NetEvent, Answered, Lists, failures_after, listing, one_more, receiving}
+use Rattle.udp_net.specs.declared.error.Fault.{Fault}
 use Rattle.udp_net.specs.declared.net.Received.TheVariants as received
 use Rattle.frames.specs.Nets.{Grows}
 use Rattle.frames.specs.Arrivals.{GivenIn}
@@ -15,6 +18,10 @@ pub grows-listing : (old new : Option Log) (e : NetEvent) → Lists old (listing
 grows-listing old None e x = tt
 grows-listing None (Some l) e x = x
 grows-listing (Some o) (Some l) e x = rw x (take-more o (e ∷ []))
+
+pub grows-none : (log : Option Log) → Grows log log
+grows-none None = tt
+grows-none (Some l) = take-length l
 
 -- a beginning of a beginning
 take-take : (A : Type 0) (a b c : List A) → take (length a) b ≡ a → take (length b) c ≡ b → take (length a) c ≡ a
@@ -52,3 +59,15 @@ lists-on one two None f g x y = tt
 lists-on one None (Some l) f g x y = absurd y
 lists-on None (Some k) (Some l) f g x y = absurd x
 lists-on (Some j) (Some k) (Some l) f g x y = y ∙ ap g x
+
+-- a count that stays, and one that grows on
+pub stays : (n : ℕ) → n ≤ n
+stays n = omega arith
+
+pub up : (a b c d : ℕ) → a ≤ b → c ≡ b → c ≤ d → a ≤ d
+up a b c d x y z = omega arith
+
+-- what a net failed, behind an error
+pub failed-on : {A : Type 0} (one two : ℕ) (r : Result A Fault) → two ≡ one_more one → IsErr r → two ≡ failures_after one r
+failed-on one two (Ok x) e is = cc
+failed-on one two (Err f) e is = e

@@ -1,9 +1,10 @@
 -- Packets in one vector, when one comes and when one is given.
-use Rattle.std.proofs.Common.{◌≡◌, ◌≤◌, ◌+◌, ◌-◌, ◌⊎◌, ℕ, suc, List, [], ◌∷◌, ◌++◌, length, take, drop, refl, sym, ap, subst, ◌∙◌, inl, inr, arith}
-use Rattle.std.proofs.Math.Seq.{drop-append_seam, drop-drop}
+use Rattle.std.proofs.Common.{◌≡◌, ◌<◌, ◌≤◌, ◌+◌, ◌-◌, ◌⊎◌, ℕ, suc, List, [], ◌∷◌, ◌++◌, length, take, drop, get_or, refl, sym, ap, subst, ◌∙◌, inl, inr, arith}
+use Rattle.std.specs.Prelude.{Some, nat_le, if◌then◌else◌}
+use Rattle.std.proofs.Math.Seq.{drop-append_seam, drop-cons, drop-drop}
 use Rattle.std.proofs.lemmas.List.{drop-append-le, length-append, length-drop, take-append-le, take_all}
 use Rattle.frames.specs.Frames.{last_behind}
-use Rattle.frames.specs.Rows.{cut, total, IsRow}
+use Rattle.frames.specs.Rows.{cut, total, Gives, IsRow}
 
 total-one-more : (lengths : List ℕ) (n : ℕ) → total (lengths ++ n ∷ []) ≡ total lengths + n
 total-one-more [] n = omega arith
@@ -55,6 +56,10 @@ module _ (bytes lengths : List ℕ) (gone start last : ℕ) (row : IsRow bytes l
     end = inr (drop-append_seam bytes packet ∙ sym (last-one-more [] (cut (drop gone lengths) (drop start bytes)) packet) ∙ ap (last_behind []) (sym (row-more packet)));
   }
 
+-- the length of the first packet that is left
+pub next-of : (lengths : List ℕ) (k n : ℕ) → k < length lengths → n ≡ get_or lengths k n → drop k lengths ≡ n ∷ drop (suc k) lengths
+next-of lengths k n there is = drop-cons lengths k n there ∙ ap (λ (m : ℕ). m ∷ drop (suc k) lengths) (sym is)
+
 -- a packet is given
 module _ (bytes lengths : List ℕ) (gone start last : ℕ) (row : IsRow bytes lengths gone start last) (n : ℕ) (rest : List ℕ) (next : drop gone lengths ≡ n ∷ rest) where
   pub fits : n ≤ length (drop start bytes)
@@ -90,3 +95,11 @@ module _ (bytes lengths : List ℕ) (gone start last : ℕ) (row : IsRow bytes l
     end = subst (λ (l : List ℕ). (l ≡ []) ⊎ (drop last bytes ≡ last_behind [] (cut l (drop (start + n) bytes)))) (sym rest-is)
         (subst (λ (l : List ℕ). (rest ≡ []) ⊎ (drop last bytes ≡ last_behind [] (cut rest l))) (sym on) (last-of rest row.end refl));
   }
+
+  pub gives : (packet buffer : List ℕ) (k : ℕ) → packet ≡ take n (drop start bytes)
+      → take k buffer ≡ (if nat_le (length packet) (length buffer) then packet else [])
+      → Gives (cut (drop gone lengths) (drop start bytes)) (Some k) buffer (cut (drop (gone + 1) lengths) (drop (start + n) bytes))
+  gives packet buffer k e is = rw cut-is (
+    ap (λ (l : List ℕ). cut l (drop (start + n) bytes)) rest-is ∙ ap (cut rest) on,
+    subst (λ (p : List ℕ). take k buffer ≡ (if nat_le (length p) (length buffer) then p else [])) e is,
+  )

@@ -13,7 +13,8 @@ use Rattle.frames.specs.Carried.{count_of, piece_at}
 use Rattle.frames.specs.Outlets.{OutletModel, head_for}
 use Rattle.frames.specs.declared.longs.Longs.{Longs}
 use Rattle.frames.specs.Longs.{AreKnown, IsNumbered}
-use Rattle.frames.specs.Nets.{FramedModel, HasFlushed, IsAnswer}
+use Rattle.frames.specs.Nets.{FramedModel, HasFlushed, HasReceived, IsAnswer, IsSameNode}
+use Rattle.frames.proofs.Logs.{stays}
 use Rattle.frames.specs.Sendings.{Adds, AreLongs, AreOf, AreSameWays, IsFrameOf, KeepLongs, WaitOf}
 
 all-both : (A : Type 0) (Holds : A → Type 0) (xs ys : List A) → AllByRecursion Holds xs → AllByRecursion Holds ys → AllByRecursion Holds (xs ++ ys)
@@ -48,6 +49,16 @@ adds-answer old None answer x = tt
 adds-answer None (Some l) answer x = absurd x
 adds-answer (Some o) (Some l) answer x = (Answered answer ∷ [], x, (tt, tt))
 
+-- what was received by now, and then a packet is given and a frame is taken
+pub received-on : {N : Type 0} (log : N → Option Log) (old mid given new : FramedModel N) → HasReceived log old mid
+    → given.inner ≡ mid.inner → given.outlets ≡ mid.outlets → IsSameNode mid given
+    → Adds IsAnswer (log given.inner) (log new.inner) → new.outlets ≡ given.outlets → IsSameNode given new → HasReceived log old new
+received-on {N} log old mid given new r inner outlets same more on after = record {
+  answers = adds-on IsAnswer (log old.inner) (log mid.inner) (log new.inner) r.answers (subst (λ (n : N). Adds IsAnswer (log n) (log new.inner)) inner more);
+  outlets = on ∙ outlets ∙ r.outlets;
+  same = record { node = after.node ∙ same.node ∙ r.same.node; seal = after.seal ∙ same.seal ∙ r.same.seal };
+}
+
 pub same-ways : (outlets : List OutletModel) → AreSameWays outlets outlets
 same-ways [] = tt
 same-ways (o ∷ outlets) = (refl, omega arith, same-ways outlets)
@@ -55,6 +66,9 @@ same-ways (o ∷ outlets) = (refl, omega arith, same-ways outlets)
 -- the long packets that are kept, where only what waits has changed
 pub longs-on : (long : ℕ → ℕ → List ℕ) (o n : OutletModel) → n.node ≡ o.node → n.longs ≡ o.longs → AreLongs long o → AreLongs long n
 longs-on long o n e f known = subst (λ (m : ℕ). AreKnown (long m) n.longs) (sym e) (subst (AreKnown (long o.node)) (sym f) known)
+
+pub next-on : (o n : OutletModel) → n.longs ≡ o.longs → o.longs.next ≤ n.longs.next
+next-on o n e = subst (λ (l : Longs). o.longs.next ≤ l.next) (sym e) (stays o.longs.next)
 
 pub numbered-from : (long : ℕ → ℕ → List ℕ) (packet : List ℕ) (o m n : OutletModel) → m.node ≡ o.node → m.longs ≡ o.longs → IsNumbered (long o.node) packet o.longs n.longs
     → IsNumbered (long m.node) packet m.longs n.longs

@@ -147,9 +147,8 @@ impl<'a, N: Net, C: Application> LoneNode<'a, N, C> {
 
     // Whether it goes on after an answer of its runner: not where it has ended.
     fn goes_on(&mut self, answer: Result<(), Error>) -> Result<(), Cut>
-        ensures member { self.new.member ≡ self.old.member }
-        ensures voice { self.new.teller.voice ≡ self.old.teller.voice }
-        ensures texts { AreSame self.old.once self.old.outbox self.old.teller.unsaid self.new.once self.new.outbox self.new.teller.unsaid }
+        ensures same { (self.new.member ≡ self.old.member) × (self.new.teller.voice ≡ self.old.teller.voice)
+            × AreSame self.old.once self.old.outbox self.old.teller.unsaid self.new.once self.new.outbox self.new.teller.unsaid }
     {
         if answer == Err(Error::Refused(Refusal::Closed)) {
             self.has_ended = true;
@@ -312,9 +311,8 @@ impl<'a, N: Net, C: Application> LoneNode<'a, N, C> {
 
     // It is this time.
     fn go_on(&mut self, now: Duration)
-        ensures member { self.new.member ≡ self.old.member }
-        ensures voice { self.new.teller.voice ≡ self.old.teller.voice }
-        ensures texts { AreSame self.old.once self.old.outbox self.old.teller.unsaid self.new.once self.new.outbox self.new.teller.unsaid }
+        ensures same { (self.new.member ≡ self.old.member) × (self.new.teller.voice ≡ self.old.teller.voice)
+            × AreSame self.old.once self.old.outbox self.old.teller.unsaid self.new.once self.new.outbox self.new.teller.unsaid }
     {
         self.time = now;
         self.finder.go_on(milliseconds(now));
@@ -351,9 +349,8 @@ impl<'a, N: Net, C: Application> LoneNode<'a, N, C> {
 
     // When the next round is due: a tick after the last one was, or after now, if that is half a tick or more ago.
     fn next_due(&mut self, now: Duration) -> Duration
-        ensures member { self.new.member ≡ self.old.member }
-        ensures voice { self.new.teller.voice ≡ self.old.teller.voice }
-        ensures texts { AreSame self.old.once self.old.outbox self.old.teller.unsaid self.new.once self.new.outbox self.new.teller.unsaid }
+        ensures same { (self.new.member ≡ self.old.member) × (self.new.teller.voice ≡ self.old.teller.voice)
+            × AreSame self.old.once self.old.outbox self.old.teller.unsaid self.new.once self.new.outbox self.new.teller.unsaid }
     {
         let late = now.saturating_sub(self.due);
         let last = if late.saturating_add(late) < self.manner.tick {

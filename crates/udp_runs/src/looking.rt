@@ -11,9 +11,8 @@ use udp_net::Net;
 impl<'a, N: Net, C: Application> LoneNode<'a, N, C> {
     // Tells the machine what whoever looks after it should know, and shows it how it is.
     pub(crate) fn look<M: NodeMachine>(&mut self, machine: &mut M)
-        ensures member { self.new.member ≡ self.old.member }
-        ensures voice { self.new.teller.voice ≡ self.old.teller.voice }
-        ensures texts { AreSame self.old.once self.old.outbox self.old.teller.unsaid self.new.once self.new.outbox self.new.teller.unsaid }
+        ensures same { (self.new.member ≡ self.old.member) × (self.new.teller.voice ≡ self.old.teller.voice)
+            × AreSame self.old.once self.old.outbox self.old.teller.unsaid self.new.once self.new.outbox self.new.teller.unsaid }
         ensures gone { M.gone machine.new ≡ M.gone machine.old }
     {
         if let Some(notice) = self.watch.take_notice() {
@@ -34,9 +33,8 @@ impl<'a, N: Net, C: Application> LoneNode<'a, N, C> {
 
     // Notes where lines wait since its view has too few members.
     fn note_few(&mut self)
-        ensures member { self.new.member ≡ self.old.member }
-        ensures voice { self.new.teller.voice ≡ self.old.teller.voice }
-        ensures texts { AreSame self.old.once self.old.outbox self.old.teller.unsaid self.new.once self.new.outbox self.new.teller.unsaid }
+        ensures same { (self.new.member ≡ self.old.member) × (self.new.teller.voice ≡ self.old.teller.voice)
+            × AreSame self.old.once self.old.outbox self.old.teller.unsaid self.new.once self.new.outbox self.new.teller.unsaid }
     {
         if !self.is_few() || !(self.is_unsent || self.outbox.has_line()) {
             return;
@@ -48,9 +46,8 @@ impl<'a, N: Net, C: Application> LoneNode<'a, N, C> {
 
     // How it is.
     fn status(&mut self) -> NodeStatus
-        ensures member { self.new.member ≡ self.old.member }
-        ensures voice { self.new.teller.voice ≡ self.old.teller.voice }
-        ensures texts { AreSame self.old.once self.old.outbox self.old.teller.unsaid self.new.once self.new.outbox self.new.teller.unsaid }
+        ensures same { (self.new.member ≡ self.old.member) × (self.new.teller.voice ≡ self.old.teller.voice)
+            × AreSame self.old.once self.old.outbox self.old.teller.unsaid self.new.once self.new.outbox self.new.teller.unsaid }
     {
         let strange = self.member.net().strange();
         let blocked = self.watch.blocked(self.time);
@@ -71,9 +68,8 @@ impl<'a, N: Net, C: Application> LoneNode<'a, N, C> {
 
     // Shows the machine how it is.
     fn show<M: NodeMachine>(&mut self, machine: &mut M)
-        ensures member { self.new.member ≡ self.old.member }
-        ensures voice { self.new.teller.voice ≡ self.old.teller.voice }
-        ensures texts { AreSame self.old.once self.old.outbox self.old.teller.unsaid self.new.once self.new.outbox self.new.teller.unsaid }
+        ensures same { (self.new.member ≡ self.old.member) × (self.new.teller.voice ≡ self.old.teller.voice)
+            × AreSame self.old.once self.old.outbox self.old.teller.unsaid self.new.once self.new.outbox self.new.teller.unsaid }
         ensures gone { M.gone machine.new ≡ M.gone machine.old }
     {
         let status = self.status();

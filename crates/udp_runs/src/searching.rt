@@ -30,9 +30,8 @@ impl<'a, N: Net, C: Application> LoneNode<'a, N, C> {
 
     // Where it is.
     pub(crate) fn whereabouts(&mut self) -> Whereabouts
-        ensures member { self.new.member ≡ self.old.member }
-        ensures voice { self.new.teller.voice ≡ self.old.teller.voice }
-        ensures texts { AreSame self.old.once self.old.outbox self.old.teller.unsaid self.new.once self.new.outbox self.new.teller.unsaid }
+        ensures same { (self.new.member ≡ self.old.member) × (self.new.teller.voice ≡ self.old.teller.voice)
+            × AreSame self.old.once self.old.outbox self.old.teller.unsaid self.new.once self.new.outbox self.new.teller.unsaid }
     {
         let channel = self.member.channel();
         let view = match channel.view() {
@@ -76,9 +75,8 @@ impl<'a, N: Net, C: Application> LoneNode<'a, N, C> {
 
     // What words told of a node, if there are so many.
     fn neighbour(&mut self, place: usize) -> Option<Neighbour>
-        ensures member { self.new.member ≡ self.old.member }
-        ensures voice { self.new.teller.voice ≡ self.old.teller.voice }
-        ensures texts { AreSame self.old.once self.old.outbox self.old.teller.unsaid self.new.once self.new.outbox self.new.teller.unsaid }
+        ensures same { (self.new.member ≡ self.old.member) × (self.new.teller.voice ≡ self.old.teller.voice)
+            × AreSame self.old.once self.old.outbox self.old.teller.unsaid self.new.once self.new.outbox self.new.teller.unsaid }
     {
         self.member.net().words().get(place).copied()
     }

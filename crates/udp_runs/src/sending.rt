@@ -57,9 +57,8 @@ impl<'a, N: Net, C: Application> LoneNode<'a, N, C> {
 
     // The id of its view, where it is the coordinator there and has not said yet what that says first.
     fn unopened(&mut self) -> Option<ViewId>
-        ensures member { self.new.member ≡ self.old.member }
-        ensures voice { self.new.teller.voice ≡ self.old.teller.voice }
-        ensures texts { AreSame self.old.once self.old.outbox self.old.teller.unsaid self.new.once self.new.outbox self.new.teller.unsaid }
+        ensures same { (self.new.member ≡ self.old.member) × (self.new.teller.voice ≡ self.old.teller.voice)
+            × AreSame self.old.once self.old.outbox self.old.teller.unsaid self.new.once self.new.outbox self.new.teller.unsaid }
     {
         let channel = self.member.channel();
         let view = channel.view()?;
@@ -91,9 +90,8 @@ impl<'a, N: Net, C: Application> LoneNode<'a, N, C> {
 
     // What it has to send once yet, if anything: what was not sent, or came back.
     fn next_once(&mut self) -> Option<&'a [u8]>
-        ensures member { self.new.member ≡ self.old.member }
-        ensures voice { self.new.teller.voice ≡ self.old.teller.voice }
-        ensures texts { AreSame self.old.once self.old.outbox self.old.teller.unsaid self.new.once self.new.outbox self.new.teller.unsaid }
+        ensures same { (self.new.member ≡ self.old.member) × (self.new.teller.voice ≡ self.old.teller.voice)
+            × AreSame self.old.once self.old.outbox self.old.teller.unsaid self.new.once self.new.outbox self.new.teller.unsaid }
         ensures text { IfSome result (λ text. option_copied self.old.once ≡ Some text.now) }
     {
         if self.teller.unsaid.take_once() {
@@ -285,9 +283,8 @@ impl<'a, N: Net, C: Application> LoneNode<'a, N, C> {
 
     // Whether its view has too few members to send in it.
     pub(crate) fn is_few(&mut self) -> bool
-        ensures member { self.new.member ≡ self.old.member }
-        ensures voice { self.new.teller.voice ≡ self.old.teller.voice }
-        ensures texts { AreSame self.old.once self.old.outbox self.old.teller.unsaid self.new.once self.new.outbox self.new.teller.unsaid }
+        ensures same { (self.new.member ≡ self.old.member) × (self.new.teller.voice ≡ self.old.teller.voice)
+            × AreSame self.old.once self.old.outbox self.old.teller.unsaid self.new.once self.new.outbox self.new.teller.unsaid }
     {
         match self.whereabouts().view {
             Some(standing) => standing.members < self.manner.quorum as usize,
@@ -297,9 +294,8 @@ impl<'a, N: Net, C: Application> LoneNode<'a, N, C> {
 
     // Whether it sends nothing for now.
     pub(crate) fn holds(&mut self) -> bool
-        ensures member { self.new.member ≡ self.old.member }
-        ensures voice { self.new.teller.voice ≡ self.old.teller.voice }
-        ensures texts { AreSame self.old.once self.old.outbox self.old.teller.unsaid self.new.once self.new.outbox self.new.teller.unsaid }
+        ensures same { (self.new.member ≡ self.old.member) × (self.new.teller.voice ≡ self.old.teller.voice)
+            × AreSame self.old.once self.old.outbox self.old.teller.unsaid self.new.once self.new.outbox self.new.teller.unsaid }
     {
         (self.manner.finds && self.finder.holds()) || self.is_few()
     }

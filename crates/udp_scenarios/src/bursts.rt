@@ -44,14 +44,6 @@ impl Came {
         self.last = number;
     }
 
-    // Counts a turn of the sender.
-    fn turn(&mut self) {
-        if self.turns == 0 {
-            self.first = self.datagrams;
-        }
-        self.turns = self.turns.wrapping_add(1);
-    }
-
     // Tells it.
     fn put(&self, told: &mut Told) {
         told.number("datagrams that came", self.datagrams);
@@ -139,40 +131,52 @@ impl Pair {
 
     // Turns of node 1, until nothing comes of one; node 2 says a word in each.
     fn turns(&mut self) {
-        for _ in 0..TURNS {
+        for turn in 0..TURNS {
             if !self.take() {
                 break;
             }
-            self.came.turn();
+            if turn == 0 {
+                self.came.first = self.came.datagrams;
+            }
+            self.came.turns = turn.wrapping_add(1);
             self.to.send(first_at(1).node(), b"more");
             self.turn();
         }
     }
 }
 
-/// As many datagrams as a long state has.
-pub fn once(rt: &HostRuntime, told: &mut Told) -> Result<(), AllocError> {
-    let mut pair = nets(rt)?;
-    pair.offer(33);
+/// Offers so many datagrams, and tells what came of it.
+fn put_offered(rt: &HostRuntime, told: &mut Told, count: u8) {
+    let Ok(mut pair) = nets(rt) else {
+        return told.refuse();
+    };
+    pair.offer(count);
     pair.turns();
     pair.came.put(told);
-    Ok(())
+}
+
+/// As many datagrams as a long state has.
+pub fn once(rt: &HostRuntime, told: &mut Told) {
+    put_offered(rt, told, 33);
 }
 
 /// As many datagrams, and all of them again while most are held back: those that went come again behind the others.
-pub fn twice(rt: &HostRuntime, told: &mut Told) -> Result<(), AllocError> {
-    let mut pair = nets(rt)?;
+pub fn twice(rt: &HostRuntime, told: &mut Told) {
+    let Ok(mut pair) = nets(rt) else {
+        return told.refuse();
+    };
     pair.offer(33);
     pair.offer(33);
     pair.turns();
     told.number("datagrams that came", pair.came.datagrams);
     told.number("the last", u64::from(pair.came.last));
-    Ok(())
 }
 
 /// As many datagrams, to one from whom nothing comes.
-pub fn unheard(rt: &HostRuntime, told: &mut Told) -> Result<(), AllocError> {
-    let mut pair = nets(rt)?;
+pub fn unheard(rt: &HostRuntime, told: &mut Told) {
+    let Ok(mut pair) = nets(rt) else {
+        return told.refuse();
+    };
     pair.offer(33);
     for _ in 0..100u8 {
         pair.turn();
@@ -183,14 +187,9 @@ pub fn unheard(rt: &HostRuntime, told: &mut Told) -> Result<(), AllocError> {
     pair.turn();
     let _ = pair.take();
     told.number("came in 102 turns", pair.came.datagrams);
-    Ok(())
 }
 
 /// More than is held back.
-pub fn too_long(rt: &HostRuntime, told: &mut Told) -> Result<(), AllocError> {
-    let mut pair = nets(rt)?;
-    pair.offer(100);
-    pair.turns();
-    pair.came.put(told);
-    Ok(())
+pub fn too_long(rt: &HostRuntime, told: &mut Told) {
+    put_offered(rt, told, 100);
 }

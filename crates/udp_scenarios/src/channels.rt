@@ -16,13 +16,13 @@ mod story;
 mod tally;
 
 use crate::lines::Told;
-use crate::{NOT_BEGUN, OUTSIDE};
+use crate::{NOT_BEGUN, OUTSIDE, print};
 use calls::payloads;
 use catch_up::LEVEL;
 pub use catch_up::caught_up;
 use stands::{Chat, apart};
 use std::alloc::{AllocError, Global};
-use std::io::{self, Write};
+use std::io;
 use story::tell;
 
 /// A reading of a damaged packet is wrong.
@@ -32,7 +32,11 @@ const WRONG: u8 = 1;
 const ROOM: usize = 16_384;
 
 /// Tells the story of 1.1 and 2.1, unless memory is refused before it begins.
-fn tell_of_both(alloc: Global, told: &mut Told, sends: &mut Vec<Vec<u8>>) -> Result<(), AllocError> {
+fn tell_of_both(
+    alloc: Global,
+    told: &mut Told,
+    sends: &mut Vec<Vec<u8>>,
+) -> Result<(), AllocError> {
     let mut first: Chat = apart(alloc, 1)?;
     let mut second: Chat = apart(alloc, 2)?;
     tell(told, sends, &mut first, &mut second);
@@ -47,17 +51,12 @@ fn whole_story(alloc: Global) -> Result<Told, AllocError> {
     Ok(told)
 }
 
-/// Prints the story's lines.
-fn print_story(rt: &HostRuntime, told: &Told) -> io::Result<()> {
-    io::writer(rt).write_all(told.text()?)
-}
-
 /// Tells the story of the calls; the exit status.
 pub fn tell_calls(rt: &HostRuntime) -> u8 {
     let Ok(told) = whole_story(rt.alloc()) else {
         return NOT_BEGUN;
     };
-    match print_story(rt, &told) {
+    match print(rt, &told) {
         Ok(()) => 0,
         Err(_) => OUTSIDE,
     }

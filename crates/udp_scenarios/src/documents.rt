@@ -21,19 +21,6 @@ fn refusal(alloc: Global, text: &[u8]) -> u8 {
     }
 }
 
-/// Adds what each document of a file shows, and how it is refused.
-fn put_documents(alloc: Global, told: &mut Told, file: &[u8]) {
-    let mut rest = file;
-    for _ in 0..DOCUMENTS {
-        let Some((document, behind)) = first_block(rest) else {
-            break;
-        };
-        told.bytes(first_line(document));
-        told.refusal("", refusal(alloc, document));
-        rest = behind;
-    }
-}
-
 /// The text of settings of so many nodes, at the ports behind this one.
 pub fn text_of_nodes(alloc: Global, count: u16, port: u16) -> Result<Vec<u8>, AllocError> {
     let mut text = Told::new(alloc);
@@ -51,10 +38,12 @@ pub fn text_of_nodes(alloc: Global, count: u16, port: u16) -> Result<Vec<u8>, Al
     text.into_text()
 }
 
-/// The refusal of settings of as many nodes.
-fn of_many(alloc: Global, count: u16) -> Result<u8, AllocError> {
-    let text = text_of_nodes(alloc, count, 0)?;
-    Ok(refusal(alloc, text.as_slice()))
+/// How settings of so many nodes are refused.
+fn put_many(alloc: Global, told: &mut Told, asked: &str, count: u16) {
+    match text_of_nodes(alloc, count, 0) {
+        Ok(text) => told.refusal(asked, refusal(alloc, text.as_slice())),
+        Err(_) => told.refuse(),
+    }
 }
 
 /// What settings say.
@@ -83,9 +72,16 @@ pub fn found(alloc: Global, told: &mut Told) {
 }
 
 /// How each document of a file is refused, and those of 16 and of 17 nodes.
-pub fn all(alloc: Global, told: &mut Told, file: &[u8]) -> Result<(), AllocError> {
-    put_documents(alloc, told, file);
-    told.refusal("16 nodes", of_many(alloc, 16)?);
-    told.refusal("17 nodes", of_many(alloc, 17)?);
-    Ok(())
+pub fn all(alloc: Global, told: &mut Told, file: &[u8]) {
+    let mut rest = file;
+    for _ in 0..DOCUMENTS {
+        let Some((document, behind)) = first_block(rest) else {
+            break;
+        };
+        told.bytes(first_line(document));
+        told.refusal("", refusal(alloc, document));
+        rest = behind;
+    }
+    put_many(alloc, told, "16 nodes", 16);
+    put_many(alloc, told, "17 nodes", 17);
 }

@@ -65,8 +65,8 @@ fn connected(alloc: Global, number: u16) -> Result<Channel<ChatLog>, AllocError>
     }
 }
 
-/// The member of a node.
-fn member(alloc: Global, wires: &RefCell<Wires>, number: u16) -> Result<Member<'_>, AllocError> {
+/// The member of a node, before its first round.
+fn begun(alloc: Global, wires: &RefCell<Wires>, number: u16) -> Result<Member<'_>, AllocError> {
     let channel = connected(alloc, number)?;
     let net = Wire::new(wires, first_at(number).node());
     Runner::new(alloc, net, channel, &[], SILENT)
@@ -77,7 +77,7 @@ impl<'a> Four<'a> {
     fn new(alloc: Global, wires: &'a RefCell<Wires>) -> Result<Four<'a>, AllocError> {
         let mut members = Vec::new(alloc);
         for number in 1..=4u16 {
-            members.push(member(alloc, wires, number)?)?;
+            members.push(begun(alloc, wires, number)?)?;
         }
         Ok(Four {
             alloc,
@@ -99,7 +99,7 @@ impl<'a> Four<'a> {
             sends,
             receives,
             faults,
-            length: self.told.len(),
+            length: self.told.so_far().len(),
         };
         if self.after.push(after).is_err() {
             self.told.refuse();
@@ -136,12 +136,13 @@ impl<'a> Four<'a> {
     }
 
     /// The member of a node sends.
-    fn send(&mut self, number: usize, text: &[u8]) -> Result<(), AllocError> {
-        let payload = Vec::from_slice(self.alloc, text)?;
+    fn send(&mut self, number: usize, text: &[u8]) {
+        let Ok(payload) = Vec::from_slice(self.alloc, text) else {
+            return self.told.refuse();
+        };
         if let Some(channel) = self.at(number) {
             let _ = channel.send(payload);
         }
-        Ok(())
     }
 
     /// They part into two pairs.
@@ -161,16 +162,15 @@ impl<'a> Four<'a> {
     }
 
     /// They come into one view, part into two pairs, send on each side, and merge.
-    fn part_and_merge(&mut self) -> Result<(), AllocError> {
+    fn part_and_merge(&mut self) {
         self.rounds();
         self.part();
         self.rounds();
-        self.send(1, b"a")?;
-        self.send(3, b"b")?;
+        self.send(1, b"a");
+        self.send(3, b"b");
         self.rounds();
         self.merge();
         self.rounds();
-        Ok(())
     }
 
     /// Their story.
@@ -187,6 +187,6 @@ impl<'a> Four<'a> {
 pub fn play(alloc: Global, failing: Failing) -> Result<Story, AllocError> {
     let wires = RefCell::new(Wires::failing(alloc, failing));
     let mut four = Four::new(alloc, &wires)?;
-    four.part_and_merge()?;
+    four.part_and_merge();
     four.into_story()
 }

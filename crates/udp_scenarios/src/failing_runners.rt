@@ -34,7 +34,8 @@ fn are_alike(one: &After, other: &After) -> bool {
         && one.length == other.length
 }
 
-/// Whether all is as in a story in which that receive found nothing, but for the faults: so nothing was handed in by it, and nothing was received after it in its round.
+/// Whether all is as in a story in which that receive found nothing, but for the faults: so nothing was handed in by it, and nothing was received after it in
+/// its round.
 fn is_as_empty(failed: &Story, empty: &Story) -> bool {
     let mut is_right = failed.text.as_slice() == empty.text.as_slice()
         && failed.after.len() == empty.after.len();

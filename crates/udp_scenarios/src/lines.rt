@@ -5,10 +5,13 @@ use std::alloc::{AllocError, Global};
 use trace_props::Event;
 use vsync_text::{Part, append_event, put_hex, put_parts};
 
-/// A story's text, and whether memory was refused for it, or for what it was to tell of: then it takes no more, and is given to nobody.
+/// The text of stories, and whether memory was refused for one of them, or for what it was to tell of: then that story is cut off behind its name, and no more
+/// is added.
 #[derive(Drop)]
 pub struct Told {
     text: Vec<u8>,
+    // How much of it stands where memory is refused.
+    whole: usize,
     is_refused: bool,
 }
 
@@ -17,6 +20,7 @@ impl Told {
     pub fn new(alloc: Global) -> Told {
         Told {
             text: Vec::new(alloc),
+            whole: 0,
             is_refused: false,
         }
     }
@@ -25,15 +29,40 @@ impl Told {
     pub fn with_room(alloc: Global, room: usize) -> Result<Told, AllocError> {
         Ok(Told {
             text: Vec::with_capacity(alloc, room)?,
+            whole: 0,
             is_refused: false,
         })
     }
 
+    /// Memory was refused for the story, or for what it was to tell of.
+    pub fn refuse(&mut self) {
+        self.is_refused = true;
+        self.text.truncate(self.whole);
+    }
+
     /// Adds parts, one behind the other.
     pub fn parts(&mut self, parts: &[Part<'_>]) {
-        if !self.is_refused {
-            self.is_refused = put_parts(&mut self.text, parts).is_err();
+        if !self.is_refused && put_parts(&mut self.text, parts).is_err() {
+            self.refuse();
         }
+    }
+
+    // What was told so far stands.
+    fn keep(&mut self) {
+        if !self.is_refused {
+            self.whole = self.text.len();
+        }
+    }
+
+    /// Begins a story of this name.
+    pub fn story(&mut self, name: &str) {
+        self.keep();
+        self.parts(&[
+            Part::Text(b"== "),
+            Part::Text(name.as_bytes()),
+            Part::Text(b"\n"),
+        ]);
+        self.keep();
     }
 
     /// Adds bytes as they are.
@@ -81,49 +110,50 @@ impl Told {
 
     /// Adds the line of an event.
     pub fn event(&mut self, event: &Event) {
-        if !self.is_refused {
-            self.is_refused = append_event(&mut self.text, event).is_err();
+        if !self.is_refused && append_event(&mut self.text, event).is_err() {
+            self.refuse();
+        }
+    }
+
+    // Adds bytes in hexadecimal.
+    fn hexadecimal(&mut self, bytes: &[u8]) {
+        if !self.is_refused && put_hex(&mut self.text, bytes).is_err() {
+            self.refuse();
         }
     }
 
     /// Adds the line of a packet: to whom it goes, and its bytes in hexadecimal.
     pub fn packet(&mut self, to: Address, bytes: &[u8]) {
         self.parts(&[Part::Text(b"to "), Part::Address(to), Part::Text(b": ")]);
-        if !self.is_refused {
-            self.is_refused = put_hex(&mut self.text, bytes).is_err();
-        }
+        self.hexadecimal(bytes);
         self.bytes(b"\n");
     }
 
-    /// Memory was refused for what it was to tell of.
-    pub fn refuse(&mut self) {
-        self.is_refused = true;
-    }
-
-    /// How long it is.
-    pub fn len(&self) -> usize {
-        self.text.len()
+    /// What stands of the text.
+    pub fn so_far(&self) -> &[u8] {
+        self.text.as_slice()
     }
 
     /// The text; an error where memory was refused.
     pub fn text(&self) -> Result<&[u8], AllocError> {
         if self.is_refused {
-            return Err(AllocError);
+            Err(AllocError)
+        } else {
+            Ok(self.text.as_slice())
         }
-        Ok(self.text.as_slice())
     }
 
     /// The same, by itself.
     pub fn into_text(self) -> Result<Vec<u8>, AllocError> {
-        let Told { text, is_refused } = self;
+        let Told {
+            text,
+            is_refused,
+            ..
+        } = self;
         if is_refused {
-            return Err(AllocError);
+            Err(AllocError)
+        } else {
+            Ok(text)
         }
-        Ok(text)
-    }
-
-    /// Empties it, for the next story.
-    pub fn clear(&mut self) {
-        self.text.clear();
     }
 }

@@ -5,7 +5,7 @@ use crate::shelf::Shelf;
 use crate::stories::first_at;
 use chat_log::ChatLog;
 use memory_nets::{Listed, MemoryNet};
-use std::alloc::{AllocError, Global};
+use std::alloc::Global;
 use udp_net::{FOUR, Net, settings_of};
 use udp_runs::run_udp;
 
@@ -28,8 +28,10 @@ fn put_listed(told: &mut Told, net: &MemoryNet) {
 }
 
 /// What the nets list that are given back after a script, by node.
-pub fn all(alloc: Global, told: &mut Told) -> Result<(), AllocError> {
-    let settings = settings_of(alloc, FOUR)?;
+pub fn all(alloc: Global, told: &mut Told) {
+    let Ok(settings) = settings_of(alloc, FOUR) else {
+        return told.refuse();
+    };
     let mut shelf = Shelf::new(alloc);
     let mut reader = APART;
     let mut text = Vec::new(alloc);
@@ -38,7 +40,6 @@ pub fn all(alloc: Global, told: &mut Told) -> Result<(), AllocError> {
     for returned in shelf.returned() {
         put_listed(told, &returned.net);
     }
-    Ok(())
 }
 
 /// Which of the sends were lost that a net lists.
@@ -53,7 +54,12 @@ fn put_lost(told: &mut Told, net: &MemoryNet) {
     }
 }
 
-fn put_failing(told: &mut Told, net: &mut MemoryNet) {
+/// What a net with one datagram of two answers where its first receive fails, and what it lists of two sends of which the first fails.
+pub fn failing(alloc: Global, told: &mut Told) {
+    let mut net = MemoryNet::new(alloc);
+    if net.put(b"hi").is_err() {
+        return told.refuse();
+    }
     net.fail_receive(1);
     net.fail_send(1);
     let mut buffer = [0; 8];
@@ -63,13 +69,5 @@ fn put_failing(told: &mut Told, net: &mut MemoryNet) {
     for _ in 0..2u8 {
         net.send(first_at(1).node(), b"there");
     }
-    put_lost(told, net);
-}
-
-/// What a net with one datagram of two answers where its first receive fails, and what it lists of two sends of which the first fails.
-pub fn failing(alloc: Global, told: &mut Told) -> Result<(), AllocError> {
-    let mut net = MemoryNet::new(alloc);
-    net.put(b"hi")?;
-    put_failing(told, &mut net);
-    Ok(())
+    put_lost(told, &net);
 }

@@ -2,7 +2,7 @@
 
 use crate::lines::Told;
 use crate::sockets::{free_settings, put_judged, run_with};
-use crate::stories::chats_of;
+use crate::stories::trace_and_chats;
 use chat_log::LongChat;
 use std::alloc::{AllocError, Global};
 
@@ -55,11 +55,12 @@ fn put_chats(told: &mut Told, chats: &[u8]) {
 }
 
 /// Whether it has it, and the chat is everywhere the same.
-pub fn joins(rt: &HostRuntime, told: &mut Told) -> Result<(), AllocError> {
-    let settings = free_settings(rt)?;
-    let script = script(rt.alloc())?;
+pub fn joins(rt: &HostRuntime, told: &mut Told) {
+    let (Ok(settings), Ok(script)) = (free_settings(rt), script(rt.alloc())) else {
+        return told.refuse();
+    };
     let (text, status) = run_with::<LongChat>(rt, &settings, script.as_slice());
     put_judged::<LongChat>(rt.alloc(), told, text.as_slice(), status);
-    put_chats(told, chats_of(text.as_slice()));
-    Ok(())
+    let (_, chats) = trace_and_chats(text.as_slice());
+    put_chats(told, chats);
 }

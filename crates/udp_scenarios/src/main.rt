@@ -22,7 +22,6 @@ mod words;
 
 use files::bytes_of;
 use lines::Told;
-use std::alloc::AllocError;
 use std::env;
 use std::io::{self, Write};
 use std::process::ExitCode;
@@ -56,108 +55,119 @@ fn asked(rt: &HostRuntime) -> io::Result<Wanted> {
     Ok(Wanted::All)
 }
 
-/// Prints a story's text, with its name before it, and empties it.
-fn print(
-    rt: &HostRuntime,
-    name: &str,
-    came: Result<(), AllocError>,
-    told: &mut Told,
-) -> io::Result<()> {
-    let mut writer = io::writer(rt);
-    writeln!(writer, "== {name}")?;
-    came?;
-    writer.write_all(told.text()?)?;
-    told.clear();
+/// Prints stories; an error behind the name of one for which memory was refused.
+fn print(rt: &HostRuntime, told: &Told) -> io::Result<()> {
+    io::writer(rt).write_all(told.so_far())?;
+    told.text()?;
     Ok(())
 }
 
+/// Prints what settings say.
+fn print_settings(rt: &HostRuntime) -> io::Result<()> {
+    let mut told = Told::new(rt.alloc());
+    told.story("settings");
+    documents::found(rt.alloc(), &mut told);
+    print(rt, &told)
+}
+
 /// Prints which documents are settings.
-fn print_settings(rt: &HostRuntime, told: &mut Told) -> io::Result<()> {
-    documents::found(rt.alloc(), told);
-    print(rt, "settings", Ok(()), told)?;
+fn print_documents(rt: &HostRuntime) -> io::Result<()> {
     let file = bytes_of(rt, "settings.txt")?;
-    let came = documents::all(rt.alloc(), told, file.as_slice());
-    print(rt, "documents", came, told)
+    let mut told = Told::new(rt.alloc());
+    told.story("documents");
+    documents::all(rt.alloc(), &mut told, file.as_slice());
+    print(rt, &told)
 }
 
 /// Prints what the commands over datagrams write.
-fn print_commands(rt: &HostRuntime, told: &mut Told) -> io::Result<()> {
+fn print_commands(rt: &HostRuntime) -> io::Result<()> {
     let file = bytes_of(rt, "scripts.txt")?;
-    let came = scripts::all(rt.alloc(), told, file.as_slice());
-    print(rt, "scripts of nodes over datagrams", came, told)?;
-    let came = listing::all(rt.alloc(), told);
-    print(rt, "nets that list what happens at them", came, told)?;
-    let came = listing::failing(rt.alloc(), told);
-    print(rt, "a net whose calls fail", came, told)
+    let mut told = Told::new(rt.alloc());
+    told.story("scripts of nodes over datagrams");
+    scripts::all(rt.alloc(), &mut told, file.as_slice());
+    told.story("nets that list what happens at them");
+    listing::all(rt.alloc(), &mut told);
+    told.story("a net whose calls fail");
+    listing::failing(rt.alloc(), &mut told);
+    print(rt, &told)
 }
 
 /// Prints what the command for one node writes.
-fn print_members(rt: &HostRuntime, told: &mut Told) -> io::Result<()> {
-    let came = scripts::members(rt.alloc(), told);
-    print(rt, "a node by itself", came, told)?;
-    let came = scripts::lines(rt.alloc(), told);
-    print(rt, "a node that says lines", came, told)?;
-    let came = scripts::finding(rt.alloc(), told);
-    print(rt, "a node that says a line later", came, told)
+fn print_members(rt: &HostRuntime) -> io::Result<()> {
+    let mut told = Told::new(rt.alloc());
+    told.story("a node by itself");
+    scripts::members(rt.alloc(), &mut told);
+    told.story("a node that says lines");
+    scripts::lines(rt.alloc(), &mut told);
+    told.story("a node that says a line later");
+    scripts::finding(rt.alloc(), &mut told);
+    print(rt, &told)
 }
 
 /// Prints the stories of words, and of what a socket's net drops.
-fn print_words(rt: &HostRuntime, told: &mut Told) -> io::Result<()> {
-    let came = words::said(rt, told);
-    print(rt, "words, over sockets", came, told)?;
-    let came = words::strange(rt, told);
-    print(rt, "who comes from elsewhere", came, told)?;
-    let came = words::asks(rt, told);
-    print(rt, "one who asks again and again", came, told)?;
-    let came = words::sieved(rt, told);
-    print(rt, "packets that a net drops", came, told)
+fn print_words(rt: &HostRuntime) -> io::Result<()> {
+    let mut told = Told::new(rt.alloc());
+    told.story("words, over sockets");
+    words::said(rt, &mut told);
+    told.story("who comes from elsewhere");
+    words::strange(rt, &mut told);
+    told.story("one who asks again and again");
+    words::asks(rt, &mut told);
+    told.story("packets that a net drops");
+    words::sieved(rt, &mut told);
+    print(rt, &told)
 }
 
 /// Prints the stories over sockets.
-fn print_sockets(rt: &HostRuntime, told: &mut Told) -> io::Result<()> {
-    let came = sockets::two(rt, told);
-    print(rt, "sockets", came, told)?;
-    let came = sockets::waits(rt, told);
-    print(rt, "waits at sockets", came, told)?;
-    sockets::hosts(rt, told);
-    print(rt, "hosts", Ok(()), told)?;
-    let came = sockets::merge(rt, told);
-    print(rt, "a partition and its merge, over sockets", came, told)
+fn print_sockets(rt: &HostRuntime) -> io::Result<()> {
+    let mut told = Told::new(rt.alloc());
+    told.story("sockets");
+    sockets::two(rt, &mut told);
+    told.story("waits at sockets");
+    sockets::waits(rt, &mut told);
+    told.story("hosts");
+    sockets::hosts(rt, &mut told);
+    told.story("a partition and its merge, over sockets");
+    sockets::merge(rt, &mut told);
+    print(rt, &told)
 }
 
-/// Prints the stories of long bursts and of a long state.
-fn print_bursts(rt: &HostRuntime, told: &mut Told) -> io::Result<()> {
-    let came = bursts::once(rt, told);
-    print(rt, "a long burst, over sockets", came, told)?;
-    let came = bursts::twice(rt, told);
-    print(rt, "a long burst that is offered twice", came, told)?;
-    let came = bursts::unheard(rt, told);
-    print(rt, "a long burst to one who is not heard", came, told)?;
-    let came = bursts::too_long(rt, told);
-    print(rt, "a burst that is too long", came, told)?;
-    let came = long::joins(rt, told);
-    print(rt, "a fifth is given a long state, over sockets", came, told)
+/// Prints the stories of what is long, over sockets.
+fn print_bursts(rt: &HostRuntime) -> io::Result<()> {
+    let mut told = Told::new(rt.alloc());
+    told.story("a long burst, over sockets");
+    bursts::once(rt, &mut told);
+    told.story("a long burst that is offered twice");
+    bursts::twice(rt, &mut told);
+    told.story("a long burst to one who is not heard");
+    bursts::unheard(rt, &mut told);
+    told.story("a burst that is too long");
+    bursts::too_long(rt, &mut told);
+    told.story("a fifth is given a long state, over sockets");
+    long::joins(rt, &mut told);
+    print(rt, &told)
 }
 
 /// Prints the stories of nets that fail.
-fn print_failing(rt: &HostRuntime, told: &mut Told) -> io::Result<()> {
-    let came = failing::runners(rt.alloc(), told);
-    print(rt, "four runners, a call of whose nets fails", came, told)?;
-    let came = failing::nodes(rt.alloc(), told);
-    let name = "a script of four nodes, a call of whose nets fails";
-    print(rt, name, came, told)
+fn print_failing(rt: &HostRuntime) -> io::Result<()> {
+    let mut told = Told::new(rt.alloc());
+    told.story("four runners, a call of whose nets fails");
+    failing::runners(rt.alloc(), &mut told);
+    told.story("a script of four nodes, a call of whose nets fails");
+    failing::nodes(rt.alloc(), &mut told);
+    print(rt, &told)
 }
 
 /// Prints all stories.
 fn print_all(rt: &HostRuntime) -> io::Result<()> {
-    let mut told = Told::new(rt.alloc());
-    print_settings(rt, &mut told)?;
-    print_commands(rt, &mut told)?;
-    print_members(rt, &mut told)?;
-    print_words(rt, &mut told)?;
-    print_sockets(rt, &mut told)?;
-    print_bursts(rt, &mut told)?;
-    print_failing(rt, &mut told)
+    print_settings(rt)?;
+    print_documents(rt)?;
+    print_commands(rt)?;
+    print_members(rt)?;
+    print_words(rt)?;
+    print_sockets(rt)?;
+    print_bursts(rt)?;
+    print_failing(rt)
 }
 
 /// Tells all stories, and tries channels; the exit status.

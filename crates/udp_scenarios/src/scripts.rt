@@ -46,8 +46,11 @@ fn put_run(
     told.code("status", status.code());
 }
 
-/// Each script of a file.
-fn put_scripts(alloc: Global, told: &mut Told, settings: &Settings, file: &[u8]) {
+/// Each script of a file, and one that starts a node whose socket cannot be bound.
+pub fn all(alloc: Global, told: &mut Told, file: &[u8]) {
+    let Ok(settings) = settings_of(alloc, FOUR) else {
+        return told.refuse();
+    };
     let mut rest = file;
     for _ in 0..SCRIPTS {
         let Some((script, behind)) = first_block(rest) else {
@@ -55,19 +58,12 @@ fn put_scripts(alloc: Global, told: &mut Told, settings: &Settings, file: &[u8])
         };
         told.bytes(first_line(script));
         told.bytes(b"\n");
-        put_run(alloc, told, settings, script, None);
+        put_run(alloc, told, &settings, script, None);
         rest = behind;
     }
-}
-
-/// Each script of a file, and one that starts a node whose socket cannot be bound.
-pub fn all(alloc: Global, told: &mut Told, file: &[u8]) -> Result<(), AllocError> {
-    let settings = settings_of(alloc, FOUR)?;
-    put_scripts(alloc, told, &settings, file);
     told.bytes(b"# the socket of node 2 cannot be bound\n");
     let script = b"start 1\n\nstart 2\nstart 3";
     put_run(alloc, told, &settings, script, Node::new(2));
-    Ok(())
 }
 
 /// The manner of a node that ticks every 20 milliseconds and seeks nobody.
@@ -185,26 +181,28 @@ fn long_line(alloc: Global) -> Result<Vec<u8>, AllocError> {
 }
 
 /// Node 1 by itself says lines.
-pub fn lines(alloc: Global, told: &mut Told) -> Result<(), AllocError> {
-    let long = long_line(alloc)?;
-    let settings = settings_of(alloc, FOUR)?;
+pub fn lines(alloc: Global, told: &mut Told) {
+    let (Ok(settings), Ok(long)) = (settings_of(alloc, FOUR), long_line(alloc)) else {
+        return told.refuse();
+    };
+    told.bytes(b"# lines, of which the last one ends it, as text\n");
     let speaking = NodeManner {
         speaks: true,
         ..plain()
     };
-    told.bytes(b"# lines, of which the last one ends it, as text\n");
     let lines = b"one\ntwo \x01\n\xc3\xa4\n\x04\nthree\n";
     put_lines(alloc, told, &settings, lines, 10, speaking);
     told.bytes(b"# the same as a trace\n");
     put_lines(alloc, told, &settings, b"one\n\x04\n", 10, plain());
     told.bytes(b"# a line that is too long, and one behind it\n");
     put_lines(alloc, told, &settings, long.as_slice(), 10, plain());
-    Ok(())
 }
 
 /// Node 1 by itself says a line: where two members are to be there, and where it looks for others first.
-pub fn finding(alloc: Global, told: &mut Told) -> Result<(), AllocError> {
-    let settings = settings_of(alloc, FOUR)?;
+pub fn finding(alloc: Global, told: &mut Told) {
+    let Ok(settings) = settings_of(alloc, FOUR) else {
+        return told.refuse();
+    };
     told.bytes(b"# two members are to be there\n");
     let careful = NodeManner {
         quorum: 2,
@@ -218,13 +216,13 @@ pub fn finding(alloc: Global, told: &mut Told) -> Result<(), AllocError> {
         ..plain()
     };
     put_lines(alloc, told, &settings, b"one\n\x04\n", 60, finding);
-    Ok(())
 }
 
 /// Node 1 by itself, which makes a group and sends `hi`.
-pub fn members(alloc: Global, told: &mut Told) -> Result<(), AllocError> {
-    let settings = settings_of(alloc, FOUR)?;
-    let others = settings_of(alloc, OTHERS)?;
+pub fn members(alloc: Global, told: &mut Told) {
+    let (Ok(settings), Ok(others)) = (settings_of(alloc, FOUR), settings_of(alloc, OTHERS)) else {
+        return told.refuse();
+    };
     told.bytes(b"# three rounds\n");
     put_member(alloc, told, &settings, 3, None);
     told.bytes(b"# no round\n");
@@ -233,5 +231,4 @@ pub fn members(alloc: Global, told: &mut Told) -> Result<(), AllocError> {
     put_member(alloc, told, &others, 3, Node::new(1));
     told.bytes(b"# a socket that cannot be bound\n");
     put_member(alloc, told, &settings, 3, Node::new(1));
-    Ok(())
 }

@@ -2,7 +2,7 @@
 
 use crate::documents::text_of_nodes;
 use crate::lines::Told;
-use crate::stories::{MERGE, chats_of, first_at, holds};
+use crate::stories::{MERGE, first_at, holds, trace_and_chats};
 use address::Node;
 use application::Application;
 use chat_log::ChatLog;
@@ -71,12 +71,14 @@ pub fn put_judged<R: Receiver>(alloc: Global, told: &mut Told, text: &[u8], stat
 }
 
 /// Four part and merge over sockets: the trace holds, and then the chats are printed.
-pub fn merge(rt: &HostRuntime, told: &mut Told) -> Result<(), AllocError> {
-    let settings = free_settings(rt)?;
+pub fn merge(rt: &HostRuntime, told: &mut Told) {
+    let Ok(settings) = free_settings(rt) else {
+        return told.refuse();
+    };
     let (text, status) = run(rt, &settings, MERGE);
     put_judged::<ChatLog>(rt.alloc(), told, text.as_slice(), status);
-    told.bytes(chats_of(text.as_slice()));
-    Ok(())
+    let (_, chats) = trace_and_chats(text.as_slice());
+    told.bytes(chats);
 }
 
 /// The socket of a node.
@@ -107,24 +109,20 @@ fn number(answer: &Result<SocketNet, BindError>) -> u8 {
     }
 }
 
-/// What comes of the port of node 1 while it is taken, and of a node that is not listed.
-fn put_taken(rt: &HostRuntime, told: &mut Told, settings: &Settings) {
-    let second = number(&bound(rt, settings, 1));
-    told.refusal("another at the same port", second);
-    let ninth = number(&bound(rt, settings, 9));
-    told.refusal("of a node that is not listed", ninth);
-    let (text, status) = run(rt, settings, b"start 2\nstart 1\nstart 3\n");
-    told.bytes(text.as_slice());
-    told.code("status", status.code());
-}
-
 /// A port that is taken, and a node that is not listed.
-pub fn two(rt: &HostRuntime, told: &mut Told) -> Result<(), AllocError> {
-    let settings = free_settings(rt)?;
+pub fn two(rt: &HostRuntime, told: &mut Told) {
+    let Ok(settings) = free_settings(rt) else {
+        return told.refuse();
+    };
     let first = bound(rt, &settings, 1);
     told.refusal("a socket at a port that is free", number(&first));
-    put_taken(rt, told, &settings);
-    Ok(())
+    let second = number(&bound(rt, &settings, 1));
+    told.refusal("another at the same port", second);
+    let ninth = number(&bound(rt, &settings, 9));
+    told.refusal("of a node that is not listed", ninth);
+    let (text, status) = run(rt, &settings, b"start 2\nstart 1\nstart 3\n");
+    told.bytes(text.as_slice());
+    told.code("status", status.code());
 }
 
 /// What comes to a socket in a while, and when another has sent to it.
@@ -141,13 +139,16 @@ fn put_waits(told: &mut Told, one: &mut SocketNet, two: &mut SocketNet) {
 }
 
 /// Waits at sockets, and a datagram that no socket sends.
-pub fn waits(rt: &HostRuntime, told: &mut Told) -> Result<(), AllocError> {
-    let long = vec![in rt.alloc(); 7u8; 70_000]?;
-    let (mut one, mut two) = first_two(rt)?;
+pub fn waits(rt: &HostRuntime, told: &mut Told) {
+    let Ok(long) = vec![in rt.alloc(); 7u8; 70_000] else {
+        return told.refuse();
+    };
+    let Ok((mut one, mut two)) = first_two(rt) else {
+        return told.refuse();
+    };
     put_waits(told, &mut one, &mut two);
     one.send(first_at(2).node(), long.as_slice());
     told.number("not sent", one.unsent());
-    Ok(())
 }
 
 /// The hosts of this node, of node 2 and of node 3.
@@ -164,10 +165,7 @@ fn put_found(alloc: Global, told: &mut Told, hosts: &Hosts) {
 fn put_hosts(rt: &HostRuntime, told: &mut Told, own: &str, peers: &[(Node, &str)]) {
     match Hosts::resolve(rt.alloc(), rt, Some(own), peers) {
         Ok(hosts) => put_found(rt.alloc(), told, &hosts),
-        Err(error) => told.parts(&[
-            Part::Number(u64::from(error.number())),
-            Part::Text(b"\n"),
-        ]),
+        Err(error) => told.parts(&[Part::Number(u64::from(error.number())), Part::Text(b"\n")]),
     }
 }
 

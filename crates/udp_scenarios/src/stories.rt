@@ -20,24 +20,15 @@ pub fn first_at(number: u16) -> Address {
 }
 
 /// A text's trace, and the chat lines behind it.
-fn parted(text: &[u8]) -> (&[u8], &[u8]) {
+pub fn trace_and_chats(text: &[u8]) -> (&[u8], &[u8]) {
     let end = text.windows(5).position(|word| word == b"chat ".as_slice());
     text.split_at(end.unwrap_or(text.len()).min(text.len()))
 }
 
-/// The beginning of a text before its chat lines.
-pub fn trace_of(text: &[u8]) -> &[u8] {
-    parted(text).0
-}
-
-/// The chat lines of a text.
-pub fn chats_of(text: &[u8]) -> &[u8] {
-    parted(text).1
-}
-
 /// Whether the trace of a text, of receivers that are `R`, is virtually synchronous.
 pub fn holds<R: Receiver>(alloc: Global, text: &[u8]) -> bool {
-    match read_trace(alloc, trace_of(text)) {
+    let (trace, _) = trace_and_chats(text);
+    match read_trace(alloc, trace) {
         Ok(trace) => check::<R>(alloc, &trace) == Ok(Verdict::Holds),
         Err(_) => false,
     }

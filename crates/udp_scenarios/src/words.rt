@@ -44,11 +44,11 @@ fn nets(rt: &HostRuntime) -> Result<Pair, AllocError> {
 }
 
 /// The word of one that looks for a view.
-fn looking(source: Address, said: u64, echo: Option<Echo>) -> Word {
+fn looking(source: Address, said: u64) -> Word {
     Word {
         source,
         said,
-        echo,
+        echo: None,
         place: None,
     }
 }
@@ -117,21 +117,9 @@ impl Pair {
     }
 }
 
-/// Words are said, heard and forgotten.
-pub fn said(rt: &HostRuntime, told: &mut Told) -> Result<(), AllocError> {
-    let mut pair = nets(rt)?;
-    put_asked(&mut pair, told);
-    put_answered(&mut pair, told);
-    for rounds in [500, 1] {
-        pair.pass(rounds);
-        pair.put_known(told, 2);
-    }
-    Ok(())
-}
-
 /// Node 2 says a word.
 fn put_asked(pair: &mut Pair, told: &mut Told) {
-    let word = looking(first_at(2), 7, None);
+    let word = looking(first_at(2), 7);
     pair.two.say(first_at(1).node(), &word);
     told.truth("a word is given", pair.is_given());
     pair.put_known(told, 2);
@@ -140,20 +128,20 @@ fn put_asked(pair: &mut Pair, told: &mut Told) {
 /// Node 1 answers it.
 fn put_answered(pair: &mut Pair, told: &mut Told) {
     let (first, second) = (first_at(1), first_at(2));
-    let echo = Echo {
+    let echo = Some(Echo {
         address: second,
         said: 7,
-    };
-    let place = Place {
+    });
+    let place = Some(Place {
         view: ViewId::first_of(first),
         members: 1,
         stays: true,
-    };
+    });
     let answer = Word {
         source: first,
         said: 9,
-        echo: Some(echo),
-        place: Some(place),
+        echo,
+        place,
     };
     pair.one.say(second.node(), &answer);
     pair.put_known(told, 2);
@@ -162,63 +150,57 @@ fn put_answered(pair: &mut Pair, told: &mut Told) {
     let heard = told_of(pair.two.words(), first.node());
     let is_heard = heard.is_some_and(|neighbour| neighbour.word == Some(answer));
     told.truth("the answer is heard as it was said", is_heard);
-    pair.put_known(told, 2);
 }
 
-/// What names node 3 and comes from node 2 is dropped, until it is heard from anywhere.
-pub fn strange(rt: &HostRuntime, told: &mut Told) -> Result<(), AllocError> {
-    let mut pair = nets(rt)?;
-    put_strange(&mut pair, told, 1);
-    pair.one.hear_from_anywhere();
-    put_strange(&mut pair, told, 2);
-    Ok(())
+/// Words are said, heard and forgotten.
+pub fn said(rt: &HostRuntime, told: &mut Told) {
+    let Ok(mut pair) = nets(rt) else {
+        return told.refuse();
+    };
+    put_asked(&mut pair, told);
+    put_answered(&mut pair, told);
+    for rounds in [500, 1] {
+        pair.pass(rounds);
+        pair.put_known(told, 2);
+    }
 }
 
 /// Node 2 sends a packet that names node 3, and says a word of it.
 fn put_strange(pair: &mut Pair, told: &mut Told, said: u64) {
     let third = first_at(3);
     pair.put_given(told, "a packet is given", third, Body::Leave);
-    pair.two
-        .say(first_at(1).node(), &looking(third, said, None));
+    let word = looking(third, said);
+    pair.two.say(first_at(1).node(), &word);
     let _ = pair.is_given();
     pair.put_known(told, 3);
     told.number("strange", pair.one.strange());
 }
 
-/// An address asks to be let in again and again.
-pub fn asks(rt: &HostRuntime, told: &mut Told) -> Result<(), AllocError> {
-    let mut pair = nets(rt)?;
-    put_asks(&mut pair, told);
-    Ok(())
+/// What names node 3 and comes from node 2 is dropped, until it is heard from anywhere.
+pub fn strange(rt: &HostRuntime, told: &mut Told) {
+    let Ok(mut pair) = nets(rt) else {
+        return told.refuse();
+    };
+    put_strange(&mut pair, told, 1);
+    pair.one.hear_from_anywhere();
+    put_strange(&mut pair, told, 2);
 }
 
-fn put_asks(pair: &mut Pair, told: &mut Told) {
+/// An address asks to be let in again and again.
+pub fn asks(rt: &HostRuntime, told: &mut Told) {
+    let Ok(mut pair) = nets(rt) else {
+        return told.refuse();
+    };
     for rounds in [1, 49, 1, 99, 1, 50, 199, 1] {
         pair.pass(rounds);
         told.number("rounds", u64::from(rounds));
         pair.put_given(told, "a JOIN is given", first_at(2), Body::Join);
     }
     pair.pass(50);
-    for (asked, source) in [
-        ("one of 2.1 is given in its pause", first_at(2)),
-        ("one of 2.2 is given then", second()),
-    ] {
-        pair.put_given(told, asked, source, Body::Join);
-    }
+    let asked = "one of 2.1 is given in its pause";
+    pair.put_given(told, asked, first_at(2), Body::Join);
+    pair.put_given(told, "one of 2.2 is given then", second(), Body::Join);
     told.number("sieved", pair.one.sieved());
-}
-
-/// Counters that are far ahead, and a MERGE where words are said.
-pub fn sieved(rt: &HostRuntime, told: &mut Told) -> Result<(), AllocError> {
-    let mut pair = nets(rt)?;
-    pair.pass(1);
-    put_ahead(&mut pair, told);
-    put_merge(&mut pair, told, false)?;
-    let word = looking(first_at(1), 1, None);
-    pair.one.say(first_at(2).node(), &word);
-    put_merge(&mut pair, told, true)?;
-    told.number("sieved", pair.one.sieved());
-    Ok(())
 }
 
 /// ACKs of views whose counters are far ahead.
@@ -234,10 +216,25 @@ fn put_ahead(pair: &mut Pair, told: &mut Told) {
 }
 
 /// A MERGE of a view of 2.1, and whether words are said where it comes.
-fn put_merge(pair: &mut Pair, told: &mut Told, are_said: bool) -> Result<(), AllocError> {
+fn put_merge(pair: &mut Pair, told: &mut Told, are_said: bool) {
     let other = first_at(2);
-    let roster = Roster::new(ViewId::first_of(other), &[other]).ok_or(AllocError)?;
     told.truth("words are said here", are_said);
-    pair.put_given(told, "a MERGE is given", other, Body::Merge(roster));
-    Ok(())
+    match Roster::new(ViewId::first_of(other), &[other]) {
+        Some(roster) => pair.put_given(told, "a MERGE is given", other, Body::Merge(roster)),
+        None => told.refuse(),
+    }
+}
+
+/// Counters that are far ahead, and a MERGE where words are said.
+pub fn sieved(rt: &HostRuntime, told: &mut Told) {
+    let Ok(mut pair) = nets(rt) else {
+        return told.refuse();
+    };
+    pair.pass(1);
+    put_ahead(&mut pair, told);
+    put_merge(&mut pair, told, false);
+    let word = looking(first_at(1), 1);
+    pair.one.say(first_at(2).node(), &word);
+    put_merge(&mut pair, told, true);
+    told.number("sieved", pair.one.sieved());
 }

@@ -2,11 +2,11 @@
 
 use crate::channels::hexadecimal::unhex;
 use crate::channels::next::{are_alike, number, put_step, put_tick, put_waiting, send};
-use crate::channels::stands::{Chat, GROUP, Stand, apart, channel_at};
+use crate::channels::stands::{Chat, GROUP, Stand, apart, channel_at, two_at};
 use crate::lines::Told;
 use crate::stories::first_at;
 use address::{ViewId, next_after};
-use std::alloc::{AllocError, Global};
+use std::alloc::Global;
 use wire::decode;
 
 /// The greatest counter, 2^62.
@@ -131,19 +131,12 @@ impl Cases {
         }
     }
 
-    /// The text; an error where memory was refused.
-    pub fn text(&self) -> Result<&[u8], AllocError> {
-        self.told.text()
-    }
-
-    // Counters at their greatest.
-    fn counters(&mut self) -> Result<(), AllocError> {
-        self.told.bytes(b"== counters\n");
-        for (asked, digits) in COUNTERS {
-            let bytes = unhex(self.alloc, digits)?;
-            self.told.code(asked, refusal(bytes.as_slice()));
+    // How a packet in hexadecimal is read.
+    fn read(&mut self, asked: &str, digits: &[u8]) {
+        match unhex(self.alloc, digits) {
+            Ok(bytes) => self.told.code(asked, refusal(bytes.as_slice())),
+            Err(_) => self.told.refuse(),
         }
-        Ok(())
     }
 
     // The id after one with this counter.
@@ -155,6 +148,16 @@ impl Cases {
             Ok(next) => self.told.number(asked, next.counter()),
             Err(exhausted) => self.told.code(asked, exhausted.number()),
         }
+    }
+
+    // Counters at their greatest.
+    fn counters(&mut self) {
+        self.told.story("counters");
+        for (asked, digits) in COUNTERS {
+            self.read(asked, digits);
+        }
+        self.next("the counter after 2^62 - 1", GREATEST - 1);
+        self.next("the counter after 2^62, refused with", GREATEST);
     }
 
     // What a channel answers to a packet's bytes: whose it was, and what came of it.
@@ -180,6 +183,8 @@ impl Cases {
 
     // What a lone member does by the greatest proposal.
     fn promise_greatest(&mut self, channel: &mut Chat) {
+        let answer = number(channel.connect_new(GROUP));
+        put_step(&mut self.told, "connect_new", answer, channel);
         self.hand(channel, "FLUSH of 2^62@2.1, from node", GREATEST_FLUSH);
         let answer = number(channel.suspect(first_at(2)));
         put_step(&mut self.told, "suspect 2.1", answer, channel);
@@ -191,67 +196,54 @@ impl Cases {
     }
 
     // The greatest proposal comes to a lone member.
-    fn greatest(&mut self) -> Result<(), AllocError> {
-        self.told.bytes(b"== the greatest proposal\n");
-        let mut channel = apart(self.alloc, 1)?;
-        let answer = number(channel.connect_new(GROUP));
-        put_step(&mut self.told, "connect_new", answer, &mut channel);
-        self.promise_greatest(&mut channel);
-        Ok(())
+    fn greatest(&mut self) {
+        self.told.story("the greatest proposal");
+        match apart(self.alloc, 1) {
+            Ok(mut channel) => self.promise_greatest(&mut channel),
+            Err(_) => self.told.refuse(),
+        }
     }
 
     // Whether two channels do the same next.
     pub(crate) fn compare(&mut self, came: &mut Chat, fresh: &mut Chat) {
+        let asked = "as one that was handed none of these";
         match are_alike(self.alloc, came, fresh) {
-            Ok(is_same) => self
-                .told
-                .truth("as one that was handed none of these", is_same),
+            Ok(is_same) => self.told.truth(asked, is_same),
             Err(_) => self.told.refuse(),
         }
     }
 
     // What a channel that stands so ignores, and that it does next what a fresh one does.
-    fn ignore(&mut self, stand: Stand, packets: &[(&str, &[u8])]) -> Result<(), AllocError> {
-        let mut channel = channel_at(self.alloc, stand)?;
+    fn ignore(&mut self, stand: Stand, packets: &[(&str, &[u8])]) {
+        let Ok((mut channel, mut fresh)) = two_at(self.alloc, stand) else {
+            return self.told.refuse();
+        };
         for (asked, digits) in packets {
             self.hand(&mut channel, asked, digits);
         }
-        let mut fresh = channel_at(self.alloc, stand)?;
         self.compare(&mut channel, &mut fresh);
-        Ok(())
     }
 
     // A packet that a fresh channel takes that stands so.
-    fn take(&mut self, stand: Stand, asked: &str, digits: &[u8]) -> Result<(), AllocError> {
-        let mut channel = channel_at(self.alloc, stand)?;
-        self.hand(&mut channel, asked, digits);
-        Ok(())
-    }
-
-    // What the coordinator ignores, and a packet that it takes.
-    fn at_first(&mut self) -> Result<(), AllocError> {
-        self.told.bytes(b"== ignored by the coordinator\n");
-        self.ignore(Stand::Coordinator, FOR_NOBODY)?;
-        let asked = "FORWARD as it should be, from node";
-        self.take(Stand::Coordinator, asked, FORWARD)
-    }
-
-    // What another member of a view of three ignores, and a packet that it takes.
-    fn at_other(&mut self) -> Result<(), AllocError> {
-        self.told.bytes(b"== ignored by another member\n");
-        self.ignore(Stand::OfThree, FOR_OTHERS)?;
-        let asked = "ORDER as it should be, from node";
-        self.take(Stand::OfThree, asked, ORDER_OF_FIRST)
+    fn take(&mut self, stand: Stand, asked: &str, digits: &[u8]) {
+        match channel_at(self.alloc, stand) {
+            Ok(mut channel) => self.hand(&mut channel, asked, digits),
+            Err(_) => self.told.refuse(),
+        }
     }
 
     /// All cases.
-    pub fn all(&mut self) -> Result<(), AllocError> {
-        self.counters()?;
-        self.next("the counter after 2^62 - 1", GREATEST - 1);
-        self.next("the counter after 2^62, refused with", GREATEST);
-        self.greatest()?;
-        self.at_first()?;
-        self.at_other()?;
-        self.chunks()
+    pub fn all(&mut self) {
+        self.counters();
+        self.greatest();
+        self.told.story("ignored by the coordinator");
+        self.ignore(Stand::Coordinator, FOR_NOBODY);
+        let asked = "FORWARD as it should be, from node";
+        self.take(Stand::Coordinator, asked, FORWARD);
+        self.told.story("ignored by another member");
+        self.ignore(Stand::OfThree, FOR_OTHERS);
+        let asked = "ORDER as it should be, from node";
+        self.take(Stand::OfThree, asked, ORDER_OF_FIRST);
+        self.chunks();
     }
 }

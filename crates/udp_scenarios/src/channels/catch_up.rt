@@ -50,10 +50,12 @@ fn of_two(alloc: Global) -> Result<World<ChatLog>, AllocError> {
 /// The same after two messages of 1.1 that 2.1 lost; and after deliveries of a packet that is not there, so many that the places of events are used up amid the
 /// catch-up.
 fn behind(alloc: Global) -> Result<World<ChatLog>, AllocError> {
+    let one = Bytes::from_slice(alloc, b"a")?;
+    let other = Bytes::from_slice(alloc, b"b")?;
     let mut world = of_two(alloc)?;
     let sends = [
-        WorldEvent::Send(node(1), Bytes::from_slice(alloc, b"a")?),
-        WorldEvent::Send(node(1), Bytes::from_slice(alloc, b"b")?),
+        WorldEvent::Send(node(1), one),
+        WorldEvent::Send(node(1), other),
         WorldEvent::Deliver(99),
         WorldEvent::Deliver(99),
         WorldEvent::Deliver(99),

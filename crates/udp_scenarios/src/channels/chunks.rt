@@ -2,7 +2,7 @@
 
 use crate::channels::cases::Cases;
 use crate::channels::hexadecimal::unhex;
-use crate::channels::stands::{Chat, Stand, channel_at, drain};
+use crate::channels::stands::{Chat, Stand, channel_at, drain, two_at};
 use crate::lines::Told;
 use std::alloc::{AllocError, Global};
 
@@ -63,22 +63,24 @@ impl Cases {
     }
 
     // Chunks that are for nobody here, and the INSTALL that comes before its chunk.
-    fn ignore_chunks(&mut self, state: &[u8]) -> Result<(), AllocError> {
-        let mut channel = channel_at(self.alloc, Stand::Joining)?;
+    fn ignore_chunks(&mut self, state: &[u8]) {
+        let Ok((mut channel, mut fresh)) = two_at(self.alloc, Stand::Joining) else {
+            return self.told.refuse();
+        };
         let asked = "STATE of another proposal, from node";
         self.hand_chunk(&mut channel, asked, ONLY_OF_ANOTHER, state);
         let asked = "STATE from one that did not propose, from node";
         self.hand_chunk(&mut channel, asked, ONLY_FROM_THIRD, state);
         let asked = "INSTALL before its chunk, from node";
         self.hand(&mut channel, asked, INSTALL);
-        let mut fresh = channel_at(self.alloc, Stand::Joining)?;
         self.compare(&mut channel, &mut fresh);
-        Ok(())
     }
 
     // The INSTALL by which it enters with the state.
-    fn enter(&mut self, channel: &mut Chat) -> Result<(), AllocError> {
-        let install = unhex(self.alloc, INSTALL)?;
+    fn enter(&mut self, channel: &mut Chat) {
+        let Ok(install) = unhex(self.alloc, INSTALL) else {
+            return self.told.refuse();
+        };
         let is_entry = channel.incoming(install.as_slice()).is_ok();
         drain(channel);
         self.told.truth("INSTALL is taken", is_entry);
@@ -87,43 +89,47 @@ impl Cases {
             None => 0,
         };
         self.told.number("lines of the chat", lines);
-        Ok(())
     }
 
     // The chunk, with others behind it that are ignored, and the INSTALL.
-    fn take_chunk(&mut self, state: &[u8]) -> Result<(), AllocError> {
-        let sevens = vec![in self.alloc; 7u8; 4_161]?;
-        let mut channel = channel_at(self.alloc, Stand::Joining)?;
+    fn take_chunk(&mut self, state: &[u8], sevens: &[u8]) {
+        let Ok(mut channel) = channel_at(self.alloc, Stand::Joining) else {
+            return self.told.refuse();
+        };
         self.hand_chunk(&mut channel, "STATE, from node", ONLY, state);
         let asked = "STATE of a longer one, from node";
         self.hand_chunk(&mut channel, asked, SECOND, &[7]);
+        let (other, _) = sevens.split_at(state.len().min(sevens.len()));
         let asked = "STATE of other bytes, from node";
-        self.hand_chunk(&mut channel, asked, ONLY, sevens.as_slice());
-        self.enter(&mut channel)
+        self.hand_chunk(&mut channel, asked, ONLY, other);
+        self.enter(&mut channel);
     }
 
     // Two chunks, the second first, of a state that no chat has.
-    fn end_by_chunks(&mut self) -> Result<(), AllocError> {
-        let sevens = vec![in self.alloc; 7u8; 32_768]?;
-        let mut channel = channel_at(self.alloc, Stand::Joining)?;
+    fn end_by_chunks(&mut self, sevens: &[u8]) {
+        let Ok(mut channel) = channel_at(self.alloc, Stand::Joining) else {
+            return self.told.refuse();
+        };
         let asked = "STATE, the second, from node";
         self.hand_chunk(&mut channel, asked, SECOND, &[7]);
         let asked = "INSTALL with one of two, from node";
         self.hand(&mut channel, asked, INSTALL_OF_TWO);
         let asked = "STATE, the first, from node";
-        self.hand_chunk(&mut channel, asked, FIRST, sevens.as_slice());
+        self.hand_chunk(&mut channel, asked, FIRST, sevens);
         let asked = "INSTALL with both, from node";
         self.hand(&mut channel, asked, INSTALL_OF_TWO);
         self.told.truth("has ended", channel.receiver().is_none());
-        Ok(())
     }
 
     /// What a channel that has promised a view does with chunks.
-    pub fn chunks(&mut self) -> Result<(), AllocError> {
-        self.told.bytes(b"== a state in chunks\n");
-        let state = eight_lines(self.alloc)?;
-        self.ignore_chunks(state.as_slice())?;
-        self.take_chunk(state.as_slice())?;
-        self.end_by_chunks()
+    pub fn chunks(&mut self) {
+        self.told.story("a state in chunks");
+        let sevens = vec![in self.alloc; 7u8; 32_768];
+        let (Ok(state), Ok(sevens)) = (eight_lines(self.alloc), sevens) else {
+            return self.told.refuse();
+        };
+        self.ignore_chunks(state.as_slice());
+        self.take_chunk(state.as_slice(), sevens.as_slice());
+        self.end_by_chunks(sevens.as_slice());
     }
 }

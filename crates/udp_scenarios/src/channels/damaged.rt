@@ -10,15 +10,16 @@ use crate::channels::stands::Stand;
 use crate::channels::tally::Tally;
 use crate::files::bytes_of;
 use crate::lines::Told;
+use crate::print;
 use std::alloc::{AllocError, Global};
-use std::io::{self, Write};
+use std::io;
 use vsync_text::Part;
 
 /// Packets up to this length come each to a channel that was handed no other.
 const SHORT: usize = 200;
 
 /// What came of all readings so far.
-#[derive(Drop)]
+#[derive(Clone, Copy)]
 struct Total {
     packets: u64,
     changes: u64,
@@ -40,7 +41,7 @@ impl Total {
 fn judged(alloc: Global, packet: &[u8], stand: Stand) -> Result<Tally, AllocError> {
     let mut judge = Judge::new(alloc, stand, packet.len() <= SHORT)?;
     judge.read_all(packet)?;
-    Ok(judge.into_tally())
+    judge.tally()
 }
 
 /// Prints what came of a packet with this name.
@@ -53,7 +54,7 @@ fn print_tally(rt: &HostRuntime, name: &[u8], length: usize, tally: &Tally) -> i
         Part::Text(b" bytes, "),
     ]);
     tally.put(&mut told);
-    io::writer(rt).write_all(told.text()?)
+    print(rt, &told)
 }
 
 /// Reads a packet with this name, for a channel that stands so, and prints what came of it.
@@ -93,8 +94,8 @@ fn read_packets(rt: &HostRuntime, total: &mut Total) -> io::Result<()> {
 /// Prints the cases by themselves.
 fn print_cases(rt: &HostRuntime) -> io::Result<()> {
     let mut cases = Cases::new(rt.alloc());
-    cases.all()?;
-    io::writer(rt).write_all(cases.text()?)
+    cases.all();
+    print(rt, &cases.told)
 }
 
 /// Reads all and prints all; answers whether nothing was wrong.

@@ -1,7 +1,7 @@
 //! Readings of a packet, and what channels answer.
 
 use crate::channels::next::{are_alike, number};
-use crate::channels::stands::{Chat, Stand, channel_at, drain, is_silent};
+use crate::channels::stands::{Chat, Stand, channel_at, drain, is_silent, two_at};
 use crate::channels::tally::{ENDED, IGNORED, TAKEN, Tally};
 use address::Address;
 use channel::{Error, Heard};
@@ -26,6 +26,8 @@ pub struct Judge {
     is_renewed: bool,
     written: Vec<u8>,
     tally: Tally,
+    // Whether the tally is void, since memory was refused for a reading.
+    is_void: bool,
 }
 
 /// What a channel answered, as a number.
@@ -35,17 +37,6 @@ fn outcome_of(answer: &Result<Option<Heard>, Error>) -> u8 {
         Ok(Some(_)) => TAKEN,
         Err(error) => error.number().max(ENDED),
     }
-}
-
-/// Whether a packet is written as these bytes.
-fn is_spelled(
-    packet: &Packet<'_>,
-    bytes: &[u8],
-    written: &mut Vec<u8>,
-) -> Result<bool, AllocError> {
-    written.clear();
-    encode(packet, written)?;
-    Ok(written.as_slice() == bytes)
 }
 
 /// Whether a channel has ended, with nothing put out.
@@ -63,8 +54,7 @@ fn set(bytes: &mut Vec<u8>, index: usize, value: u8) {
 impl Judge {
     /// Two channels that stand so.
     pub fn new(alloc: Global, stand: Stand, is_renewed: bool) -> Result<Judge, AllocError> {
-        let quiet = channel_at(alloc, stand)?;
-        let busy = channel_at(alloc, stand)?;
+        let (quiet, busy) = two_at(alloc, stand)?;
         Ok(Judge {
             alloc,
             stand,
@@ -73,13 +63,26 @@ impl Judge {
             is_renewed,
             written: Vec::new(alloc),
             tally: Tally::new(),
+            is_void: false,
         })
     }
 
-    /// What was counted.
-    pub fn into_tally(self) -> Tally {
-        let Judge { tally, .. } = self;
-        tally
+    /// What was counted; an error where memory was refused for a reading.
+    pub fn tally(&self) -> Result<Tally, AllocError> {
+        if self.is_void {
+            Err(AllocError)
+        } else {
+            Ok(self.tally)
+        }
+    }
+
+    // Whether a packet is written as these bytes.
+    fn is_spelled(&mut self, packet: &Packet<'_>, bytes: &[u8]) -> bool {
+        self.written.clear();
+        if encode(packet, &mut self.written).is_err() {
+            self.is_void = true;
+        }
+        self.written.as_slice() == bytes
     }
 
     // What the quiet one answers, and whether nothing came of it.
@@ -113,35 +116,42 @@ impl Judge {
         }
     }
 
+    // The busy one is another, which took nothing before.
+    fn renew(&mut self) {
+        match channel_at(self.alloc, self.stand) {
+            Ok(channel) => self.busy = channel,
+            Err(_) => self.is_void = true,
+        }
+    }
+
     // Hands a packet of a source and a kind to the busy one: the outcome, and whether it is right.
-    fn hand(&mut self, source: Address, kind: u8, bytes: &[u8]) -> Result<(u8, bool), AllocError> {
+    fn hand(&mut self, source: Address, kind: u8, bytes: &[u8]) -> (u8, bool) {
         let answer = self.busy.incoming(bytes);
         let is_right = self.is_right(&answer, source, kind, bytes);
         let outcome = outcome_of(&answer);
         if outcome > TAKEN || (outcome == TAKEN && self.is_renewed) {
-            self.busy = channel_at(self.alloc, self.stand)?;
+            self.renew();
         } else {
             drain(&mut self.busy);
         }
-        Ok((outcome, is_right))
+        (outcome, is_right)
     }
 
     // Reads bytes of which one was changed.
-    fn read_changed(&mut self, bytes: &[u8]) -> Result<(), AllocError> {
+    fn read_changed(&mut self, bytes: &[u8]) {
         let (outcome, is_right) = match decode(bytes) {
             Err(error) => {
                 let (answer, is_quiet) = self.hand_quietly(bytes);
                 (answer, is_quiet && answer == error.number())
             }
             Ok(packet) => {
-                let is_spelled = is_spelled(&packet, bytes, &mut self.written)?;
-                let (outcome, is_right) = self.hand(packet.source, packet.body.kind(), bytes)?;
+                let is_spelled = self.is_spelled(&packet, bytes);
+                let (outcome, is_right) = self.hand(packet.source, packet.body.kind(), bytes);
                 (outcome, is_spelled && is_right)
             }
         };
         self.tally.count(outcome);
         self.tally.read(is_right);
-        Ok(())
     }
 
     // Each proper beginning of a packet.
@@ -153,31 +163,26 @@ impl Judge {
         }
     }
 
-    // A packet with each byte behind it.
-    fn read_longer(&mut self, packet: &[u8]) -> Result<(), AllocError> {
-        let mut bytes = Vec::from_slice(self.alloc, packet)?;
-        bytes.push(0)?;
-        for value in 0..=255 {
-            set(&mut bytes, packet.len(), value);
-            let is_right = self.is_refused(bytes.as_slice(), LONGER);
-            self.tally.read(is_right);
-        }
-        Ok(())
-    }
-
     // A packet with each other byte in each place.
-    fn read_changes(&mut self, packet: &[u8]) -> Result<(), AllocError> {
-        let mut bytes = Vec::from_slice(self.alloc, packet)?;
+    fn read_changes(&mut self, packet: &[u8], bytes: &mut Vec<u8>) {
         for (index, was) in packet.iter().enumerate() {
             for value in 0..=255 {
                 if value != *was {
-                    set(&mut bytes, index, value);
-                    self.read_changed(bytes.as_slice())?;
+                    set(bytes, index, value);
+                    self.read_changed(bytes.as_slice());
                 }
             }
-            set(&mut bytes, index, *was);
+            set(bytes, index, *was);
         }
-        Ok(())
+    }
+
+    // A packet of this length, with each byte behind it.
+    fn read_longer(&mut self, length: usize, bytes: &mut Vec<u8>) {
+        for value in 0..=255 {
+            set(bytes, length, value);
+            let is_right = self.is_refused(bytes.as_slice(), LONGER);
+            self.tally.read(is_right);
+        }
     }
 
     // Whether the quiet one does next what one does that was handed nothing.
@@ -188,9 +193,11 @@ impl Judge {
 
     /// Reads all that damage makes of a packet.
     pub fn read_all(&mut self, packet: &[u8]) -> Result<(), AllocError> {
+        let mut bytes = Vec::from_slice(self.alloc, packet)?;
         self.read_beginnings(packet);
-        self.read_longer(packet)?;
-        self.read_changes(packet)?;
+        self.read_changes(packet, &mut bytes);
+        bytes.push(0)?;
+        self.read_longer(packet.len(), &mut bytes);
         let is_right = self.is_as_before()?;
         self.tally.read(is_right);
         Ok(())

@@ -47,32 +47,22 @@ pub fn put_tick(told: &mut Told, channel: &mut Chat) {
     put_step(told, "tick", answer, channel);
 }
 
-/// Adds what comes of a suspicion of the member of a node.
-pub fn put_suspicion(told: &mut Told, channel: &mut Chat, whom: u16) {
-    let answer = number(channel.suspect(first_at(whom)));
-    put_step(told, "suspect", answer, channel);
-}
-
-// What a channel does by calls from a tick to its end, of which one sends this payload.
-fn put_next(told: &mut Told, channel: &mut Chat, payload: Vec<u8>) {
-    put_tick(told, channel);
-    let answer = send(channel, payload);
-    put_step(told, "send", answer, channel);
-    let answer = number(channel.merge_hint(first_at(9)));
-    put_step(told, "merge_hint", answer, channel);
-    for whom in 1..=3u16 {
-        put_suspicion(told, channel, whom);
-    }
-    put_tick(told, channel);
-    let answer = number(channel.disconnect());
-    put_step(told, "disconnect", answer, channel);
-}
-
 // What a channel does by calls from a tick to its end.
 fn next_of(alloc: Global, channel: &mut Chat) -> Result<Vec<u8>, AllocError> {
     let payload = Vec::from_slice(alloc, b"next")?;
     let mut told = Told::new(alloc);
-    put_next(&mut told, channel, payload);
+    put_tick(&mut told, channel);
+    let answer = send(channel, payload);
+    put_step(&mut told, "send", answer, channel);
+    let answer = number(channel.merge_hint(first_at(9)));
+    put_step(&mut told, "merge_hint", answer, channel);
+    for whom in 1..=3u16 {
+        let answer = number(channel.suspect(first_at(whom)));
+        put_step(&mut told, "suspect", answer, channel);
+    }
+    put_tick(&mut told, channel);
+    let answer = number(channel.disconnect());
+    put_step(&mut told, "disconnect", answer, channel);
     told.into_text()
 }
 

@@ -148,3 +148,10 @@ pub fn channel_at(alloc: Global, stand: Stand) -> Result<Chat, AllocError> {
         Stand::OfThree => of_three(alloc),
     }
 }
+
+/// Two channels that stand so.
+pub fn two_at(alloc: Global, stand: Stand) -> Result<(Chat, Chat), AllocError> {
+    let one = channel_at(alloc, stand)?;
+    let other = channel_at(alloc, stand)?;
+    Ok((one, other))
+}

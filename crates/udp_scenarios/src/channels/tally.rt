@@ -14,7 +14,7 @@ pub const ENDED: u8 = 6;
 
 /// How often each outcome came of the changes of one packet; how many readings there were, the beginnings and the longer ones too; and how many of them were
 /// wrong.
-#[derive(Drop)]
+#[derive(Clone, Copy)]
 pub struct Tally {
     ignored: u64,
     taken: u64,

@@ -2,7 +2,8 @@ use Rattle.std.proofs.Common.{◌∷◌, subst, sym, List}
 use Rattle.frames.specs.Outlets.{OutletModel}
 use Rattle.frames.specs.Sendings.{AreSameWays, IsFrameOf, KeepLongs, WaitOf}
 use Rattle.frames.proofs.GatheredSends.{ways-on}
-use Rattle.frames.proofs.SendsCarried.{adds-on}
+use Rattle.frames.proofs.Logs.{grows-none, grows-on}
+use Rattle.frames.proofs.SendsCarried.{adds-on, same-ways}
 use Rattle.frames.proofs.framed_net.+flush_all.Goals as goal
 
 pub returns-clause-sends : goal.returns-clause-sends
@@ -21,3 +22,14 @@ returns-clause-ways g t c =
     let one = c.flush_first.ensures.ways in
     subst (λ (xs : List OutletModel). AreSameWays xs (c.flush_first.new.first ∷ c.flush_all.new.outlets)) (sym c.in-Some.ensures.cases.0)
     (one.0, one.1, ways-on c.in-Some.rest.now c.flush_first.new.rest c.flush_all.new.outlets one.2 c.flush_all.ensures.ways)
+
+pub returns-clause-grows : goal.returns-clause-grows
+returns-clause-grows g t c =
+    grows-on (g.N.Net.log c.args.net.now) (g.N.Net.log c.flush_first.new.net) (g.N.Net.log c.flush_all.new.net)
+    c.flush_first.ensures.grows c.flush_all.ensures.grows
+
+pub returns-in_default-clause-grows : goal.returns-in_default-clause-grows
+returns-in_default-clause-grows g t c = grows-none (g.N.Net.log c.args.net.now)
+
+pub returns-in_default-clause-ways : goal.returns-in_default-clause-ways
+returns-in_default-clause-ways g t c = same-ways c.args.outlets.now

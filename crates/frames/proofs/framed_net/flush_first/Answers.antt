@@ -1,5 +1,5 @@
-use Rattle.std.proofs.Common.{◌≤◌, ◌∙◌, ap, arith, length, refl, subst, sym, ℕ, List}
-use Rattle.frames.specs.declared.longs.Longs.{Longs}
+use Rattle.std.proofs.Common.{◌≡◌, ◌≤◌, ◌∙◌, ap, arith, length, refl, subst, sym, ℕ, List}
+use Rattle.std.proofs.lemmas.Result.{IfOk-from_err}
 use Rattle.frames.specs.declared.several.Variant.{Variant}
 use Rattle.frames.specs.Arrivals.{StandsIn}
 use Rattle.frames.specs.Carried.{Carries}
@@ -9,7 +9,8 @@ use Rattle.frames.specs.Outlets.{OutletModel}
 use Rattle.frames.specs.Parts.{rows_of}
 use Rattle.frames.specs.Sendings.{AreLongs, AreOf, IsFrameOf}
 use Rattle.frames.proofs.GatheredSends.{first-count, first-rows, first-variants, longs-gathered, several-carries, wait-gathered, ways-gathered}
-use Rattle.frames.proofs.SendsCarried.{adds-none, longs-on, same-ways}
+use Rattle.frames.proofs.Logs.{grows-none, stays}
+use Rattle.frames.proofs.SendsCarried.{adds-none, longs-on, next-on, same-ways}
 use Rattle.frames.proofs.framed_net.flush_first.Goals as goal
 
 pub returns-then-is_empty-clause-sends : goal.returns-then-is_empty-clause-sends
@@ -18,7 +19,7 @@ returns-then-is_empty-clause-sends g c = λ long sent of known.
     (s.0, (s.1, of.1), (longs-on long c.args.first.now c.flush.new.self c.flush.ensures.node c.flush.ensures.longs known.0, known.1))
 
 pub returns-then-is_empty-clause-ways : goal.returns-then-is_empty-clause-ways
-returns-then-is_empty-clause-ways g c = (c.flush.ensures.node, omega (arith, ap (λ (l : Longs). l.next) c.flush.ensures.longs), same-ways c.args.rest.now)
+returns-then-is_empty-clause-ways g c = (c.flush.ensures.node, next-on c.args.first.now c.flush.new.self c.flush.ensures.longs, same-ways c.args.rest.now)
 
 pub returns-in_default-clause-sends : goal.returns-in_default-clause-sends
 returns-in_default-clause-sends g c = λ long sent of known.
@@ -28,10 +29,7 @@ returns-in_default-clause-sends g c = λ long sent of known.
 
 pub returns-in_default-clause-ways : goal.returns-in_default-clause-ways
 returns-in_default-clause-ways g c =
-    (c.flush-in_default.ensures.node, omega (arith, ap (λ (l : Longs). l.next) c.flush-in_default.ensures.longs), same-ways c.args.rest.now)
-
-pub returns-in_err-empty-clause-ways : goal.returns-in_err-empty-clause-ways
-returns-in_err-empty-clause-ways g c = (refl, omega arith, same-ways c.args.rest.now)
+    (c.flush-in_default.ensures.node, next-on c.args.first.now c.flush-in_default.new.self c.flush-in_default.ensures.longs, same-ways c.args.rest.now)
 
 pub returns-then-is_empty-2-clause-sends : goal.returns-then-is_empty-2-clause-sends
 returns-then-is_empty-2-clause-sends g c = λ long sent of known.
@@ -48,17 +46,18 @@ returns-then-is_empty-2-clause-sends g c = λ long sent of known.
 pub returns-then-is_empty-2-clause-ways : goal.returns-then-is_empty-2-clause-ways
 returns-then-is_empty-2-clause-ways g c =
     let f = c.flush-then-is_empty-2 in
-    (f.ensures.node, omega (arith, ap (λ (l : Longs). l.next) f.ensures.longs), ways-gathered _ _ _ c.args.rest.now _ c.gather.new.outlets c.gather.ensures)
+    (f.ensures.node, next-on c.args.first.now f.new.self f.ensures.longs, ways-gathered _ _ _ c.args.rest.now _ c.gather.new.outlets c.gather.ensures)
+
+-- so many that one byte counts them
+few : (variants taken : List Variant) (rest : ℕ) → variants ≡ taken → length taken ≤ rest → rest ≤ 255 → length variants ≤ 255
+few variants taken rest is count most = omega (arith, ap length is, count, most)
 
 pub several_frame-frame-requires-clause-count : goal.several_frame-frame-requires-clause-count
 several_frame-frame-requires-clause-count g c =
-    omega (
-      arith,
-      first-count c.in-Some.place c.content-content.result.now c.new-variants.result.items c.args.rest.now c.gather.new.variants.items c.gather.new.outlets c.new-variants.ensures.items
-          c.gather.ensures,
-      ap length c.as_slice-variants.ensures.value,
-      c.if-rest-gt-MOST_ROWS.false,
-    )
+    few c.as_slice-variants.result.now c.gather.new.variants.items (length c.args.rest.now) c.as_slice-variants.ensures.value
+    (first-count c.in-Some.place c.content-content.result.now c.new-variants.result.items c.args.rest.now c.gather.new.variants.items c.gather.new.outlets c.new-variants.ensures.items
+    c.gather.ensures)
+    c.if-rest-gt-MOST_ROWS.false
 
 pub several_frame-frame-requires-clause-room : goal.several_frame-frame-requires-clause-room
 several_frame-frame-requires-clause-room g c =
@@ -85,12 +84,8 @@ returns-clause-sends g c = λ long sent of known.
     let good : AreVariantsOf sent place (packed first.waiting) variants =
     subst (AreVariantsOf sent place (packed first.waiting)) (sym c.as_slice-variants.ensures.value) (subst (λ (l : List ℕ). AreVariantsOf sent place l taken) c.content-content.ensures.is gathered) in
     let count : length variants ≤ 255 =
-    omega (
-      arith,
-      first-count place content c.new-variants.result.items rest taken new c.new-variants.ensures.items c.gather.ensures,
-      ap length c.as_slice-variants.ensures.value,
-      c.if-rest-gt-MOST_ROWS.false,
-    ) in
+    few variants taken (length rest) c.as_slice-variants.ensures.value
+    (first-count place content c.new-variants.result.items rest taken new c.new-variants.ensures.items c.gather.ensures) c.if-rest-gt-MOST_ROWS.false in
     let carries : Carries c.args.seal.now.key c.args.seal.now.boot long (StandsIn sent) c.as_slice.result.now =
     subst (Carries c.args.seal.now.key c.args.seal.now.boot long (StandsIn sent)) (sym (c.as_slice.ensures.value ∙ c.several_frame-frame.ensures.is))
     (several-carries c.args.seal.now long sent c.args.counter.now place variants first c.several_frame-frame.ensures.fits c.in-Some.ensures count c.content-content.ensures.short of.0 good) in (
@@ -102,9 +97,16 @@ returns-clause-sends g c = λ long sent of known.
 pub returns-clause-ways : goal.returns-clause-ways
 returns-clause-ways g c = (
   ap (λ (x : OutletModel). x.node) c.send_several.ensures.outlet,
-  omega (arith, ap (λ (x : OutletModel). x.longs.next) c.send_several.ensures.outlet),
+  next-on c.args.first.now c.send_several.new.outlet (ap (λ (x : OutletModel). x.longs) c.send_several.ensures.outlet),
   ways-gathered c.in-Some.place c.content-content.result.now _ c.args.rest.now c.gather.new.variants.items c.gather.new.outlets c.gather.ensures,
 )
 
-pub returns-in_err-empty-clause-sends : goal.returns-in_err-empty-clause-sends
-returns-in_err-empty-clause-sends g c = λ long sent of known. (adds-none (IsFrameOf c.args.seal.now long sent) (g.N.Net.log c.args.net.now), of, known)
+pub returns-in_err-empty : goal.returns-in_err-empty
+returns-in_err-empty g c = record {
+  failed = refl;
+  unsent = stays (g.N.Net.unsent c.args.net.now);
+  grows = grows-none (g.N.Net.log c.args.net.now);
+  sends = λ long sent of known. (adds-none (IsFrameOf c.args.seal.now long sent) (g.N.Net.log c.args.net.now), of, known);
+  ways = (refl, stays c.args.first.now.longs.next, same-ways c.args.rest.now);
+  goes = IfOk-from_err c.from_residual.result _ c.from_residual.ensures.0;
+}

@@ -1,5 +1,6 @@
+use Rattle.std.proofs.Common.{arith, refl}
 use Rattle.frames.proofs.KeepsCame.{keeps-on, keeps-receiving}
-use Rattle.frames.proofs.Logs.{grows-listing}
+use Rattle.frames.proofs.Logs.{failed-on, grows-listing, stays}
 use Rattle.frames.proofs.SendsCarried.{adds-answer}
 use Rattle.frames.proofs.framed_net.FramedNet.take.Goals as goal
 
@@ -28,17 +29,52 @@ invariant_of-self-in-Err g c =
     keeps-receiving (g.N.Net.log c.self.inside.inner) (g.N.Net.log c.receive.new.self) c.self.inside.seal.key c.self.inside.opener c.open.new.self c.in_ok-count.field-0 c.in-Some.count
     c.receive.new.buffer c.split_at.result.0.now c.in-Some.is c.split_at.ensures.front c.in_ok-count.ensures.lists c.open.ensures.stands c.self.invariant
 
-pub returns-in_err-count-clause-answers : goal.returns-in_err-count-clause-answers
-returns-in_err-count-clause-answers g c = rw (← c.self.view_is) (adds-answer (g.N.Net.log c.self.inside.inner) (g.N.Net.log c.receive.new.self) _ c.receive.ensures.lists)
+pub returns-in_err-count : goal.returns-in_err-count
+returns-in_err-count g c = rw (← c.self.view_is) (record {
+  failed = failed-on _ _ c.from_residual.result c.in_err-count.ensures.failed c.from_residual.ensures.0;
+  unsent = c.receive.ensures.unsent;
+  lost = stays c.self.inside.lost;
+  answers = adds-answer (g.N.Net.log c.self.inside.inner) (g.N.Net.log c.receive.new.self) _ c.receive.ensures.lists;
+  outlets = refl;
+  same = record { node = refl; seal = refl };
+})
 
-pub returns-in_default-clause-answers : goal.returns-in_default-clause-answers
-returns-in_default-clause-answers g c = rw (← c.self.view_is) (adds-answer (g.N.Net.log c.self.inside.inner) (g.N.Net.log c.receive.new.self) _ c.receive.ensures.lists)
+pub returns-in_default : goal.returns-in_default
+returns-in_default g c = rw (← c.self.view_is) (record {
+  failed = c.in_ok-count.ensures.failed;
+  unsent = c.receive.ensures.unsent;
+  lost = stays c.self.inside.lost;
+  answers = adds-answer (g.N.Net.log c.self.inside.inner) (g.N.Net.log c.receive.new.self) _ c.receive.ensures.lists;
+  outlets = refl;
+  same = record { node = refl; seal = refl };
+})
 
-pub returns-in-Ok-true-clause-answers : goal.returns-in-Ok-true-clause-answers
-returns-in-Ok-true-clause-answers g c = rw (← c.self.view_is) (adds-answer (g.N.Net.log c.self.inside.inner) (g.N.Net.log c.receive.new.self) _ c.receive.ensures.lists)
+pub returns-in-Ok-true : goal.returns-in-Ok-true
+returns-in-Ok-true g c = rw (← c.self.view_is) (record {
+  failed = c.in_ok-count.ensures.failed;
+  unsent = c.receive.ensures.unsent;
+  lost = stays c.self.inside.lost;
+  answers = adds-answer (g.N.Net.log c.self.inside.inner) (g.N.Net.log c.receive.new.self) _ c.receive.ensures.lists;
+  outlets = refl;
+  same = record { node = c.open.ensures.node; seal = refl };
+})
 
-pub returns-in-Ok-false-clause-answers : goal.returns-in-Ok-false-clause-answers
-returns-in-Ok-false-clause-answers g c = rw (← c.self.view_is) (adds-answer (g.N.Net.log c.self.inside.inner) (g.N.Net.log c.receive.new.self) _ c.receive.ensures.lists)
+pub returns-in-Ok-false : goal.returns-in-Ok-false
+returns-in-Ok-false g c = rw (← c.self.view_is) (record {
+  failed = c.in_ok-count.ensures.failed;
+  unsent = c.receive.ensures.unsent;
+  lost = stays c.self.inside.lost;
+  answers = adds-answer (g.N.Net.log c.self.inside.inner) (g.N.Net.log c.receive.new.self) _ c.receive.ensures.lists;
+  outlets = refl;
+  same = record { node = c.open.ensures.node; seal = refl };
+})
 
-pub returns-in-Err-clause-answers : goal.returns-in-Err-clause-answers
-returns-in-Err-clause-answers g c = rw (← c.self.view_is) (adds-answer (g.N.Net.log c.self.inside.inner) (g.N.Net.log c.receive.new.self) _ c.receive.ensures.lists)
+pub returns-in-Err : goal.returns-in-Err
+returns-in-Err g c = rw (← c.self.view_is) (record {
+  failed = c.in_ok-count.ensures.failed;
+  unsent = c.receive.ensures.unsent;
+  lost = omega (arith, c.saturating_add-self-inside-in-Err.ensures);
+  answers = adds-answer (g.N.Net.log c.self.inside.inner) (g.N.Net.log c.receive.new.self) _ c.receive.ensures.lists;
+  outlets = refl;
+  same = record { node = c.open.ensures.node; seal = refl };
+})

@@ -1,4 +1,10 @@
+use Rattle.std.proofs.Common.{rules, sym}
+use denote.Enum.Bare.{same_true}
+use Rattle.frames.specs.contracts.head.Kind.{the_type}
 use Rattle.frames.proofs.opener.Opener.open.Goals as goal
+
+pub open_several-requires : goal.open_several-requires
+open_several-requires c = same_true the_type (search rules) _ _ (sym c.if-eq.ensures)
 
 pub returns-then-eq-clause-stands : goal.returns-then-eq-clause-stands
 returns-then-eq-clause-stands c = c.open_several.ensures.stands c.args.key.now c.args.frame.now c.in-Some.ensures

@@ -1,4 +1,4 @@
-use Rattle.std.proofs.Common.{◌≡◌, rules, subst, sym, true, Some}
+use Rattle.std.proofs.Common.{◌≡◌, rules, subst, sym, Some}
 use Rattle.frames.specs.Parts.{part_of}
 use Rattle.frames.specs.Taken.{StayTaken, WasTaken}
 use Rattle.frames.specs.declared.peers.Peers.{Peers}
@@ -14,11 +14,10 @@ returns-clause-stands c = λ key frame sealed l given stands.
 pub returns-clause-once : goal.returns-clause-once
 returns-clause-once c = λ key frame sealed.
     let is : part_of c.args.self.now.node c.args.head.now.to c.args.content.now ≡ Some c.as_slice.result.now = search rules in
-    let is_taken : c.in_ok-take.field-0 ≡ true = search rules in
     if-ok c.open_packets.result _ (λ good yes.
     once-several key frame c.args.self.now c.open_packets.new.self c.args.head.now c.as_slice.result.now c.requires
-    (opens-several key c.args.self.now.node frame c.args.head.now c.args.content.now c.as_slice.result.now c.requires sealed is) (c.in_ok-take.ensures.fresh is_taken)
-    (subst (λ (p : Peers). WasTaken c.args.head.now.boot c.args.head.now.counter p.peers.items) (sym c.open_packets.ensures.several) (c.in_ok-take.ensures.taken is_taken)))
+    (opens-several key c.args.self.now.node frame c.args.head.now c.args.content.now c.as_slice.result.now c.requires sealed is) (c.in_ok-take.ensures.fresh c.if-not-branch.false)
+    (subst (λ (p : Peers). WasTaken c.args.head.now.boot c.args.head.now.counter p.peers.items) (sym c.open_packets.ensures.several) (c.in_ok-take.ensures.taken c.if-not-branch.false)))
 
 pub returns-clause-stay : goal.returns-clause-stay
 returns-clause-stay c = subst (λ (p : Peers). StayTaken c.args.self.now.several.peers.items p.peers.items) (sym c.open_packets.ensures.several) c.take.ensures.stay

@@ -1,6 +1,7 @@
 use Rattle.std.proofs.Common.{arith, subst, sym}
 use Rattle.frames.specs.Sendings.{Adds, AreLongs, AreOf, IsFrameOf}
 use Rattle.frames.proofs.AllPieces.{long-behind, on-ok}
+use Rattle.frames.proofs.Logs.{grows-on}
 use Rattle.frames.proofs.Opened.{if-ok}
 use Rattle.frames.proofs.SendsCarried.{adds-none, adds-on, longs-on, numbered-from}
 use Rattle.frames.proofs.outlet.Outlet.send.Goals.{then-not-has_place+in_ok-flush-2, else-not-has_place}
@@ -39,6 +40,10 @@ returns-clause-sends g c = λ long sent of known stands numbered.
       | else-not-has_place w ↦ rw (w.net-is, w.self-is) (adds-none (IsFrameOf c.args.seal.now long sent) (g.N.Net.log c.args.net.now), of, known)
     ] in
     (both.0, c.wait.ensures.of sent both.1 stands, longs-on long c.if-not-has_place.self c.wait.new.self c.wait.ensures.node c.wait.ensures.longs both.2)
+
+pub returns-then-packet-gt-WHOLE-clause-grows : goal.returns-then-packet-gt-WHOLE-clause-grows
+returns-then-packet-gt-WHOLE-clause-grows g c =
+    grows-on (g.N.Net.log c.args.net.now) (g.N.Net.log c.flush.new.net) (g.N.Net.log c.send_long.new.net) c.flush.ensures.grows c.send_long.ensures.grows
 
 pub returns-then-packet-gt-WHOLE-clause-pieces : goal.returns-then-packet-gt-WHOLE-clause-pieces
 returns-then-packet-gt-WHOLE-clause-pieces g c =

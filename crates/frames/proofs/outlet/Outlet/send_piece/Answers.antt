@@ -1,10 +1,13 @@
-use Rattle.std.proofs.Common.{take, drop, ◌*◌, ◌++◌, ◌∙◌, ap, subst, ℕ, List, arith}
+use Rattle.std.proofs.Common.{take, drop, ◌*◌, ◌++◌, ◌∙◌, ap, subst, refl, ℕ, List, arith}
+use Rattle.std.proofs.lemmas.Result.{IfOk-from_err}
 use Rattle.udp_net.specs.Logs.{Lists, offering}
 use Rattle.frames.specs.Frames.{head_bytes, sealed}
 use Rattle.frames.specs.Partials.{piece_bytes}
 use Rattle.frames.specs.declared.head.Kind.TheVariants.{Piece}
 use Rattle.frames.specs.Outlets.{OutletModel, head_for}
-use Rattle.frames.proofs.SendsCarried.{piece-adds}
+use Rattle.frames.specs.Sendings.{IsFrameOf}
+use Rattle.frames.proofs.Logs.{grows-none, stays}
+use Rattle.frames.proofs.SendsCarried.{adds-none, piece-adds}
 use Rattle.frames.proofs.outlet.Outlet.send_piece.Goals as goal
 
 pub returns-clause-sends : goal.returns-clause-sends
@@ -27,3 +30,16 @@ returns-clause-piece g c =
     let by_count = ap (λ (m : ℕ). head_bytes (head_for Piece o c.args.seal.now) ++ piece_bytes (record { number = n; index = i; count = m; bytes = take 1344 (drop (1344 * i) c.args.packet.now) })) c.requires.count in
     subst (λ (b : List ℕ). Lists (g.N.Net.log c.args.net.now) (offering o.node (sealed c.args.seal.now.key b)) (g.N.Net.log c.offer.new.net)) (c.in_ok-body.ensures.items ∙ by_bytes ∙ by_count)
     c.offer.ensures.lists
+
+pub returns-in_err-body : goal.returns-in_err-body
+returns-in_err-body g c = record {
+  piece = IfOk-from_err c.from_residual.result _ c.from_residual.ensures.0;
+  frames = IfOk-from_err c.from_residual.result _ c.from_residual.ensures.0;
+  failed = refl;
+  unsent = stays (g.N.Net.unsent c.args.net.now);
+  node = refl;
+  waiting = refl;
+  longs = refl;
+  grows = grows-none (g.N.Net.log c.args.net.now);
+  sends = λ long sent of same. adds-none (IsFrameOf c.args.seal.now long sent) (g.N.Net.log c.args.net.now);
+}

@@ -1,7 +1,9 @@
-use Rattle.std.proofs.Common.{◌≡◌, true, ◌≤◌, ◌+◌, ℕ, List, [], ◌∷◌, ◌++◌, length, ap, subst, sym, ◌∙◌, arith}
+use Rattle.std.proofs.Common.{◌≡◌, true, ◌≤◌, ◌+◌, ℕ, List, [], ◌∷◌, ◌++◌, length, ap, refl, subst, sym, ◌∙◌, arith}
 use Rattle.std.specs.List.{AllByRecursion}
 use Rattle.frames.specs.Frames.{bytes_behind, last_behind, packed, shared_front, IsShort}
 use Rattle.frames.specs.Outlets.{OutletModel, has_place}
+use Rattle.frames.specs.Arrivals.{StandsIn}
+use Rattle.frames.specs.Sendings.{AreOf}
 use Rattle.frames.proofs.Shared.{le-true, length-packed-more, packed-more}
 use Rattle.frames.proofs.PiecesCome.{all-push}
 use Rattle.frames.proofs.outlet.Outlet.wait.Goals as goal
@@ -21,3 +23,15 @@ invariant_of-self-2 c =
       content ∙ ap packed (sym waits),
       omega (arith, ap length content, length-packed-more w packet, place),
     )
+
+pub returns : goal.returns
+returns c =
+    let made : List (List ℕ) → OutletModel =
+    λ w. record { node = c.self.inside.node; frames = c.self.inside.frames; longs = c.self.inside.longs; waiting = w } in
+    rw (← c.self.view_is) (record {
+      ok = ap made c.in_ok-push.ensures.ok;
+      node = refl;
+      longs = refl;
+      err = tt;
+      of = λ sent of stands. subst (AreOf sent) (sym c.in_ok-push.ensures.ok) (all-push (StandsIn sent) c.self.inside.waiting c.args.packet.now of stands);
+    })

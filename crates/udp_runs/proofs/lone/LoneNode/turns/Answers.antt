@@ -30,10 +30,10 @@ returns-in-Err-turn-clause-grows g c =
 pub loop-round-preserved : goal.loop-round-preserved
 loop-round-preserved g c =
     let (told, voice, gone, once, grows, owes) = c.loop-round.invariant in (
-      λ start later owed earlier none. rw c.look.ensures.member (tells-then _ _ _ _ c.args.settings.now.group _ _ _ _ _ _ _ _ _ (tells-then _ _ _ _ c.args.settings.now.group _ _ _ _ _ _ _ _ _ (told start later owed (earlier-trans _ _ _ c.rest.ensures.grows (earlier-trans _ _ _ c.turn.ensures.grows earlier)) none) (rw (voice, once) at c.in-Ok.ensures.tells c.args.settings.now.group start later (owes start owed) (earlier-trans _ _ _ c.turn.ensures.grows earlier) (told-all _ _ _ _ c.args.settings.now.group _ _ _ _ _ _ (told start later owed (earlier-trans _ _ _ c.rest.ensures.grows (earlier-trans _ _ _ c.turn.ensures.grows earlier)) none)))) (rw (c.rest.ensures.same.0, voice, c.rest.ensures.same.1, once) at c.in-Ok-turn.ensures.tells start later (c.in-Ok.ensures.owes start (owes start owed)) earlier)),
-      c.look.ensures.voice ∙ c.turn.ensures.same.0 ∙ c.rest.ensures.same.0 ∙ voice,
+      λ start later owed earlier none. rw c.look.ensures.same.0 (tells-then _ _ _ _ c.args.settings.now.group _ _ _ _ _ _ _ _ _ (tells-then _ _ _ _ c.args.settings.now.group _ _ _ _ _ _ _ _ _ (told start later owed (earlier-trans _ _ _ c.rest.ensures.grows (earlier-trans _ _ _ c.turn.ensures.grows earlier)) none) (rw (voice, once) at c.in-Ok.ensures.tells c.args.settings.now.group start later (owes start owed) (earlier-trans _ _ _ c.turn.ensures.grows earlier) (told-all _ _ _ _ c.args.settings.now.group _ _ _ _ _ _ (told start later owed (earlier-trans _ _ _ c.rest.ensures.grows (earlier-trans _ _ _ c.turn.ensures.grows earlier)) none)))) (rw (c.rest.ensures.same.0, voice, c.rest.ensures.same.1, once) at c.in-Ok-turn.ensures.tells start later (c.in-Ok.ensures.owes start (owes start owed)) earlier)),
+      c.look.ensures.same.1 ∙ c.turn.ensures.same.0 ∙ c.rest.ensures.same.0 ∙ voice,
       c.look.ensures.gone ∙ c.rest.ensures.gone ∙ gone,
-      c.look.ensures.texts.0 ∙ c.turn.ensures.same.1 ∙ c.rest.ensures.same.1 ∙ once,
+      c.look.ensures.same.2.0 ∙ c.turn.ensures.same.1 ∙ c.rest.ensures.same.1 ∙ once,
       earlier-trans _ _ _ (earlier-trans _ _ _ grows c.rest.ensures.grows) c.turn.ensures.grows,
-      λ start owed. same-keeps _ _ _ _ _ _ c.look.ensures.texts start _ (c.in-Ok-turn.ensures.owes start (c.in-Ok.ensures.owes start (owes start owed))),
+      λ start owed. same-keeps _ _ _ _ _ _ c.look.ensures.same.2 start _ (c.in-Ok-turn.ensures.owes start (c.in-Ok.ensures.owes start (owes start owed))),
     )
