@@ -1,12 +1,12 @@
 //! Lines of scripts and traces, and of packets. The laws of texts are called beside.
 
-use address::{Address, Node};
+use address::{Address, Node, ViewId};
 use lock_table::LockTable;
 use script_reader::{Fault, Unheard, Unread, address_field, is_skipped};
 use trace_drawing::lay_out;
 use trace_merge::verdicts_are_the_same;
 use trace_reader::{read_trace, reads_what_is_written};
-use vsync_text::append_packet;
+use vsync_text::{Part, append_packet, put_parts};
 
 #[test]
 fn a_fault_is_told_with_its_line(rt: HostRuntime) {
@@ -56,4 +56,23 @@ fn each_event_has_a_row_and_each_member_a_line(rt: HostRuntime) {
         }
         Err(_) => assert!(rt; false, "there is memory"),
     }
+}
+
+#[test]
+fn a_text_has_its_parts_in_order(rt: HostRuntime) {
+    let address = Address::new(Node::new(3).unwrap(), 1).unwrap();
+    let parts = [
+        Part::Text(b"in "),
+        Part::View(ViewId::new(7, address).unwrap()),
+        Part::Text(b" "),
+        Part::Address(address),
+        Part::Text(b" sent "),
+        Part::Number(12),
+    ];
+    let mut text = Vec::from_slice(rt.alloc(), b"# ").expect(&rt, "memory");
+    assert!(rt; put_parts(&mut text, &parts).is_ok(), "memory is there");
+    assert!(rt;
+        text.as_slice() == b"# in 7@3.1 3.1 sent 12".as_slice(),
+        "ids and numbers as in a trace"
+    );
 }

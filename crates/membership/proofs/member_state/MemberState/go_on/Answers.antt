@@ -12,3 +12,6 @@ returns-clause-goes_on g c =
     goes-on (who_of c.args.who.now) g.R.Receiver.meaning c.unwrap-flush.result c.unwrap-view_state.result (in_step c.args.self.now c.args.out.now) (in_step c.complete.new.self c.complete.new.out)
     (in_step c.propose.new.self c.propose.new.out)
     (search rules) (search rules) (search rules) (search rules) c.in_ok-propose.ensures.proposes
+
+pub returns-then-not-is_complete-clause-goes_on : goal.returns-then-not-is_complete-clause-goes_on
+returns-then-not-is_complete-clause-goes_on g c = search rules
