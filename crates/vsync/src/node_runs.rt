@@ -16,6 +16,7 @@ use http_desk::{HttpDesk, Keeps};
 use lock_table::LockTable;
 use replicated_map::ReplicatedMap;
 use std::cell::Cell;
+use std::io::Write;
 use std::net::{Net, SocketAddr};
 use std::os::fd::RawFd;
 use std::random::RandomSource;
@@ -218,7 +219,52 @@ fn machine_of<'x, 'y, R: AllocGlobal>(
     )
 }
 
-// Runs the members of a node, one after another, each with what it keeps, and says what is to be said of them on the standard error.
+// Runs the members of a node on a machine, one after another, and says what is to be said of them on the standard error.
+fn run_members<
+    A: Application,
+    L: Lines,
+    R: Files + Net + RandomSource + Clock + Print + Eprint + AllocGlobal,
+    W: Write + Drop,
+>(
+    rt: &R,
+    settings: &Settings,
+    plan: &MemberPlan<'_>,
+    options: &MemberOptions<'_>,
+    lines: &mut L,
+    machine: &mut Watched<'_, '_, R>,
+    output: &mut Output<W>,
+) -> Status {
+    let (mut address, mut rounds, mut contact) = (plan.address, plan.rounds, plan.contact);
+    let (mut is_unsaid, mut pauses) = (true, 0);
+    for _ in 0..u64::MAX {
+        let send = if is_unsaid { plan.send } else { None };
+        let member = MemberPlan {
+            address,
+            rounds,
+            contact,
+            send,
+        };
+        let manner = manner_of(options);
+        let status =
+            run_member::<A, _, _, _>(rt.alloc(), settings, &member, manner, lines, machine, output);
+        let tally = machine.tally().unwrap_or(Tally::new());
+        report(rt, &tally, options.stats);
+        if tally.trouble.is_some() || !begins_again(status, &tally, options) {
+            return end_of(rt, status, &tally, machine, output.has_failed());
+        }
+        pauses = pause(rt, address, status, &tally, pauses);
+        address = match next_of(rt, address, options) {
+            Ok(next) => next,
+            Err(status) => return status,
+        };
+        rounds = rounds.saturating_sub(tally.rounds.saturating_add(1));
+        contact = None;
+        is_unsaid = tally.is_unsaid;
+    }
+    Status::Done
+}
+
+// Runs the members of a node, each with what it keeps.
 fn run_with<
     'x,
     A: Application,
@@ -238,40 +284,15 @@ fn run_with<
     let mut machine = machine_of(rt, settings, options, hosts, key, other, stable);
     let mut lines = KeptLines::new(rt.alloc(), lines);
     let mut output = Output::new(io::writer(rt));
-    let (mut address, mut rounds, mut contact) = (plan.address, plan.rounds, plan.contact);
-    let (mut is_unsaid, mut pauses) = (true, 0);
-    for _ in 0..u64::MAX {
-        let send = if is_unsaid { plan.send } else { None };
-        let member = MemberPlan {
-            address,
-            rounds,
-            contact,
-            send,
-        };
-        let status = run_member::<A, _, _, _>(
-            rt.alloc(),
-            settings,
-            &member,
-            manner_of(options),
-            &mut lines,
-            &mut machine,
-            &mut output,
-        );
-        let tally = machine.tally().unwrap_or(Tally::new());
-        report(rt, &tally, options.stats);
-        if tally.trouble.is_some() || !begins_again(status, &tally, options) {
-            return end_of(rt, status, &tally, &machine, output.has_failed());
-        }
-        pauses = pause(rt, address, status, &tally, pauses);
-        address = match next_of(rt, address, options) {
-            Ok(next) => next,
-            Err(status) => return status,
-        };
-        rounds = rounds.saturating_sub(tally.rounds.saturating_add(1));
-        contact = None;
-        is_unsaid = tally.is_unsaid;
-    }
-    Status::Done
+    run_members::<A, _, _, _>(
+        rt,
+        settings,
+        plan,
+        options,
+        &mut lines,
+        &mut machine,
+        &mut output,
+    )
 }
 
 // Runs the node with what its options say that it keeps.
