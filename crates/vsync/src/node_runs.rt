@@ -245,8 +245,15 @@ fn run_members<
             send,
         };
         let manner = manner_of(options);
-        let status =
-            run_member::<A, _, _, _>(rt.alloc(), settings, &member, manner, lines, machine, output);
+        let status = run_member::<A, _, _, _>(
+            rt.alloc(),
+            settings,
+            &member,
+            manner,
+            lines,
+            machine,
+            output,
+        );
         let tally = machine.tally().unwrap_or(Tally::new());
         report(rt, &tally, options.stats);
         if tally.trouble.is_some() || !begins_again(status, &tally, options) {

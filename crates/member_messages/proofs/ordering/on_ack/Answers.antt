@@ -30,7 +30,7 @@ returns-clause-hears g c =
       ordered = search rules;
       does = search rules;
       did = rw (sym same)
-      (heard-did g.R.Receiver.meaning (λ i. Some (packet c.args.source.now (bodies.Ack i c.get-count.result) c.args.who.now.address)) _ _ _ _ _ _ _ _ _ _
-      c.requires.member_state heard there does.goes.view does.goes.goes);
+          (heard-did g.R.Receiver.meaning (λ i. Some (packet c.args.source.now (bodies.Ack i c.get-count.result) c.args.who.now.address)) _ _ _ _ _ _ _ _ _ _
+          c.requires.member_state heard there does.goes.view does.goes.goes);
       calm = ordering-calm g.R.Receiver.meaning _ _ _ _ _ _ _ _ does.orders.0 does.few;
     }

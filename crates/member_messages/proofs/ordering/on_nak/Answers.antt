@@ -18,6 +18,6 @@ returns-clause-hears g c =
       ordered = search rules;
       does = search rules;
       did = heard-same g.R.Receiver.meaning (λ i. Some (packet c.args.source.now (bodies.Nak i c.args.missing) c.args.who.now.address)) _ _ _ _ _ _ _ _ c.requires.member_state heard there
-      (nak-goes g.R.Receiver.meaning _ _ _ _ _ _ _ _ _ _ (orderly-in _ _ _ c.requires.ordered there).0 c.in_ok-nak-in-Coordinator.ensures).goes;
+          (nak-goes g.R.Receiver.meaning _ _ _ _ _ _ _ _ _ _ (orderly-in _ _ _ c.requires.ordered there).0 c.in_ok-nak-in-Coordinator.ensures).goes;
       calm = search rules;
     }

@@ -27,6 +27,6 @@ returns-clause-hears g c =
       ordered = ordered-by _ _ (order-orderly g.R.Receiver.meaning c.args.who.now.address c.args.who.now.group _ _ c.in-Some-Follower.follower _ _ _ _ _ does.takes does.goes.1 (orderly-in _ _ _ c.requires.ordered there));
       does = search rules;
       did = other-did g.R.Receiver.meaning (λ q i. Some (packet q (bodies.Order i c.args.place c.args.entry.now) c.args.who.now.address)) _ _ _ _ _ _ _ _ _ _ c.requires.member_state heard there
-      (from-in _ _ c.args.member_state.now c.in-Some-Follower.follower (λ m. not (nat_lt m.window.delivered (c.args.place - WINDOW))) there (sym c.if-not-takes_order.ensures)) does.goes;
+          (from-in _ _ c.args.member_state.now c.in-Some-Follower.follower (λ m. not (nat_lt m.window.delivered (c.args.place - WINDOW))) there (sym c.if-not-takes_order.ensures)) does.goes;
       calm = takes-calm g.R.Receiver.meaning _ _ _ _ _ _ _ _ _ _ does.takes does.few;
     }

@@ -20,9 +20,9 @@ returns-clause-hears g c =
     record {
       member_state = heard-member_state _ _ _ _ _ _ _ _ c.requires.member_state heard there goes.1;
       ordered = ordered-by _ _ (status-orderly c.args.who.now.address c.args.who.now.group c.args.progress c.in-Some-Follower.follower c.args.out.now c.status.new.self c.status.new.out c.in_ok-status-in-Some-Follower.ensures
-      (orderly-in _ _ _ c.requires.ordered there));
+          (orderly-in _ _ _ c.requires.ordered there));
       does = search rules;
       did = other-did g.R.Receiver.meaning (λ q i. Some (packet q (bodies.Status i c.args.progress) c.args.who.now.address)) _ _ _ _ _ _ _ _ _ _ c.requires.member_state heard there
-      (from-in _ _ c.args.member_state.now c.in-Some-Follower.follower (is_near c.args.progress) there (sym c.if-not-takes_status.ensures)) goes;
+          (from-in _ _ c.args.member_state.now c.in-Some-Follower.follower (is_near c.args.progress) there (sym c.if-not-takes_status.ensures)) goes;
       calm = search rules;
     }

@@ -1,4 +1,3 @@
-use Rattle.std.proofs.Common.{refl}
 use Rattle.udp_runs.proofs.MemberCommandsEnd.{goes-alone, goes-none, silent-first}
 use Rattle.node_lines.proofs.LinesKept.{earlier-refl, owes-new}
 use Rattle.udp_runs.proofs.one_node.go_on.Goals as goal

@@ -1,4 +1,3 @@
-use Rattle.std.proofs.Common.{◌∙◌}
 use Rattle.udp_runs.proofs.lone.LoneNode.next_step.Goals as goal
 
 pub returns-clause-drives : goal.returns-clause-drives
