@@ -59,21 +59,26 @@ fn put_versioned<'a>(
     )
 }
 
-// Adds the line that says a command: a word and fields, each behind a space.
+// Adds a word and fields, each behind a space.
+fn put_words<'a>(
+    line: &mut Vec<u8>,
+    word: &'a [u8],
+    fields: &[&'a [u8]],
+) -> Result<(), AllocError> {
+    put_parts(line, &[Part::Text(word)])?;
+    for field in fields {
+        put_parts(line, &[Part::Text(b" "), Part::Text(field)])?;
+    }
+    Ok(())
+}
+
+// Adds the line that says a command.
 fn put_command<'a>(line: &mut Vec<u8>, command: &Command<'a>) -> Result<(), AllocError> {
     match command {
-        Command::Put { key, value, .. } => put_parts(
-            line,
-            &[
-                Part::Text(b"put "),
-                Part::Text(key.as_slice()),
-                Part::Text(b" "),
-                Part::Text(value.as_slice()),
-            ],
-        ),
-        Command::Remove(key) => {
-            put_parts(line, &[Part::Text(b"remove "), Part::Text(key.as_slice())])
+        Command::Put { key, value, .. } => {
+            put_words(line, b"put", &[key.as_slice(), value.as_slice()])
         }
+        Command::Remove(key) => put_words(line, b"remove", &[key.as_slice()]),
         Command::Replace {
             expected,
             key,
@@ -84,19 +89,13 @@ fn put_command<'a>(line: &mut Vec<u8>, command: &Command<'a>) -> Result<(), Allo
                 Some(expected) => expected.as_slice(),
                 None => b"-",
             };
-            put_parts(
+            put_words(
                 line,
-                &[
-                    Part::Text(b"replace "),
-                    Part::Text(key.as_slice()),
-                    Part::Text(b" "),
-                    Part::Text(expected),
-                    Part::Text(b" "),
-                    Part::Text(value.as_slice()),
-                ],
+                b"replace",
+                &[key.as_slice(), expected, value.as_slice()],
             )
         }
-        Command::Clear => put_parts(line, &[Part::Text(b"clear")]),
+        Command::Clear => put_words(line, b"clear", &[]),
         Command::ReplaceAt {
             version,
             key,
@@ -104,7 +103,7 @@ fn put_command<'a>(line: &mut Vec<u8>, command: &Command<'a>) -> Result<(), Allo
             ..
         } => {
             put_versioned(line, b"replace_at", key.as_slice(), version.token())?;
-            put_parts(line, &[Part::Text(b" "), Part::Text(value.as_slice())])
+            put_words(line, b"", &[value.as_slice()])
         }
         Command::RemoveAt { version, key } => {
             put_versioned(line, b"remove_at", key.as_slice(), version.token())
