@@ -186,8 +186,7 @@ fn add_put_out_at(
     match site {
         None => Ok(()),
         Some(node) => {
-            add_put_out(asides, place, node, past, packets)?;
-            Ok(())
+            add_put_out(asides, place, node, past, packets)
         }
     }
 }
@@ -233,8 +232,7 @@ fn play_alone<R: Receiver>(
     add(
         asides,
         refused_of(line, event, world.replies().get(replied)),
-    )?;
-    Ok(())
+    )
 }
 
 // Carries out the event of a line, and adds what was refused, and which packets were handed over and put out.

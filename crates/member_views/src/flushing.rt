@@ -33,9 +33,10 @@ pub fn on_flush<R: Receiver>(
     ensures ignored { is_flush_ignored source proposal.now member_state.old ≡ true → (result ≡ Ok tt) × StaysAs (in_step member_state.old out.old) (in_step member_state.new out.new) }
 {
     if proposal.id().creator() == source {
-        member_state.take_flush(who, proposal, out)?;
+        member_state.take_flush(who, proposal, out)
+    } else {
+        Ok(())
     }
-    Ok(())
 }
 
 // Whether this is what its own flush proposes.
@@ -63,9 +64,10 @@ pub fn on_behind<R: Receiver>(
     ensures ignored { is_proposing proposal member_state.old ≡ false → (result ≡ Ok tt) × StaysAs (in_step member_state.old out.old) (in_step member_state.new out.new) }
 {
     if is_proposing(member_state, proposal) {
-        member_state.take_behind(who, counter, out)?;
+        member_state.take_behind(who, counter, out)
+    } else {
+        Ok(())
     }
-    Ok(())
 }
 
 // Whether it is in this view.
@@ -95,11 +97,10 @@ pub fn on_report<R: Receiver>(
     ensures ignored { is_report_ignored source proposal member_state.old ≡ true → (result ≡ Ok tt) × StaysAs (in_step member_state.old out.old) (in_step member_state.new out.new) }
 {
     if member_state.expects(&source, proposal) {
-        member_state.take_report(who, source, proposal, report, out)?;
-        return Ok(());
+        member_state.take_report(who, source, proposal, report, out)
+    } else if is_in(member_state, proposal) {
+        member_state.install_again(who, &source, out)
+    } else {
+        Ok(())
     }
-    if is_in(member_state, proposal) {
-        member_state.install_again(who, &source, out)?;
-    }
-    Ok(())
 }

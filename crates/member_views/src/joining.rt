@@ -53,9 +53,9 @@ pub fn create<R: Receiver>(
     ensures member_state { OnOk result (IsMemberState (who_of who.now) member_state.new) }
     ensures does { OnOk result (Creates (who_of who.now) (in_step member_state.old out.old) (in_step member_state.new out.new)) }
 {
-    let view = View::alone(who.alloc, ViewId::first_of(who.address))?;
     let install = lone_install(who)?;
     who.record(Event::Installed(install), out)?;
+    let view = View::alone(who.alloc, ViewId::first_of(who.address))?;
     let roster = Roster::new(view.id(), view.members().as_slice()).unwrap();
     let _ = member_state.promise.offer(&roster);
     let _ = member_state.promise.install(&roster);
@@ -95,8 +95,7 @@ pub(crate) fn redirect<R: Receiver>(
     match first_in(member_state) {
         None => Ok(()),
         Some(first) => {
-            who.put(address, Body::Redirect(first), out)?;
-            Ok(())
+            who.put(address, Body::Redirect(first), out)
         }
     }
 }
@@ -134,8 +133,7 @@ fn outdate<R: Receiver>(
         Some(view_state) => {
             member_state
                 .notes
-                .outdate(&who.address, view_state.view(), &address)?;
-            Ok(())
+                .outdate(&who.address, view_state.view(), &address)
         }
     }
 }
@@ -153,8 +151,7 @@ fn note_in(
     match view_state {
         None => Ok(()),
         Some(view_state) => {
-            notes.note_joiner(who.alloc, &who.address, view_state.view(), listed, address)?;
-            Ok(())
+            notes.note_joiner(who.alloc, &who.address, view_state.view(), listed, address)
         }
     }
 }
@@ -175,8 +172,7 @@ fn note_joiner<R: Receiver>(
                 &member_state.view_state,
                 &[],
                 address,
-            )?;
-            Ok(())
+            )
         }
         Some(flush) => {
             let listed = flush.members().as_slice();
@@ -186,8 +182,7 @@ fn note_joiner<R: Receiver>(
                 &member_state.view_state,
                 listed,
                 address,
-            )?;
-            Ok(())
+            )
         }
     }
 }
@@ -206,11 +201,10 @@ fn admit<R: Receiver>(
 {
     if leads_now(member_state, who) {
         note_joiner(member_state, who, source)?;
-        member_state.regroup(who, out)?;
+        member_state.regroup(who, out)
     } else {
-        redirect(member_state, who, source, out)?;
+        redirect(member_state, who, source, out)
     }
-    Ok(())
 }
 
 /// JOIN: one asks to be let in. Earlier incarnations of its node are suspected; a member that leads its view notes it and begins what is due, another says whom
@@ -252,9 +246,8 @@ pub fn on_redirect<R: Receiver>(
         return Ok(());
     }
     if member_state.view_state.is_some() {
-        announce_view(member_state, who, coordinator, out)?;
+        announce_view(member_state, who, coordinator, out)
     } else {
-        ask(member_state, who, coordinator, out)?;
+        ask(member_state, who, coordinator, out)
     }
-    Ok(())
 }

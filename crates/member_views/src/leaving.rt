@@ -44,8 +44,7 @@ pub fn leave<R: Receiver>(
     if let Some(view_state) = &member_state.view_state {
         say_to(who, view_state, out)?;
     }
-    who.record(Event::Left(who.address), out)?;
-    Ok(())
+    who.record(Event::Left(who.address), out)
 }
 
 // Whether an address is in the list that it promised.
@@ -86,7 +85,8 @@ pub fn on_suspect<R: Receiver>(
     ensures ignored { is_suspectable who.now.address address member_state.old ≡ false → (result ≡ Ok tt) × StaysAs (in_step member_state.old out.old) (in_step member_state.new out.new) }
 {
     if is_suspectable(member_state, who, &address) {
-        member_state.take_suspicion(who, address, out)?;
+        member_state.take_suspicion(who, address, out)
+    } else {
+        Ok(())
     }
-    Ok(())
 }

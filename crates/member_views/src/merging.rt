@@ -76,8 +76,7 @@ pub fn announce_view<R: Receiver>(
     match view_for(member_state, who, &address) {
         None => Ok(()),
         Some(view) => {
-            say(who, view, address, out)?;
-            Ok(())
+            say(who, view, address, out)
         }
     }
 }
@@ -94,8 +93,7 @@ fn note_in(
     match view_state {
         None => Ok(()),
         Some(view_state) => {
-            notes.note_view(who.alloc, &who.address, view_state.view(), other)?;
-            Ok(())
+            notes.note_view(who.alloc, &who.address, view_state.view(), other)
         }
     }
 }
@@ -114,8 +112,7 @@ fn note_view<R: Receiver>(
         who,
         &member_state.view_state,
         &other,
-    )?;
-    Ok(())
+    )
 }
 
 fn is_less(one: &Address, other: &Address) -> bool
@@ -138,12 +135,11 @@ fn meet<R: Receiver>(
     ensures ignored { is_less source who.now.address ≡ true → is_hint_ignored who.now.address source member_state.old ≡ true → (result ≡ Ok tt) × StaysAs (in_step member_state.old out.old) (in_step member_state.new out.new) }
 {
     if is_less(&source, &who.address) {
-        announce_view(member_state, who, source, out)?;
+        announce_view(member_state, who, source, out)
     } else {
         note_view(member_state, who, other)?;
-        member_state.regroup(who, out)?;
+        member_state.regroup(who, out)
     }
-    Ok(())
 }
 
 /// MERGE: there is another view. A member that leads its own announces it to a lesser address, notes those of a greater one's and begins what is due; one that
@@ -165,9 +161,8 @@ pub fn on_merge<R: Receiver>(
         return Ok(());
     }
     if leads_now(member_state, who) {
-        meet(member_state, who, source, other, out)?;
+        meet(member_state, who, source, other, out)
     } else {
-        redirect(member_state, who, source, out)?;
+        redirect(member_state, who, source, out)
     }
-    Ok(())
 }

@@ -29,8 +29,7 @@ fn report_again<R: Receiver>(
     match member_state.promise.proposal() {
         None => Ok(()),
         Some(proposal) => {
-            member_state.report(who, proposal.id(), out)?;
-            Ok(())
+            member_state.report(who, proposal.id(), out)
         }
     }
 }
@@ -48,8 +47,7 @@ pub fn ask_again<R: Receiver>(
         None => Ok(()),
         Some(contact) => {
             who.put(contact, Body::Join, out)?;
-            report_again(member_state, who, out)?;
-            Ok(())
+            report_again(member_state, who, out)
         }
     }
 }
@@ -93,12 +91,10 @@ pub fn flush_again<R: Receiver>(
 {
     match &member_state.flush {
         Some(flush) => {
-            propose_again(flush, who, out)?;
-            Ok(())
+            propose_again(flush, who, out)
         }
         None => {
-            report_again(member_state, who, out)?;
-            Ok(())
+            report_again(member_state, who, out)
         }
     }
 }

@@ -74,8 +74,7 @@ pub(crate) fn announce_all(
         None => Ok(()),
         Some((first, rest)) => {
             announce(who, proposal, *first, out)?;
-            announce_all(who, proposal, rest, out)?;
-            Ok(())
+            announce_all(who, proposal, rest, out)
         }
     }
 }

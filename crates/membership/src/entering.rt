@@ -118,8 +118,7 @@ fn deliver_last<R: Receiver>(
     match view_state {
         None => Ok(0),
         Some(view_state) => {
-            let own = deliver_lacking(who, view_state, install, receiver, out)?;
-            Ok(own)
+            deliver_lacking(who, view_state, install, receiver, out)
         }
     }
 }
@@ -144,8 +143,7 @@ fn left_of(
     match view_state {
         None => Ok(HandedBack::nothing(alloc)),
         Some(view_state) => {
-            let left = view_state.handed_back(own)?;
-            Ok(left)
+            view_state.handed_back(own)
         }
     }
 }
@@ -170,8 +168,7 @@ pub(crate) fn install_view(
     ensures { OnOk result (Grows who.now.group out.old out.new [] (event.Installed install ∷ [])) }
 {
     let install = BoxedInstall::new(who.alloc, install)?;
-    who.record(Event::Installed(install), out)?;
-    Ok(())
+    who.record(Event::Installed(install), out)
 }
 
 // Installs the view of an INSTALL.
@@ -194,8 +191,7 @@ fn install_promised(
         handed_back: left_of(who.alloc, view_state, own)?,
         given,
     };
-    install_view(who, install, out)?;
-    Ok(())
+    install_view(who, install, out)
 }
 
 impl<R: Receiver> MemberState<R> {

@@ -50,8 +50,7 @@ fn put_entries(entries: &[Entry<'_>], out: &mut Vec<u8>) -> Result<(), AllocErro
         None => Ok(()),
         Some((first, rest)) => {
             put_entry(None, first, out)?;
-            put_entries(rest, out)?;
-            Ok(())
+            put_entries(rest, out)
         }
     }
 }
@@ -95,8 +94,7 @@ fn deliver_lent<R: Receiver>(
         number: entry.number.get(),
         payload: Bytes::from_slice(who.alloc, entry.payload.as_slice())?,
     };
-    deliver(who, view, message, receiver, out)?;
-    Ok(())
+    deliver(who, view, message, receiver, out)
 }
 
 // Delivers messages, one after the other.
@@ -114,8 +112,7 @@ pub(crate) fn deliver_all<R: Receiver>(
         None => Ok(()),
         Some((first, rest)) => {
             deliver_lent(who, view, first, receiver, out)?;
-            deliver_all(who, view, rest, receiver, out)?;
-            Ok(())
+            deliver_all(who, view, rest, receiver, out)
         }
     }
 }
@@ -162,8 +159,7 @@ fn put_needed(
     if flush.previous(&member) == Some(view) {
         return Ok(());
     }
-    put_given(who, flush.proposal(), member, given, out)?;
-    Ok(())
+    put_given(who, flush.proposal(), member, given, out)
 }
 
 // Puts out an INSTALL, and keeps it.
@@ -231,8 +227,7 @@ fn instruct_all(
         None => Ok(()),
         Some((first, rest)) => {
             instruct(who, flush, view, given, *first, sent, out)?;
-            instruct_all(who, flush, view, given, rest, sent, out)?;
-            Ok(())
+            instruct_all(who, flush, view, given, rest, sent, out)
         }
     }
 }
@@ -301,8 +296,7 @@ fn install_proposed(
         handed_back: view_state.handed_back(own)?,
         given: None,
     };
-    install_view(who, install, out)?;
-    Ok(())
+    install_view(who, install, out)
 }
 
 // Finishes a flush to which all of its list have reported: what its creator delivers and installs, and what it says to the others. The INSTALLs go
@@ -310,24 +304,24 @@ fn install_proposed(
 pub(crate) fn finish<R: Receiver>(
     who: &Identity,
     flush: &Flush,
-    view_state: ViewState,
+    view_state: &ViewState,
     receiver: &mut R,
     sent: &mut Vec<SentInstall>,
     out: &mut Output,
 ) -> Result<Option<Bytes>, AllocError>
     requires list { view_refusal flush.now.proposal flush.now.members ≡ None }
-    requires sound { AllByRecursion (IsSayable flush.now (view_of view_state).id (finished_given R.meaning flush.now view_state receiver.old)) (others_of who.now.address flush.now.members) }
-    ensures state { OnOk result (receiver.new ≡ finished_state R.meaning flush.now view_state receiver.old) }
-    ensures kept { IfOk result (λ k. k ≡ kept_of (finished_given R.meaning flush.now view_state receiver.old)) }
+    requires sound { AllByRecursion (IsSayable flush.now (view_of view_state.now).id (finished_given R.meaning flush.now view_state.now receiver.old)) (others_of who.now.address flush.now.members) }
+    ensures state { OnOk result (receiver.new ≡ finished_state R.meaning flush.now view_state.now receiver.old) }
+    ensures kept { IfOk result (λ k. k ≡ kept_of (finished_given R.meaning flush.now view_state.now receiver.old)) }
     ensures total { IfOk result (λ k. IfSome k (λ bytes. IsTotal (length bytes))) }
-    ensures sent { OnOk result (sent.new.items ≡ sent.old.items ++ finish_sent (who_of who.now) flush.now view_state (finished_given R.meaning flush.now view_state receiver.old)) }
-    ensures out { OnOk result (Grows who.now.group out.old out.new (finish_packets who.now.address flush.now view_state (finished_given R.meaning flush.now view_state receiver.old)) (finish_events who.now.address flush.now view_state)) }
+    ensures sent { OnOk result (sent.new.items ≡ sent.old.items ++ finish_sent (who_of who.now) flush.now view_state.now (finished_given R.meaning flush.now view_state.now receiver.old)) }
+    ensures out { OnOk result (Grows who.now.group out.old out.new (finish_packets who.now.address flush.now view_state.now (finished_given R.meaning flush.now view_state.now receiver.old)) (finish_events who.now.address flush.now view_state.now)) }
 {
     let view = view_state.view().id();
-    let own = deliver_cut(who, flush, &view_state, receiver, out)?;
+    let own = deliver_cut(who, flush, view_state, receiver, out)?;
     let given = given_state(who, flush, view, receiver)?;
     let others = others_of(who.alloc, &who.address, flush.members().as_slice())?;
-    install_proposed(who, flush, &view_state, own, out)?;
+    install_proposed(who, flush, view_state, own, out)?;
     instruct_all(who, flush, view, &given, others.as_slice(), sent, out)?;
     Ok(kept_of(given))
 }

@@ -100,8 +100,7 @@ fn put_chunks(
     }
     let chunk = chunk_of(state, first);
     who.put(member, Body::State { proposal, chunk }, out)?;
-    put_chunks(who, proposal, member, state, first + 1, count - 1, out)?;
-    Ok(())
+    put_chunks(who, proposal, member, state, first + 1, count - 1, out)
 }
 
 // Puts out all chunks of a state, in order.
@@ -136,8 +135,7 @@ pub(crate) fn put_given(
             if !is_chunked(&form_of(given)) {
                 return Ok(());
             }
-            put_state(who, proposal, member, state.as_slice(), out)?;
-            Ok(())
+            put_state(who, proposal, member, state.as_slice(), out)
         }
     }
 }

@@ -48,12 +48,12 @@ impl<R: Receiver> MemberState<R> {
         &mut self,
         who: &Identity,
         flush: &Flush,
-        view_state: ViewState,
+        view_state: &ViewState,
         out: &mut Output,
     ) -> Result<(), AllocError>
         requires list { view_refusal flush.now.proposal flush.now.members ≡ None }
-        requires sound { AllByRecursion (IsSayable flush.now (view_of view_state).id (finished_given R.meaning flush.now view_state self.old.receiver)) (others_of who.now.address flush.now.members) }
-        ensures { OnOk result (Finishes R.meaning (who_of who.now) flush.now view_state (in_step self.old out.old) (in_step self.new out.new)) }
+        requires sound { AllByRecursion (IsSayable flush.now (view_of view_state.now).id (finished_given R.meaning flush.now view_state.now self.old.receiver)) (others_of who.now.address flush.now.members) }
+        ensures { OnOk result (Finishes R.meaning (who_of who.now) flush.now view_state.now (in_step self.old out.old) (in_step self.new out.new)) }
     {
         flush.kept();
         let view = view_of(who.alloc, flush)?;

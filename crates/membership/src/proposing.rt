@@ -72,8 +72,7 @@ impl<R: Receiver> MemberState<R> {
         requires leads { leads_in who.now.address view.now self.now.notes ≡ true }
         ensures { IfOk result (λ w. w ≡ proposal_after (core_of who.now.address self.now) self.now.notes view.now) }
     {
-        let proposal = self.proposal_past(who, view, 0)?;
-        Ok(proposal)
+        self.proposal_past(who, view, 0)
     }
 
     // What it has to propose in its view.
@@ -87,8 +86,7 @@ impl<R: Receiver> MemberState<R> {
         if !self.is_due(who, view)? {
             return Ok(None);
         }
-        let proposal = self.proposal_after(who, view)?;
-        Ok(proposal)
+        self.proposal_after(who, view)
     }
 
     // What it has to propose.
@@ -99,8 +97,7 @@ impl<R: Receiver> MemberState<R> {
         match &self.view_state {
             None => Ok(None),
             Some(view_state) => {
-                let due = self.due_at(who, view_state.view())?;
-                Ok(due)
+                self.due_at(who, view_state.view())
             }
         }
     }
@@ -114,8 +111,7 @@ impl<R: Receiver> MemberState<R> {
         match self.due(who)? {
             None => Ok(()),
             Some(proposal) => {
-                self.begin(who, &proposal, out)?;
-                Ok(())
+                self.begin(who, &proposal, out)
             }
         }
     }
@@ -131,8 +127,7 @@ impl<R: Receiver> MemberState<R> {
             None => Ok(()),
             Some(proposal) => {
                 self.begin(who, &proposal, out)?;
-                self.go_on(who, out)?;
-                Ok(())
+                self.go_on(who, out)
             }
         }
     }
@@ -160,8 +155,7 @@ impl<R: Receiver> MemberState<R> {
         requires member_state { IsMemberState (who_of who.now) self.now }
         ensures { IfOk result (λ w. w ≡ anew_proposal who.now.address self.now) }
     {
-        let proposal = self.anew_past(who, 0)?;
-        Ok(proposal)
+        self.anew_past(who, 0)
     }
 
     // Begins its own flush anew, with its candidates, where the counters are not used up; alone in the list it goes on at once.
@@ -174,8 +168,7 @@ impl<R: Receiver> MemberState<R> {
             None => Ok(()),
             Some(proposal) => {
                 self.begin(who, &proposal, out)?;
-                self.go_on(who, out)?;
-                Ok(())
+                self.go_on(who, out)
             }
         }
     }

@@ -96,8 +96,7 @@ impl<R: Receiver> MemberState<R> {
         ensures finishes { OnOk result (Finishes R.meaning (who_of who.now) flush view_state (in_step self.old out.old) (in_step self.new out.new)) }
     {
         flush.kept();
-        self.settle(who, &flush, view_state, out)?;
-        Ok(())
+        self.settle(who, &flush, &view_state, out)
     }
 
     // Goes into its own proposal, if all have reported, and begins what is due then.
@@ -112,8 +111,7 @@ impl<R: Receiver> MemberState<R> {
         let flush = self.flush.take().unwrap();
         let view_state = self.view_state.take().unwrap();
         self.complete(who, flush, view_state, out)?;
-        self.propose(who, out)?;
-        Ok(())
+        self.propose(who, out)
     }
 
     /// Takes a report for its own proposal. The last of them finishes the flush: it is delivered what it lacks of its own view's cut, goes into the
@@ -131,7 +129,6 @@ impl<R: Receiver> MemberState<R> {
         ensures takes { OnOk result (TakesReport R.meaning (who_of who.now) source proposal report.now (in_step self.old out.old) (in_step self.new out.new)) }
     {
         self.record(source, proposal, report)?;
-        self.go_on(who, out)?;
-        Ok(())
+        self.go_on(who, out)
     }
 }

@@ -34,8 +34,7 @@ impl<R: Receiver> MemberState<R> {
         let promised = self.promise.proposal().unwrap();
         let counter = Number::new(promised.id().counter()).unwrap();
         let proposal = proposal.id();
-        who.put(proposal.creator(), Body::Behind { proposal, counter }, out)?;
-        Ok(())
+        who.put(proposal.creator(), Body::Behind { proposal, counter }, out)
     }
 
     /// Takes a FLUSH of the address that proposes, where it is connected. One that is greater than what it promised, or that it promised and did not
@@ -56,12 +55,10 @@ impl<R: Receiver> MemberState<R> {
     {
         match self.promise.answer_to(proposal) {
             OfferAnswer::Accept => {
-                self.promise(who, proposal, out)?;
-                Ok(())
+                self.promise(who, proposal, out)
             }
             OfferAnswer::Behind(_) => {
-                self.answer_behind(who, proposal, out)?;
-                Ok(())
+                self.answer_behind(who, proposal, out)
             }
             OfferAnswer::Ignore => Ok(()),
         }
@@ -79,8 +76,7 @@ impl<R: Receiver> MemberState<R> {
         ensures takes { OnOk result (TakesBehind R.meaning (who_of who.now) counter (in_step self.old out.old) (in_step self.new out.new)) }
     {
         self.notes.hear(counter.get());
-        self.begin_anew(who, out)?;
-        Ok(())
+        self.begin_anew(who, out)
     }
 
     /// Suspects another address, and begins what is due then. After an error for want of memory nothing is said of the member.
@@ -96,8 +92,7 @@ impl<R: Receiver> MemberState<R> {
         ensures takes { OnOk result (TakesSuspicion R.meaning (who_of who.now) address (in_step self.old out.old) (in_step self.new out.new)) }
     {
         self.notes.suspect(address)?;
-        self.regroup(who, out)?;
-        Ok(())
+        self.regroup(who, out)
     }
 
     // Whether an INSTALL from this address is an entry to what it promised.
@@ -173,8 +168,7 @@ impl<R: Receiver> MemberState<R> {
             return Ok(());
         }
         let view_state = self.view_state.take();
-        self.enter(who, view_state, install, out)?;
-        Ok(())
+        self.enter(who, view_state, install, out)
     }
 }
 

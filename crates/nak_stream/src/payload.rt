@@ -51,8 +51,7 @@ impl OwnedPayload {
         ensures bytes { IfOk result (λ bytes. bytes ≡ self.now) }
         ensures short { OnOk result (length self.now ≤ PAYLOAD) }
     {
-        let bytes = self.bytes.copied(alloc)?;
-        Ok(bytes)
+        self.bytes.copied(alloc)
     }
 
     /// It, lent as packets carry it. Takes no memory.

@@ -177,8 +177,7 @@ impl ViewNotes {
         ensures { IfOk result (λ l. l.items ≡ all_candidates me.now view.now.members self.now) }
     {
         let found = self.unsuspected(alloc, view)?;
-        let left = all_current(alloc, me, found.as_slice())?;
-        Ok(left)
+        all_current(alloc, me, found.as_slice())
     }
 
     /// Who may be in the member's next view, at most `MEMBERS`: the view's members by rank, then the joiners, then those of other views, in order of arrival.

@@ -136,8 +136,7 @@ fn copy_all(rest: &[Forward], items: &mut Vec<Numbered>) -> Result<(), AllocErro
         None => Ok(()),
         Some((oldest, later)) => {
             items.push(numbered(*items.allocator(), oldest)?)?;
-            copy_all(later, items)?;
-            Ok(())
+            copy_all(later, items)
         }
     }
 }

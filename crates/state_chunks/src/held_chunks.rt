@@ -172,8 +172,7 @@ impl HeldChunks {
             return Ok(());
         }
         out.extend_from_slice(self.bytes_at(total, first))?;
-        self.join(total, first + 1, count - 1, out)?;
-        Ok(())
+        self.join(total, first + 1, count - 1, out)
     }
 
     fn joined(&self, alloc: Global, total: Total) -> Result<Bytes, AllocError>

@@ -38,16 +38,13 @@ fn put_aside_group(
 {
     match row.kind {
         AsideKind::Refused { line, refusal } => {
-            put_refused_group(out, row, line, refusal)?;
-            Ok(())
+            put_refused_group(out, row, line, refusal)
         }
         AsideKind::PutOut(number) => {
-            put_packet_group(out, ways, row, number, bytes_numbered(packets, number))?;
-            Ok(())
+            put_packet_group(out, ways, row, number, bytes_numbered(packets, number))
         }
         AsideKind::HandedOver(number) => {
-            put_handed_group(out, ways, rows, row, number)?;
-            Ok(())
+            put_handed_group(out, ways, rows, row, number)
         }
     }
 }

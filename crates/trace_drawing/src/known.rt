@@ -197,8 +197,7 @@ fn note_first(
 {
     members.push(member)?;
     let lifeline = lifeline_after(None, column, level, event);
-    put_lifeline(lifelines, member, lifeline)?;
-    Ok(())
+    put_lifeline(lifelines, member, lifeline)
 }
 
 // Keeps the next event of a member, at a level, and answers how its row is laid out. Refused where there are 2^32 members already.

@@ -48,7 +48,6 @@ impl PacketRows {
             self.near[index] = Some(row);
             return Ok(());
         }
-        put_row(&mut self.far, packet, row)?;
-        Ok(())
+        put_row(&mut self.far, packet, row)
     }
 }

@@ -1,5 +1,5 @@
 -- What follows a trace under the first four rules is what may follow: each rule one event further gives its condition.
-use Rattle.std.proofs.Common.{◌≡◌, ◌↔◌, ℕ, ◌+◌, false, List, [], ◌∷◌, ◌++◌, length, Some, slice_get, sym, refl, ap, ◌∙◌, subst}
+use Rattle.std.proofs.Common.{◌≡◌, ℕ, ◌+◌, false, List, [], ◌∷◌, ◌++◌, length, Some, slice_get, sym, refl, ap, ◌∙◌, subst}
 use Rattle.std.proofs.lemmas.Bool.{and_left}
 use Rattle.std.specs.Option.{ForSome}
 use Rattle.address.specs.Ids.{same_address, same_view_id}
@@ -10,17 +10,16 @@ use Rattle.trace_props.specs.declared.event.Message.{Message}
 use Rattle.trace_props.specs.declared.event.Install.{Install}
 use Rattle.trace_props.specs.declared.event.Delivery.{Delivery}
 use Rattle.trace_props.specs.declared.event.Sending.{Sending}
-use Rattle.trace_props.specs.Places.{EachPlace, IsBeginningOf}
+use Rattle.trace_props.specs.Places.{IsBeginningOf}
 use Rattle.trace_props.specs.Observed.{delivered_in, sent_in, numbered, own, first_install}
 use Rattle.trace_props.specs.Rules.{MayStand, IsWellPlaced, RisesAt, HasRisingViews, HasSoundMessages, HasOneOrder}
-use Rattle.trace_props.specs.Synchrony.{IsWellOrdered}
-use Rattle.trace_props.specs.Following.{MayRise, MayCarry, MayOrder, MayFollow}
-use Rattle.trace_props.proofs.RulesAlongLists.{EachEvent-last, EachPlace-before, EachPlace-whole, IsBeginningOf-last, slice_get-last}
+use Rattle.trace_props.specs.Following.{MayRise, MayCarry, MayOrder}
+use Rattle.trace_props.proofs.RulesAlongLists.{EachEvent-last, IsBeginningOf-last, slice_get-last}
 use Rattle.address.proofs.SameIds.{same_view_id-true}
 use Rattle.trace_props.proofs.DeliveredGrow.{is_delivery_to-at, delivered_in-hit, delivered_in-miss, said_by-at, sent_in-still, sent_in-hit, own-hit, is_of, register-stands}
 use Rattle.address.proofs.SameIds.{same_address-refl}
 use Rattle.trace_props.proofs.InstallRulesGrow.{EachTwoInstalls-right}
-use Rattle.trace_props.proofs.KeepFourRules.{SameMembers, well_ordered-push}
+use Rattle.trace_props.proofs.KeepFourRules.{SameMembers}
 
 -- an event that is well placed may stand there
 pub placed-needed : (t : List Event) (h : Event) → IsWellPlaced (t ++ h ∷ []) → MayStand t h
@@ -90,19 +89,3 @@ order-needed t (Blocked p) r = tt
 order-needed t (Installed i) r = tt
 order-needed t (Left p) r = tt
 order-needed t (Crashed p) r = tt
-
--- what happens under the four rules may follow
-pub well_ordered-needed : (t : List Event) (h : Event) → IsWellOrdered (t ++ h ∷ []) → MayFollow t h
-well_ordered-needed t h r = record {
-  placed = placed-needed t h r.placed;
-  views = views-needed t h r.views;
-  messages = messages-needed t h r.messages;
-  order = order-needed t h r.order;
-}
-
--- the four rules hold at every place one event further exactly where they held at every place and it may follow
-pub well_ordered-exactly : (t : List Event) (h : Event) → EachPlace IsWellOrdered (t ++ h ∷ []) ↔ (EachPlace IsWellOrdered t × MayFollow t h)
-well_ordered-exactly t h = (
-  (λ r. (EachPlace-before IsWellOrdered t h r, well_ordered-needed t h (EachPlace-whole IsWellOrdered (t ++ h ∷ []) r))),
-  (λ r. well_ordered-push t h r.0 r.1),
-)

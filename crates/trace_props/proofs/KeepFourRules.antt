@@ -11,12 +11,12 @@ use Rattle.trace_props.specs.declared.event.Message.{Message}
 use Rattle.trace_props.specs.declared.event.Install.{Install}
 use Rattle.trace_props.specs.declared.event.Delivery.{Delivery}
 use Rattle.trace_props.specs.declared.event.Sending.{Sending}
-use Rattle.trace_props.specs.Places.{EachPlace, IsBeginningOf}
+use Rattle.trace_props.specs.Places.{IsBeginningOf}
 use Rattle.trace_props.specs.Observed.{delivered_message, delivered_in, said, sent_in, numbered, own}
 use Rattle.trace_props.specs.Rules.{MayStand, RisesAt, EachTwoInstalls, HasRisingViews, WasSent, IsNumbered, IsOnce, HasSoundMessages, HasOneOrder}
 use Rattle.trace_props.specs.Synchrony.{IsWellOrdered}
-use Rattle.trace_props.specs.Following.{MayRise, MayCarry, MayOrder, MayFollow}
-use Rattle.trace_props.proofs.RulesAlongLists.{slice_get-push, EachEvent-nil, EachEvent-push, EachPlace-nil, EachPlace-push, EachPlace-whole, IsBeginningOf-same, IsBeginningOf-grow, IsBeginningOf-next, IsBeginningOf-at}
+use Rattle.trace_props.specs.Following.{MayRise, MayCarry, MayOrder}
+use Rattle.trace_props.proofs.RulesAlongLists.{slice_get-push, EachEvent-nil, EachEvent-push, IsBeginningOf-same, IsBeginningOf-grow, IsBeginningOf-next, IsBeginningOf-at}
 use Rattle.address.proofs.SameIds.{same_address-true, same_view_id-true, same_view_id-from}
 use Rattle.trace_props.proofs.DeliveredGrow.{is_delivery_to, is_delivery_to-true, is_delivery_to-at, delivered_in-still, delivered_in-hit, delivered_in-miss, said_by, said_by-true, sent_in-still, sent_in-hit, sent_in-miss, own-hit, own-miss, own-at, is_of, register-stands, register-written}
 use Rattle.trace_props.proofs.InstallRulesGrow.{EachInstall, EachTwoInstalls-still, EachTwoInstalls-push}
@@ -248,15 +248,6 @@ order-push t (Crashed q) r m p v = order-still t (Crashed q) p v r refl
 
 -- ALL FOUR
 
--- the four rules go one event further where it may follow
-pub well_ordered-next : (t : List Event) (h : Event) → IsWellOrdered t → MayFollow t h → IsWellOrdered (t ++ h ∷ [])
-well_ordered-next t h r m = record {
-  placed = EachEvent-push MayStand t h r.placed m.placed;
-  views = views-push t h r.views m.views;
-  messages = messages-push t h r.messages m.messages;
-  order = order-push t h r.order m.order;
-}
-
 -- where nothing happened the four rules hold
 pub well_ordered-none : IsWellOrdered []
 well_ordered-none = record {
@@ -270,11 +261,3 @@ well_ordered-none = record {
   };
   order = λ p v. refl;
 }
-
--- the four rules at every place go one event further
-pub well_ordered-push : (t : List Event) (h : Event) → EachPlace IsWellOrdered t → MayFollow t h → EachPlace IsWellOrdered (t ++ h ∷ [])
-well_ordered-push t h r m = EachPlace-push IsWellOrdered t h r (well_ordered-next t h (EachPlace-whole IsWellOrdered t r) m)
-
--- where nothing happened they hold at every place
-pub well_ordered-nil : EachPlace IsWellOrdered []
-well_ordered-nil = EachPlace-nil IsWellOrdered well_ordered-none

@@ -5,7 +5,7 @@ use Rattle.address.specs.Ids.{same_address}
 use Rattle.trace_props.specs.declared.event.Event.{Event}
 use Rattle.trace_props.specs.declared.event.Event.TheVariants.{Started, Sent, Delivered, Blocked, Installed, Left, Crashed}
 use Rattle.trace_props.specs.Observed.{delivered_in, sent_in, own, numbered, first_install}
-use Rattle.trace_props.specs.Rules.{EntersAbove, MayStand}
+use Rattle.trace_props.specs.Rules.{EntersAbove}
 
 -- rising views: as the rule says of the install, and with the members of the first install of that id
 abbrev pub MayRise : List Event → Event → Type 0
@@ -39,10 +39,3 @@ MayOrder past (Blocked p) = Unit {0}
 MayOrder past (Installed i) = Unit {0}
 MayOrder past (Left p) = Unit {0}
 MayOrder past (Crashed p) = Unit {0}
-
--- all four
-pub record MayFollow (past : List Event) (h : Event) : Type 0 where
-  pub placed : MayStand past h
-  pub views : MayRise past h
-  pub messages : MayCarry past h
-  pub order : MayOrder past h

@@ -33,8 +33,7 @@ impl Coordinator {
         };
         let view = self.view.id();
         let entry = entry.lent();
-        who.put(*destination, Body::Order { view, place, entry }, out)?;
-        Ok(())
+        who.put(*destination, Body::Order { view, place, entry }, out)
     }
 
     /// A NAK: the ORDER of each of these numbers at which a message is held goes to the member that asks, by rising numbers. After an error for want of

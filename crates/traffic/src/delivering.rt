@@ -33,8 +33,7 @@ pub fn deliver<R: Receiver>(
         view,
         message,
     };
-    who.record(Event::Delivered(delivery), out)?;
-    Ok(())
+    who.record(Event::Delivered(delivery), out)
 }
 
 /// Delivers a message that is kept, whose payload the event shares. An own one is outstanding no longer.

@@ -74,8 +74,7 @@ impl Coordinator {
         ensures happens { OnOk result (Grows who.now.group out.old out.new [] (Sent (sending who.now.address self.old.view.id (self.old.forwards.sent + 1) payload) ∷ [])) }
         ensures short { OnOk result (length payload ≤ PAYLOAD) }
     {
-        let number = say(who, self.view.id(), payload, &mut self.forwards, out)?;
-        Ok(number)
+        say(who, self.view.id(), payload, &mut self.forwards, out)
     }
 
     // A message of its own is sent, and waits to be ordered: its payload is copied once.

@@ -70,8 +70,7 @@ impl Follower {
         ensures answer { IfOk result (λ new. new ≡ offers place self.old.window) }
         ensures now { OnOk result (self.new ≡ held_too place entry.now self.old) }
     {
-        let new = self.window.accept(place.get(), entry)?;
-        Ok(new)
+        self.window.accept(place.get(), entry)
     }
 
     // Delivers all that is held in turn.
@@ -143,8 +142,7 @@ impl Follower {
         match self.missing(highest) {
             None => Ok(()),
             Some(missing) => {
-                self.ask(who, missing, out)?;
-                Ok(())
+                self.ask(who, missing, out)
             }
         }
     }
@@ -204,8 +202,7 @@ impl Follower {
         ensures { OnOk result (TakesStatus (who_of who.now) progress self.old out.old self.new out.new) }
     {
         self.window.collect(progress.stable().get());
-        self.ask_up_to(who, progress.highest().get(), out)?;
-        Ok(())
+        self.ask_up_to(who, progress.highest().get(), out)
     }
 
     /// A tick: its outstanding messages go to the coordinator again, by number, and then an ACK. After an error for want of memory nothing is said of the output.
@@ -213,8 +210,7 @@ impl Follower {
         ensures { OnOk result (Grows who.now.group out.old out.new (map (forward_of who.now.address self.now.view) self.now.forwards.rest ++ ack_of who.now.address self.now ∷ []) []) }
     {
         self.forward_all(who, self.forwards.rest(), out)?;
-        self.acknowledge(who, out)?;
-        Ok(())
+        self.acknowledge(who, out)
     }
 
     // Puts out the FORWARD of one of its messages.
@@ -253,8 +249,7 @@ impl Follower {
             None => Ok(()),
             Some(parts) => {
                 self.forward_one(who, parts.0, out)?;
-                self.forward_all(who, parts.1, out)?;
-                Ok(())
+                self.forward_all(who, parts.1, out)
             }
         }
     }
@@ -271,8 +266,7 @@ impl Follower {
         ensures now { OnOk result (self.new ≡ follower_pushing payload self.old) }
         ensures happens { OnOk result (Grows who.now.group out.old out.new [] (Sent (sending who.now.address self.old.view.id (self.old.forwards.sent + 1) payload) ∷ [])) }
     {
-        let number = say(who, self.view.id(), payload, &mut self.forwards, out)?;
-        Ok(number)
+        say(who, self.view.id(), payload, &mut self.forwards, out)
     }
 
     /// Sends a message: it is outstanding, and its FORWARD goes to the coordinator. After an error for want of memory nothing is said of the member.

@@ -40,8 +40,7 @@ fn put_placed(number: u64, entry: &Entry, out: &mut Vec<u8>) -> Result<(), Alloc
     let Some(place) = Number::new(number) else {
         unreachable!();
     };
-    put_entry(Some(place), &entry.lent(), out)?;
-    Ok(())
+    put_entry(Some(place), &entry.lent(), out)
 }
 
 fn put_window(window: &Window, out: &mut Vec<u8>) -> Result<(), AllocError>
@@ -145,8 +144,7 @@ impl ViewState {
         ensures bytes { OnOk result (out.new.items ≡ out.old.items ++ flat_map placed_bytes (view_core_of self.now).held) }
         ensures placed { OnOk result (AllByRecursion IsPlaced (view_core_of self.now).held) }
     {
-        put_window(self.window(), out)?;
-        Ok(())
+        put_window(self.window(), out)
     }
 
     /// Its own messages that are handed back, where the oldest `past` of those that are outstanding are delivered first. They are copied. An error
@@ -155,7 +153,6 @@ impl ViewState {
         ensures value { IfOk result (λ h. h ≡ drop past (view_core_of self.now).outstanding) }
         ensures short { IfOk result AreShort }
     {
-        let handed_back = self.forwards().handed_back(past)?;
-        Ok(handed_back)
+        self.forwards().handed_back(past)
     }
 }

@@ -308,8 +308,7 @@ impl<N: Net, R: Receiver> Runner<N, R> {
         ensures faults { self.new.faults ≡ self.old.faults }
     {
         let answer = self.channel.suspect(address);
-        passed_over(answer)?;
-        Ok(())
+        passed_over(answer)
     }
 
     // Tells the channel that time passes.
@@ -320,8 +319,7 @@ impl<N: Net, R: Receiver> Runner<N, R> {
     {
         self.pace.begin();
         let answer = self.channel.tick();
-        passed_over(answer)?;
-        Ok(())
+        passed_over(answer)
     }
 
     // Whom to seek, if anybody.
@@ -344,7 +342,6 @@ impl<N: Net, R: Receiver> Runner<N, R> {
         ensures faults { self.new.faults ≡ self.old.faults }
     {
         let answer = self.channel.merge_hint(address);
-        passed_over(answer)?;
-        Ok(())
+        passed_over(answer)
     }
 }

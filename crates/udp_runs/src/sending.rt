@@ -180,8 +180,7 @@ impl<'a, N: Net, C: Application> LoneNode<'a, N, C> {
         ensures same { (self.new.teller.voice ≡ self.old.teller.voice) × (self.new.once ≡ self.old.once) }
     {
         let lines = self.teller.unsaid.take_lines();
-        self.outbox.begin_with(lines.as_slice())?;
-        Ok(())
+        self.outbox.begin_with(lines.as_slice())
     }
 
     // The line that it is to send next; none while a line is to be told of that cannot be sent.
@@ -260,8 +259,7 @@ impl<'a, N: Net, C: Application> LoneNode<'a, N, C> {
         }
         self.send_first()?;
         self.send_once()?;
-        self.send_lines()?;
-        Ok(())
+        self.send_lines()
     }
 
     // Takes the lines that came.

@@ -60,8 +60,7 @@ impl<'a> Lines for HttpLines<'a> {
         if self.is_short {
             return Err(LinesError::Memory);
         }
-        self.desk.tell(text)?;
-        Ok(())
+        self.desk.tell(text)
     }
 
     fn hear(&mut self, event: &Event) {

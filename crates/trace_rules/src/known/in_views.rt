@@ -140,14 +140,12 @@ pub fn note_sent<'a>(
 {
     match in_views.get_mut(&in_view) {
         Some(kept) => {
-            kept.send(message)?;
-            Ok(())
+            kept.send(message)
         }
         None => {
             let mut first = InView::new(alloc);
             first.send(message)?;
-            begin(in_views, in_view, first)?;
-            Ok(())
+            begin(in_views, in_view, first)
         }
     }
 }
@@ -166,14 +164,12 @@ pub fn note_delivered<'a>(
 {
     match in_views.get_mut(&in_view) {
         Some(kept) => {
-            kept.deliver(message)?;
-            Ok(())
+            kept.deliver(message)
         }
         None => {
             let mut first = InView::new(alloc);
             first.deliver(message)?;
-            begin(in_views, in_view, first)?;
-            Ok(())
+            begin(in_views, in_view, first)
         }
     }
 }

@@ -76,8 +76,7 @@ pub fn note_message<'a>(
                 view: sending.view,
                 member: sending.member,
             };
-            note_sent(alloc, in_views, in_view, &sending.message)?;
-            Ok(())
+            note_sent(alloc, in_views, in_view, &sending.message)
         }
         None => match delivery_in(event) {
             Some(delivery) => {
@@ -85,8 +84,7 @@ pub fn note_message<'a>(
                     view: delivery.view,
                     member: delivery.member,
                 };
-                note_delivered(alloc, in_views, in_view, &delivery.message)?;
-                Ok(())
+                note_delivered(alloc, in_views, in_view, &delivery.message)
             }
             None => Ok(()),
         },
@@ -124,8 +122,7 @@ pub fn note_entry<'a>(
                 view: install.view.id(),
                 member: install.member,
             };
-            write(entries, in_view, install)?;
-            Ok(())
+            write(entries, in_view, install)
         }
     }
 }
@@ -140,8 +137,7 @@ pub fn note_first<'a>(
     match install_in(event) {
         None => Ok(()),
         Some(install) => {
-            write(firsts, install.view.id(), install)?;
-            Ok(())
+            write(firsts, install.view.id(), install)
         }
     }
 }
@@ -162,8 +158,7 @@ pub fn note_view_change<'a>(
                     from: previous,
                     to: install.view.id(),
                 };
-                write(view_changes, view_change, install)?;
-                Ok(())
+                write(view_changes, view_change, install)
             }
         }
     }

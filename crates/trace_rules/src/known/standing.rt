@@ -107,8 +107,7 @@ pub fn note_standing(
     }
     let member = member(event);
     let next = after(how_stands(standings, member), event);
-    keep(standings, member, next)?;
-    Ok(())
+    keep(standings, member, next)
 }
 
 // Keeps how a member stands.

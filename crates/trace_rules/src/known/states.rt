@@ -66,8 +66,7 @@ fn receive<R: Receiver>(
 {
     match states.get_mut(&member) {
         Some(state) => {
-            state.receive(sender, payload)?;
-            Ok(())
+            state.receive(sender, payload)
         }
         None => {
             let mut state = R::opening(alloc)?;
@@ -181,8 +180,7 @@ fn hear<R: Receiver>(
         delivery.member,
         delivery.message.sender,
         delivery.message.payload.as_slice(),
-    )?;
-    Ok(())
+    )
 }
 
 /// Whether an install enters its view alike; takes its state.

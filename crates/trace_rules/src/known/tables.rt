@@ -76,8 +76,7 @@ fn keep_install<'a>(
 {
     notes::note_entry(entries, event)?;
     notes::note_first(firsts, event)?;
-    notes::note_view_change(view_changes, event)?;
-    Ok(())
+    notes::note_view_change(view_changes, event)
 }
 
 /// Keeps what happened next, whose message, if it delivers one, is its sender's next.

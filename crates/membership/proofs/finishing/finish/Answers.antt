@@ -24,24 +24,24 @@ pub returns-clause-sent : goal.returns-clause-sent
 returns-clause-sent g c =
     let who = who_of c.args.who.now in
     let f = c.args.flush.now in
-    let view : c.id-view.result ≡ (view_of c.args.view_state).id = search rules in
-    let given-it = given-is g.R.Receiver.meaning f c.args.view_state c.id-view.result c.args.receiver.now c.deliver_cut.new.receiver c.in_ok-given.given c.in_ok-given.ensures.given view c.in_ok-own.ensures.state in
+    let view : c.id-view.result ≡ (view_of c.args.view_state.now).id = search rules in
+    let given-it = given-is g.R.Receiver.meaning f c.args.view_state.now c.id-view.result c.args.receiver.now c.deliver_cut.new.receiver c.in_ok-given.given c.in_ok-given.ensures.given view c.in_ok-own.ensures.state in
     let others : c.as_slice-2.result.now ≡ others_of c.args.who.now.address f.members = search rules in
     c.in_ok-instruct_all.ensures.sent
     ∙ ap (λ (v : ViewId). c.args.sent.now.items ++ map (λ q. sent_install who (q, instruction_to f v c.in_ok-given.given q)) c.as_slice-2.result.now) view
-    ∙ ap (λ (given : Option (List ℕ)). c.args.sent.now.items ++ map (λ q. sent_install who (q, instruction_to f (view_of c.args.view_state).id given q)) c.as_slice-2.result.now) given-it
-    ∙ ap (λ (list : List Address). c.args.sent.now.items ++ map (λ q. sent_install who (q, instruction_to f (view_of c.args.view_state).id (finished_given g.R.Receiver.meaning f c.args.view_state c.args.receiver.now) q)) list) others
+    ∙ ap (λ (given : Option (List ℕ)). c.args.sent.now.items ++ map (λ q. sent_install who (q, instruction_to f (view_of c.args.view_state.now).id given q)) c.as_slice-2.result.now) given-it
+    ∙ ap (λ (list : List Address). c.args.sent.now.items ++ map (λ q. sent_install who (q, instruction_to f (view_of c.args.view_state.now).id (finished_given g.R.Receiver.meaning f c.args.view_state.now c.args.receiver.now) q)) list) others
 
 pub returns-clause-out : goal.returns-clause-out
 returns-clause-out g c =
     let group = c.args.who.now.group in
     let me = c.args.who.now.address in
     let f = c.args.flush.now in
-    let t = c.args.view_state in
+    let t = c.args.view_state.now in
     let v = (view_of t).id in
     let given = finished_given g.R.Receiver.meaning f t c.args.receiver.now in
     let view : c.id-view.result ≡ v = search rules in
-    let given-it = given-is g.R.Receiver.meaning f c.args.view_state c.id-view.result c.args.receiver.now c.deliver_cut.new.receiver c.in_ok-given.given c.in_ok-given.ensures.given view c.in_ok-own.ensures.state in
+    let given-it = given-is g.R.Receiver.meaning f c.args.view_state.now c.id-view.result c.args.receiver.now c.deliver_cut.new.receiver c.in_ok-given.given c.in_ok-given.ensures.given view c.in_ok-own.ensures.state in
     let others : c.as_slice-2.result.now ≡ others_of me f.members = search rules in
     let to_others : flat_map (instructing me f c.id-view.result c.in_ok-given.given) c.as_slice-2.result.now ≡ flat_map (instructing me f v given) (others_of me f.members) =
     ap (λ (u : ViewId). flat_map (instructing me f u c.in_ok-given.given) c.as_slice-2.result.now) view
@@ -63,21 +63,21 @@ instruct_all-requires-clause-short g c = c.in_ok-given.ensures.short
 pub instruct_all-requires-clause-sound : goal.instruct_all-requires-clause-sound
 instruct_all-requires-clause-sound g c =
     let f = c.args.flush.now in
-    let view : c.id-view.result ≡ (view_of c.args.view_state).id = search rules in
-    let given-it = given-is g.R.Receiver.meaning f c.args.view_state c.id-view.result c.args.receiver.now c.deliver_cut.new.receiver c.in_ok-given.given c.in_ok-given.ensures.given view c.in_ok-own.ensures.state in
+    let view : c.id-view.result ≡ (view_of c.args.view_state.now).id = search rules in
+    let given-it = given-is g.R.Receiver.meaning f c.args.view_state.now c.id-view.result c.args.receiver.now c.deliver_cut.new.receiver c.in_ok-given.given c.in_ok-given.ensures.given view c.in_ok-own.ensures.state in
     let others : c.as_slice-2.result.now ≡ others_of c.args.who.now.address f.members = search rules in
     subst (AllByRecursion (IsSayable f c.id-view.result c.in_ok-given.given)) (sym others)
     (subst (λ (v : ViewId). AllByRecursion (IsSayable f v c.in_ok-given.given) (others_of c.args.who.now.address f.members)) (sym view)
-    (subst (λ (given : Option (List ℕ)). AllByRecursion (IsSayable f (view_of c.args.view_state).id given) (others_of c.args.who.now.address f.members)) (sym given-it) c.requires.sound))
+    (subst (λ (given : Option (List ℕ)). AllByRecursion (IsSayable f (view_of c.args.view_state.now).id given) (others_of c.args.who.now.address f.members)) (sym given-it) c.requires.sound))
 
 pub returns-clause-state : goal.returns-clause-state
 returns-clause-state g c = c.in_ok-own.ensures.state
 
 pub returns-clause-kept : goal.returns-clause-kept
 returns-clause-kept g c =
-    let view : c.id-view.result ≡ (view_of c.args.view_state).id = search rules in
+    let view : c.id-view.result ≡ (view_of c.args.view_state.now).id = search rules in
     c.kept_of.ensures.kept
-    ∙ ap kept_of (given-is g.R.Receiver.meaning c.args.flush.now c.args.view_state c.id-view.result c.args.receiver.now c.deliver_cut.new.receiver c.in_ok-given.given c.in_ok-given.ensures.given view c.in_ok-own.ensures.state)
+    ∙ ap kept_of (given-is g.R.Receiver.meaning c.args.flush.now c.args.view_state.now c.id-view.result c.args.receiver.now c.deliver_cut.new.receiver c.in_ok-given.given c.in_ok-given.ensures.given view c.in_ok-own.ensures.state)
 
 pub returns-clause-total : goal.returns-clause-total
 returns-clause-total g c = c.kept_of.ensures.total

@@ -1,4 +1,5 @@
 use Rattle.std.proofs.Common.{ℕ, ◌≤◌, List, [], ◌∷◌, map, sym, subst, arith}
+use Rattle.std.proofs.lemmas.Result.{on_ok_weaker}
 use Rattle.wire_values.specs.Values as wire
 use Rattle.wire_values.specs.declared.packet.Body.TheVariants as bodies
 use Rattle.law_acts.specs.Acts.{packet}
@@ -15,5 +16,5 @@ returns t c =
     let some : 1 ≤ c.args.count = omega arith in
     let first : Grows group c.args.out.now c.put.new.out (said (chunk_at c.args.state.now c.args.first) ∷ []) [] =
     subst (λ (chunk : wire.Chunk). Grows group c.args.out.now c.put.new.out (said chunk ∷ []) []) c.chunk_of-chunk.ensures c.in_ok-put.ensures in
-    subst (λ (l : List ℕ). Grows group c.args.out.now c.put_chunks.new.out (map said (map (chunk_at c.args.state.now) l)) []) (sym (range_next c.args.first c.args.count some))
-    (grows-then group c.args.out.now c.put.new.out c.put_chunks.new.out (said (chunk_at c.args.state.now c.args.first) ∷ []) _ [] [] first c.in_ok-put_chunks.ensures)
+    on_ok_weaker c.put_chunks.result (λ others. subst (λ (l : List ℕ). Grows group c.args.out.now c.put_chunks.new.out (map said (map (chunk_at c.args.state.now) l)) []) (sym (range_next c.args.first c.args.count some))
+    (grows-then group c.args.out.now c.put.new.out c.put_chunks.new.out (said (chunk_at c.args.state.now c.args.first) ∷ []) _ [] [] first others)) c.put_chunks.ensures

@@ -1,4 +1,5 @@
 use Rattle.std.proofs.Common.{sym, ◌∙◌}
+use Rattle.std.proofs.lemmas.Result.{on_ok_weaker}
 use Rattle.membership.proofs.ProposalsLead.{anew-is-proposal}
 use Rattle.membership.proofs.KeepMemberState.{begun-member_state}
 use Rattle.membership.proofs.member_state.MemberState.begin_anew.Goals as goal
@@ -17,7 +18,7 @@ go_on-requires g c = record {
       (anew-is-proposal (who_of c.args.who.now) c.args.self.now c.in-Some.proposal c.requires.member_state (sym c.in_ok-anew.ensures ∙ c.in-Some.is)) c.in_ok-begin-in-Some.ensures;
 }
 
-pub returns-in_ok-go_on-in-Some-clause-begins : goal.returns-in_ok-go_on-in-Some-clause-begins
-returns-in_ok-go_on-in-Some-clause-begins g c =
+pub returns-in_ok-begin-in-Some-clause-begins : goal.returns-in_ok-begin-in-Some-clause-begins
+returns-in_ok-begin-in-Some-clause-begins g c = on_ok_weaker c.go_on.result (λ is.
     rw (sym c.in_ok-anew.ensures ∙ c.in-Some.is)
-    (record { mid = in_step c.begin.new.self c.begin.new.out; begins = c.in_ok-begin-in-Some.ensures; goes_on = c.in_ok-go_on-in-Some.ensures.goes_on })
+    (record { mid = in_step c.begin.new.self c.begin.new.out; begins = c.in_ok-begin-in-Some.ensures; goes_on = is })) c.go_on.ensures.goes_on

@@ -1,4 +1,5 @@
 use Rattle.std.proofs.Common.{refl}
+use Rattle.std.proofs.lemmas.Result.{on_ok_weaker}
 use Rattle.traffic.specs.ViewStates.{view_of}
 use Rattle.membership.specs.Installs.{finished_given}
 use Rattle.membership.proofs.FlushesAreSayable.{all-sayable}
@@ -12,4 +13,4 @@ settle-requires-clause-sound g c =
 
 pub returns-clause-member_state : goal.returns-clause-member_state
 returns-clause-member_state g c =
-    finished-member_state _ g.R.Receiver.meaning c.args.flush c.args.view_state _ c.args.self.now c.settle.new.self _ _ c.requires.member_state refl refl c.in_ok-settle.ensures
+    on_ok_weaker c.settle.result (λ is. finished-member_state _ g.R.Receiver.meaning c.args.flush c.args.view_state _ c.args.self.now c.settle.new.self _ _ c.requires.member_state refl refl is) c.settle.ensures

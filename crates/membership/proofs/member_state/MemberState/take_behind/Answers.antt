@@ -1,4 +1,5 @@
 use Rattle.std.proofs.Common.{ap, subst, rules}
+use Rattle.std.proofs.lemmas.Result.{on_ok_weaker}
 use Rattle.next_view.specs.ViewNotes.{NotesModel}
 use Rattle.membership.specs.Changes.{BeginsAnew}
 use Rattle.membership.proofs.KeepNotes.{heard-member_state}
@@ -13,5 +14,5 @@ begin_anew-requires g c = record {
 
 pub returns-clause-takes : goal.returns-clause-takes
 returns-clause-takes g c =
-    subst (λ (b : NotesModel). BeginsAnew g.R.Receiver.meaning (who_of c.args.who.now) (in_step (record c.args.self.now { notes = b }) c.args.out.now) (in_step c.begin_anew.new.self c.begin_anew.new.out))
-    (search rules) c.in_ok-begin_anew.ensures.begins
+    on_ok_weaker c.begin_anew.result (λ is. subst (λ (b : NotesModel). BeginsAnew g.R.Receiver.meaning (who_of c.args.who.now) (in_step (record c.args.self.now { notes = b }) c.args.out.now) (in_step c.begin_anew.new.self c.begin_anew.new.out))
+    (search rules) is) c.begin_anew.ensures.begins
