@@ -22,6 +22,21 @@ const EVENTS: usize = 128;
 const TOO_MANY: &[u8] =
     b"HTTP/1.1 503 Service Unavailable\r\nconnection: close\r\nretry-after: 1\r\ncontent-length: 0\r\n\r\n";
 
+/// A connection that was accepted, and its id.
+#[derive(Drop)]
+pub(crate) struct Caller {
+    pub(crate) id: usize,
+    pub(crate) stream: TcpStream,
+}
+
+impl Caller {
+    /// It is told that it is one too many.
+    pub(crate) fn turn_away(self) {
+        let Caller { id: _, mut stream } = self;
+        let _ = stream.write(TOO_MANY);
+    }
+}
+
 /// The socket that listens, and the wait for it and for all connections.
 pub(crate) struct Door {
     poll: Poll,
@@ -77,8 +92,8 @@ impl Door {
         Ok(ready)
     }
 
-    /// The next connection, and its id.
-    pub(crate) fn accept(&mut self) -> Option<(usize, TcpStream)> {
+    /// The next connection.
+    pub(crate) fn accept(&mut self) -> Option<Caller> {
         let Ok((mut stream, _from)) = self.listener.accept() else {
             self.has_callers = false;
             return None;
@@ -89,13 +104,8 @@ impl Door {
         let both = Interest::READABLE | Interest::WRITABLE;
         let registered = self.poll.registry().register(&mut stream, Token(id), both);
         match registered {
-            Ok(()) => Some((id, stream)),
+            Ok(()) => Some(Caller { id, stream }),
             Err(_) => None,
         }
-    }
-
-    /// Tells a connection that it is one too many.
-    pub(crate) fn turn_away(&mut self, mut stream: TcpStream) {
-        let _ = stream.write(TOO_MANY);
     }
 }

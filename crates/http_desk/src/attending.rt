@@ -6,7 +6,7 @@ ghost use Rattle.http_desk.specs.Replies.{AnswersValue};
 
 use crate::changes::Since;
 use crate::client::{Client, Hold, Step};
-use crate::desk::HttpDesk;
+use crate::desk::Desk;
 use crate::history::Tag;
 use crate::json::{put_entries, put_keys, put_lock, put_locks};
 use crate::kept::Kept;
@@ -56,7 +56,7 @@ enum Found {
     Hold(Hold),
 }
 
-impl HttpDesk {
+impl Desk {
     // A reply of this node's copy, at the place where it is; 503 before its first view.
     fn of_copy(&self, reply: Reply) -> Result<Reply, AllocError> {
         match self.counts.at() {

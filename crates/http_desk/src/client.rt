@@ -2,6 +2,7 @@
 //! the requests that came, whatever the first one makes of them.
 
 use crate::history::Tag;
+use crate::accepting::Caller;
 use crate::kept::Keeps;
 use crate::reply::Reply;
 use crate::request::Asked;
@@ -136,11 +137,11 @@ impl Client {
         alloc: Global,
         keys: RandomState,
         keeps: Keeps,
-        id: usize,
-        stream: TcpStream,
+        caller: Caller,
         now: Duration,
     ) -> Result<Client, AllocError> {
         let buffer = vec![in alloc; 0; READ]?;
+        let Caller { id, stream } = caller;
         Ok(Client {
             alloc,
             keeps,

@@ -1,6 +1,4 @@
-use crate::accepting::Door;
 use crate::changes::Changes;
-use crate::client::Client;
 use crate::counts::Counts;
 use crate::history::{History, Tag, member_of};
 use crate::kept::{Keeps, Kept};
@@ -15,53 +13,37 @@ use http::StatusCode;
 use keyed_state::Token;
 use replicated_map::{Command, ReplicatedMap};
 use std::alloc::{AllocError, Global};
-use std::hash::RandomState;
-use std::io;
-use std::mem::replace;
-use std::net::{Net, SocketAddr};
-use std::os::fd::RawFd;
-use std::random::RandomSource;
 use std::time::Duration;
 use trace_props::{Delivery, Event};
 
-/// How many connections are accepted before others have their turn.
-const ACCEPTS: u32 = 16;
-
-/// Answers requests of HTTP for a node (docs/HTTP.md).
-pub struct HttpDesk {
+/// What a node keeps for those who ask it, and what it answers them.
+pub(crate) struct Desk {
     pub(crate) alloc: Global,
     pub(crate) own: Address,
     // Whether its node says again by itself what a view hands back.
     says_again: bool,
-    door: Door,
-    keys: RandomState,
-    clients: Vec<Client>,
     // How many connections there were as their turn began.
-    connections: usize,
+    pub(crate) connections: usize,
     pub(crate) kept: Kept,
     pub(crate) changes: Changes,
     pub(crate) history: History,
     pub(crate) counts: Counts,
     pub(crate) writes: Writes,
     // The view of which it was told last how many messages are stable, and how many.
-    stable: Option<(ViewId, u64)>,
+    pub(crate) stable: Option<(ViewId, u64)>,
     // Answers that their connections have not taken: by their tickets, each perhaps only once all members have delivered what stands up to a place.
     pub(crate) replies: Vec<(u64, Reply, Option<Tag>)>,
     tickets: u64,
     pub(crate) has_ended: bool,
-    has_more: bool,
     pub(crate) now: Duration,
 }
 
-impl Drop for HttpDesk {
+impl Drop for Desk {
     fn drop(self) {
-        let HttpDesk {
+        let Desk {
             alloc: _,
             own: _,
             says_again: _,
-            door: _,
-            keys: _,
-            clients: _,
             connections: _,
             kept: _,
             changes: _,
@@ -72,7 +54,6 @@ impl Drop for HttpDesk {
             replies: _,
             tickets: _,
             has_ended: _,
-            has_more: _,
             now: _,
         } = self;
     }
@@ -94,23 +75,18 @@ fn version_of(map: &ReplicatedMap, key: &[u8]) -> Option<Token> {
     }
 }
 
-impl HttpDesk {
-    /// The desk of a node that keeps this and whose member has this address, by whether the node says again by itself what a view hands back. It listens at a socket address.
-    pub fn bind<R: Net + RandomSource>(
+impl Desk {
+    /// Of a node that keeps this and whose member has this address, by whether the node says again by itself what a view hands back.
+    pub(crate) fn new(
         alloc: Global,
-        rt: &R,
         keeps: Keeps,
         own: Address,
         says_again: bool,
-        at: SocketAddr,
-    ) -> io::Result<HttpDesk> {
-        Ok(HttpDesk {
+    ) -> Result<Desk, AllocError> {
+        Ok(Desk {
             alloc,
             own,
             says_again,
-            door: Door::bind(alloc, rt, at)?,
-            keys: RandomState::new(rt)?,
-            clients: Vec::new(alloc),
             connections: 0,
             kept: Kept::new(alloc, keeps, own)?,
             changes: Changes::new(alloc),
@@ -121,26 +97,8 @@ impl HttpDesk {
             replies: Vec::new(alloc),
             tickets: 0,
             has_ended: false,
-            has_more: true,
             now: Duration::ZERO,
         })
-    }
-
-    /// What is readable when a connection is ready, for who waits for it beside others.
-    pub fn descriptor(&self) -> RawFd {
-        self.door.descriptor()
-    }
-
-    // Which connections are ready.
-    fn look(&mut self) {
-        let Ok(ready) = self.door.look(self.alloc) else {
-            return;
-        };
-        for client in self.clients.iter_mut() {
-            if ready.as_slice().contains(&client.id) {
-                client.wake();
-            }
-        }
     }
 
     // What a message may change in the map.
@@ -204,7 +162,7 @@ impl HttpDesk {
     }
 
     /// What happened next at the node. It may begin again with another member.
-    pub fn hear(&mut self, event: &Event) -> Result<(), AllocError> {
+    pub(crate) fn hear(&mut self, event: &Event) -> Result<(), AllocError> {
         let member = member_of(event);
         if member != self.own {
             self.begin_again(member)?;
@@ -220,11 +178,6 @@ impl HttpDesk {
         self.hear_own(event)
     }
 
-    /// How many messages of a view are stable, as far as the node knows.
-    pub fn learn(&mut self, view: ViewId, stable: u64) {
-        self.stable = Some((view, stable));
-    }
-
     // Another member of its node is there now.
     fn begin_again(&mut self, member: Address) -> Result<(), AllocError> {
         self.own = member;
@@ -235,20 +188,15 @@ impl HttpDesk {
     }
 
     /// The member has ended: all who wait are answered 503, and so is each write from now on.
-    pub fn end(&mut self) -> Result<(), AllocError> {
+    pub(crate) fn end(&mut self) -> Result<(), AllocError> {
         self.has_ended = true;
         let tickets = self.writes.give_up(self.alloc)?;
         self.refuse_all(tickets.as_slice())
     }
 
-    /// Appends the lines that the node is to send next, each with a line feed.
-    pub fn tell(&mut self, text: &mut Vec<u8>) -> Result<(), AllocError> {
-        self.writes.tell(text)
-    }
-
     /// Whether there is something to do at once: a line to send, or an answer to give.
-    pub fn is_due(&self) -> bool {
-        self.has_more || self.writes.has_line() || self.kept.has_answers()
+    pub(crate) fn is_due(&self) -> bool {
+        self.writes.has_line() || self.kept.has_answers()
     }
 
     // The answer of a ticket is there.
@@ -324,8 +272,8 @@ impl HttpDesk {
         Ok(false)
     }
 
-    // What became of all writes so far.
-    fn settle_all(&mut self) -> Result<(), AllocError> {
+    /// What became of all writes so far.
+    pub(crate) fn settle_all(&mut self) -> Result<(), AllocError> {
         let mut again = 0usize;
         for known in self.kept.take(self.alloc)? {
             if self.settle(known, again)? {
@@ -371,72 +319,5 @@ impl HttpDesk {
         self.writes
             .ask(Write::new(self.alloc, ticket, order, self.now)?)?;
         Ok(ticket)
-    }
-
-    // Accepts those who stand before the door.
-    fn accept(&mut self) -> Result<(), AllocError> {
-        for _ in 0..ACCEPTS {
-            if !self.door.has_callers {
-                return Ok(());
-            }
-            if let Some((id, stream)) = self.door.accept() {
-                if self.clients.len() < CLIENTS {
-                    let keeps = self.kept.keeps();
-                    let client = Client::new(self.alloc, self.keys, keeps, id, stream, self.now)?;
-                    self.clients.push(client)?;
-                } else {
-                    self.door.turn_away(stream);
-                }
-            }
-        }
-        Ok(())
-    }
-
-    // Nobody waits for a lock any more whose connection is over.
-    fn forget_gone(&mut self) -> Result<(), AllocError> {
-        if self.kept.queued() == 0 {
-            return Ok(());
-        }
-        let mut tickets = Vec::new(self.alloc);
-        for client in self.clients.iter() {
-            if let Some(ticket) = client.ticket() {
-                tickets.push(ticket)?;
-            }
-        }
-        self.kept.keep(tickets.as_slice());
-        Ok(())
-    }
-
-    // Serves these connections; answers whether one has more to do at once.
-    fn serve_all(&mut self, clients: &mut Vec<Client>) -> Result<bool, AllocError> {
-        let mut has_more = false;
-        for client in clients.iter_mut() {
-            let more = self.serve_one(client)?;
-            has_more = has_more || more;
-        }
-        Ok(has_more)
-    }
-
-    // Each connection has its turn, and those that are over are let go.
-    fn give_turns(&mut self) -> Result<bool, AllocError> {
-        self.connections = self.clients.len();
-        let mut clients = replace(&mut self.clients, Vec::new(self.alloc));
-        let served = self.serve_all(&mut clients);
-        clients.retain(|client| !client.is_over);
-        self.clients = clients;
-        served
-    }
-
-    /// Serves all connections, each for a bounded number of steps. It does not wait.
-    pub fn serve(&mut self, now: Duration) -> Result<(), AllocError> {
-        self.now = now;
-        self.look();
-        self.settle_all()?;
-        self.accept()?;
-        let has_more = self.give_turns()?;
-        self.replies.clear();
-        self.forget_gone()?;
-        self.has_more = has_more || self.door.has_callers;
-        Ok(())
     }
 }

@@ -22,12 +22,13 @@ mod refusal;
 mod reply;
 mod request;
 mod services;
+mod serving;
 mod standing;
 mod status;
 mod writes;
 
-pub use desk::HttpDesk;
 pub use kept::Keeps;
+pub use serving::HttpDesk;
 
 /// The most connections at once. One more is told 503 and closed.
 pub const CLIENTS: usize = 64;

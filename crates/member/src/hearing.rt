@@ -53,9 +53,10 @@ pub(crate) fn take_packet<R: Receiver>(
     ensures ignored { ignores_packet who.now.address (came_in (record { address = who.now.address; group = who.now.group; member_state = Some member_state.old }) (Ok packet.now)) member_state.old ≡ true → (result ≡ Ok tt) × StaysAs (in_step member_state.old out.old) (in_step member_state.new out.new) }
 {
     if is_handed(member_state, who, packet) {
-        hear(member_state, who, packet.source, &packet.body, out)?;
+        hear(member_state, who, packet.source, &packet.body, out)
+    } else {
+        Ok(())
     }
-    Ok(())
 }
 
 // Time passes for it.
@@ -74,13 +75,10 @@ pub(crate) fn pass_time<R: Receiver>(
         return Ok(());
     }
     if member_state.view_state.is_none() {
-        ask_again(member_state, who, out)?;
-        return Ok(());
-    }
-    if member_state.promise.is_installed() {
-        tick_in_view(member_state, who, out)?;
+        ask_again(member_state, who, out)
+    } else if member_state.promise.is_installed() {
+        tick_in_view(member_state, who, out)
     } else {
-        flush_again(member_state, who, out)?;
+        flush_again(member_state, who, out)
     }
-    Ok(())
 }

@@ -78,6 +78,5 @@ pub fn put_asides(
     }
     let ways = Ways::new(alloc, rows, packets)?;
     put(out, ASIDE_STYLE)?;
-    put_aside_groups(out, &ways, rows, packets)?;
-    Ok(())
+    put_aside_groups(out, &ways, rows, packets)
 }

@@ -287,8 +287,7 @@ fn note_sent(
 {
     match message_sent(event) {
         Some(message) => {
-            put_row(sends, message, number)?;
-            Ok(())
+            put_row(sends, message, number)
         }
         None => Ok(()),
     }
@@ -304,8 +303,7 @@ fn note_installed(
 {
     match view_installed(event) {
         Some(view) => {
-            put_row(installs, view, number)?;
-            Ok(())
+            put_row(installs, view, number)
         }
         None => Ok(()),
     }

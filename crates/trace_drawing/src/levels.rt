@@ -40,8 +40,7 @@ fn later(front: usize, place: usize) -> usize
 fn note_node(nodes: &mut HashMap<Node, u32>, event: &Event, number: u32) -> Result<(), AllocError>
     ensures { OnOk result ((t : List Event) → number ≡ length t → KnowsNodes (get nat_eq nodes.old) t → KnowsNodes (get nat_eq nodes.new) (t ++ event.now ∷ [])) }
 {
-    put_row(nodes, member(event).node(), number)?;
-    Ok(())
+    put_row(nodes, member(event).node(), number)
 }
 
 // Keeps where something happened last at each node, from one event on up to another.

@@ -65,12 +65,10 @@ fn note_row(
     match row.kind {
         AsideKind::Refused { .. } => Ok(()),
         AsideKind::PutOut(packet) => {
-            sources.put(packet, number)?;
-            Ok(())
+            sources.put(packet, number)
         }
         AsideKind::HandedOver(packet) => {
-            ends.put(packet, number)?;
-            Ok(())
+            ends.put(packet, number)
         }
     }
 }

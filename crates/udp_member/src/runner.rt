@@ -225,12 +225,26 @@ impl<N: Net, R: Receiver> Runner<N, R> {
         &mut self.channel
     }
 
+    /// Its channel, to look at.
+    pub fn channel_ref(&self) -> &Channel<R>
+        ensures { result.now ≡ self.now.channel }
+    {
+        &self.channel
+    }
+
     /// Its net.
     pub fn net(&mut self) -> &mut N
         ensures* writes_back { sem 𝓛 (lends_net N.row R.row N.Net R.Receiver self.entry result) }
         ensures value { result.now ≡ self.old.net }
     {
         &mut self.net
+    }
+
+    /// Its net, to look at.
+    pub fn net_ref(&self) -> &N
+        ensures { result.now ≡ self.now.net }
+    {
+        &self.net
     }
 
     /// Its net, where it drives its channel no more: what waits in the channel is lost.
@@ -308,7 +322,8 @@ impl<N: Net, R: Receiver> Runner<N, R> {
         ensures faults { self.new.faults ≡ self.old.faults }
     {
         let answer = self.channel.suspect(address);
-        passed_over(answer)
+        passed_over(answer)?;
+        Ok(())
     }
 
     // Tells the channel that time passes.
@@ -319,7 +334,8 @@ impl<N: Net, R: Receiver> Runner<N, R> {
     {
         self.pace.begin();
         let answer = self.channel.tick();
-        passed_over(answer)
+        passed_over(answer)?;
+        Ok(())
     }
 
     // Whom to seek, if anybody.
@@ -342,6 +358,7 @@ impl<N: Net, R: Receiver> Runner<N, R> {
         ensures faults { self.new.faults ≡ self.old.faults }
     {
         let answer = self.channel.merge_hint(address);
-        passed_over(answer)
+        passed_over(answer)?;
+        Ok(())
     }
 }

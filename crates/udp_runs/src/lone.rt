@@ -60,6 +60,22 @@ pub(crate) fn unless_memory(answer: Result<(), Error>) -> Result<(), Cut> {
     }
 }
 
+// Whether a node goes on after an answer of its runner: not where it has ended, which is noted.
+fn goes_on(has_ended: &mut bool, answer: Result<(), Error>) -> Result<(), Cut> {
+    if answer == Err(Error::Refused(Refusal::Closed)) {
+        *has_ended = true;
+        return Ok(());
+    }
+    unless_memory(answer)
+}
+
+// When a round is due behind one that was: a tick after that was due, or after now, if that is half a tick or more ago.
+fn due_after(due: Duration, tick: Duration, now: Duration) -> Duration {
+    let late = now.saturating_sub(due);
+    let last = if late.saturating_add(late) < tick { due } else { now };
+    last.saturating_add(tick)
+}
+
 impl<'a, N: Net, C: Application> LoneNode<'a, N, C> {
     /// A member that was started, and is not connected yet; what it sends once.
     pub(crate) fn new(
@@ -95,20 +111,19 @@ impl<'a, N: Net, C: Application> LoneNode<'a, N, C> {
     }
 
     /// What happened to it, in numbers.
-    pub(crate) fn tally(&mut self) -> Tally
-        ensures { self.new.member ≡ self.old.member }
+    pub(crate) fn tally(&self) -> Tally
     {
         let mut tally = self.teller.tally;
         tally.garbled = self.member.garbled();
         tally.foreign = self.member.foreign();
         tally.unreceived = self.member.faults();
-        tally.unsent = self.member.net().unsent();
+        tally.unsent = self.member.net_ref().unsent();
         tally.has_ended = self.has_ended;
         tally.gives_up = self.gives_up;
         tally.rounds = self.round;
         tally.is_unsaid = self.is_unsent || self.teller.unsaid.has_once();
-        tally.strange = self.member.net().strange();
-        tally.sieved = self.member.net().sieved();
+        tally.strange = self.member.net_ref().strange();
+        tally.sieved = self.member.net_ref().sieved();
         tally
     }
 
@@ -145,18 +160,6 @@ impl<'a, N: Net, C: Application> LoneNode<'a, N, C> {
         self.call(settings, &call)
     }
 
-    // Whether it goes on after an answer of its runner: not where it has ended.
-    fn goes_on(&mut self, answer: Result<(), Error>) -> Result<(), Cut>
-        ensures same { (self.new.member ≡ self.old.member) × (self.new.teller.voice ≡ self.old.teller.voice)
-            × AreSame self.old.once self.old.outbox self.old.teller.unsaid self.new.once self.new.outbox self.new.teller.unsaid }
-    {
-        if answer == Err(Error::Refused(Refusal::Closed)) {
-            self.has_ended = true;
-            return Ok(());
-        }
-        unless_memory(answer)
-    }
-
     // A round of its runner.
     fn run_round(&mut self) -> Result<(), Error>
         ensures drives { (group : List ℕ) (start later : Option (List ℕ)) → Quietly N.log N.failed (MaySay (option_copied self.old.once) start later C.payload_within C.first_said) C.meaning group self.old.member self.new.member }
@@ -176,13 +179,13 @@ impl<'a, N: Net, C: Application> LoneNode<'a, N, C> {
     {
         self.send_all()?;
         let answer = self.run_round();
-        self.goes_on(answer)?;
+        goes_on(&mut self.has_ended, answer)?;
         let merge = u64::from(self.manner.merge);
         if self.has_ended || self.manner.finds || merge == 0 || self.round % merge != 0 {
             return Ok(());
         }
         let answer = self.member.seek();
-        self.goes_on(answer)
+        goes_on(&mut self.has_ended, answer)
     }
 
     // Takes the lines that came, sends what it may, and listens; answers whether there is more to do at once.
@@ -197,7 +200,7 @@ impl<'a, N: Net, C: Application> LoneNode<'a, N, C> {
         match self.member.listen() {
             Ok(count) => Ok(has_sent || count > 0),
             Err(error) => {
-                self.goes_on(Err(error))?;
+                goes_on(&mut self.has_ended, Err(error))?;
                 Ok(false)
             }
         }
@@ -309,15 +312,6 @@ impl<'a, N: Net, C: Application> LoneNode<'a, N, C> {
         }
     }
 
-    // It is this time.
-    fn go_on(&mut self, now: Duration)
-        ensures same { (self.new.member ≡ self.old.member) × (self.new.teller.voice ≡ self.old.teller.voice)
-            × AreSame self.old.once self.old.outbox self.old.teller.unsaid self.new.once self.new.outbox self.new.teller.unsaid }
-    {
-        self.time = now;
-        self.finder.go_on(milliseconds(now));
-    }
-
     // Handles datagrams as they come, until it is time for the next round, or no more lines come.
     fn listen_until<L: Lines, M: NodeMachine, W: Write>(
         &mut self,
@@ -333,7 +327,8 @@ impl<'a, N: Net, C: Application> LoneNode<'a, N, C> {
         ensures gone { M.gone machine.new ≡ M.gone machine.old }
     {
         for _ in 0..LISTENS {
-            self.go_on(machine.now());
+            self.time = machine.now();
+            self.finder.go_on(milliseconds(self.time));
             let rest = due.saturating_sub(self.time);
             if self.has_ended || self.outbox.is_over() || rest == Duration::ZERO {
                 return Ok(());
@@ -345,21 +340,6 @@ impl<'a, N: Net, C: Application> LoneNode<'a, N, C> {
             }
         }
         Ok(())
-    }
-
-    // When the next round is due: a tick after the last one was, or after now, if that is half a tick or more ago.
-    fn next_due(&mut self, now: Duration) -> Duration
-        ensures same { (self.new.member ≡ self.old.member) × (self.new.teller.voice ≡ self.old.teller.voice)
-            × AreSame self.old.once self.old.outbox self.old.teller.unsaid self.new.once self.new.outbox self.new.teller.unsaid }
-    {
-        let late = now.saturating_sub(self.due);
-        let last = if late.saturating_add(late) < self.manner.tick {
-            self.due
-        } else {
-            now
-        };
-        self.due = last.saturating_add(self.manner.tick);
-        self.due
     }
 
     // Handles datagrams as they come between a round and the one before, if there was one.
@@ -379,8 +359,8 @@ impl<'a, N: Net, C: Application> LoneNode<'a, N, C> {
         if round == 0 {
             return Ok(());
         }
-        let due = self.next_due(machine.now());
-        self.listen_until(due, lines, machine, writer)
+        self.due = due_after(self.due, self.manner.tick, machine.now());
+        self.listen_until(self.due, lines, machine, writer)
     }
 
     // All of its rounds, until its lines are over; between two it handles datagrams as they come.

@@ -21,7 +21,7 @@ impl<'a, N: Net, C: Application> LoneNode<'a, N, C> {
         if self.round == 0 {
             return;
         }
-        let is_blocked = self.member.channel().is_blocked();
+        let is_blocked = self.member.channel_ref().is_blocked();
         if self.watch.pass(self.time, is_blocked) {
             self.teller.say_blocked();
         }
@@ -45,14 +45,11 @@ impl<'a, N: Net, C: Application> LoneNode<'a, N, C> {
     }
 
     // How it is.
-    fn status(&mut self) -> NodeStatus
-        ensures same { (self.new.member ≡ self.old.member) × (self.new.teller.voice ≡ self.old.teller.voice)
-            × AreSame self.old.once self.old.outbox self.old.teller.unsaid self.new.once self.new.outbox self.new.teller.unsaid }
-    {
-        let strange = self.member.net().strange();
+    fn status(&self) -> NodeStatus {
+        let strange = self.member.net_ref().strange();
         let blocked = self.watch.blocked(self.time);
         let outstanding = self.teller.unsaid.outstanding();
-        let channel = self.member.channel();
+        let channel = self.member.channel_ref();
         NodeStatus {
             address: channel.address(),
             view: match channel.view() {
@@ -67,13 +64,11 @@ impl<'a, N: Net, C: Application> LoneNode<'a, N, C> {
     }
 
     // Shows the machine how it is.
-    fn show<M: NodeMachine>(&mut self, machine: &mut M)
-        ensures same { (self.new.member ≡ self.old.member) × (self.new.teller.voice ≡ self.old.teller.voice)
-            × AreSame self.old.once self.old.outbox self.old.teller.unsaid self.new.once self.new.outbox self.new.teller.unsaid }
+    fn show<M: NodeMachine>(&self, machine: &mut M)
         ensures gone { M.gone machine.new ≡ M.gone machine.old }
     {
         let status = self.status();
-        match self.member.channel().view() {
+        match self.member.channel_ref().view() {
             Some(view) => machine.show(&status, view.members().as_slice()),
             None => machine.show(&status, &[]),
         }

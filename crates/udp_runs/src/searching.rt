@@ -29,11 +29,8 @@ impl<'a, N: Net, C: Application> LoneNode<'a, N, C> {
     }
 
     // Where it is.
-    pub(crate) fn whereabouts(&mut self) -> Whereabouts
-        ensures same { (self.new.member ≡ self.old.member) × (self.new.teller.voice ≡ self.old.teller.voice)
-            × AreSame self.old.once self.old.outbox self.old.teller.unsaid self.new.once self.new.outbox self.new.teller.unsaid }
-    {
-        let channel = self.member.channel();
+    pub(crate) fn whereabouts(&self) -> Whereabouts {
+        let channel = self.member.channel_ref();
         let view = match channel.view() {
             Some(view) => Some(Standing {
                 view: view.id(),
@@ -74,11 +71,8 @@ impl<'a, N: Net, C: Application> LoneNode<'a, N, C> {
     }
 
     // What words told of a node, if there are so many.
-    fn neighbour(&mut self, place: usize) -> Option<Neighbour>
-        ensures same { (self.new.member ≡ self.old.member) × (self.new.teller.voice ≡ self.old.teller.voice)
-            × AreSame self.old.once self.old.outbox self.old.teller.unsaid self.new.once self.new.outbox self.new.teller.unsaid }
-    {
-        self.member.net().words().get(place).copied()
+    fn neighbour(&self, place: usize) -> Option<Neighbour> {
+        self.member.net_ref().words().get(place).copied()
     }
 
     // What it is to do to find its group; it says where it is to whom it is time to.
@@ -89,7 +83,7 @@ impl<'a, N: Net, C: Application> LoneNode<'a, N, C> {
     {
         let now = milliseconds(self.time);
         let at = self.whereabouts();
-        let step = self.finder.step(now, &at, self.member.net().words());
+        let step = self.finder.step(now, &at, self.member.net_ref().words());
         self.say(now, at.own);
         step
     }

@@ -56,11 +56,8 @@ impl<'a, N: Net, C: Application> LoneNode<'a, N, C> {
     }
 
     // The id of its view, where it is the coordinator there and has not said yet what that says first.
-    fn unopened(&mut self) -> Option<ViewId>
-        ensures same { (self.new.member ≡ self.old.member) × (self.new.teller.voice ≡ self.old.teller.voice)
-            × AreSame self.old.once self.old.outbox self.old.teller.unsaid self.new.once self.new.outbox self.new.teller.unsaid }
-    {
-        let channel = self.member.channel();
+    fn unopened(&self) -> Option<ViewId> {
+        let channel = self.member.channel_ref();
         let view = channel.view()?;
         let id = view.id();
         if view.first() != channel.address() {
@@ -78,7 +75,7 @@ impl<'a, N: Net, C: Application> LoneNode<'a, N, C> {
         ensures same { (self.new.teller.voice ≡ self.old.teller.voice) × (self.new.once ≡ self.old.once) }
         ensures owes { OnOk result (Keeps self.old.outbox self.old.teller.unsaid self.new.outbox self.new.teller.unsaid) }
     {
-        let Some(view) = self.member.channel().view() else {
+        let Some(view) = self.member.channel_ref().view() else {
             return Ok(false);
         };
         is_id(view.id());
@@ -128,7 +125,7 @@ impl<'a, N: Net, C: Application> LoneNode<'a, N, C> {
         ensures same { (self.new.teller.voice ≡ self.old.teller.voice) × (self.new.once ≡ self.old.once) }
         ensures owes { (start came : Option (List ℕ)) → IsSentOf start came sent → Owes start came self.old.outbox self.old.teller.unsaid → OnOk result (Owes start came self.new.outbox self.new.teller.unsaid) }
     {
-        let Some(view) = self.member.channel().view() else {
+        let Some(view) = self.member.channel_ref().view() else {
             return Ok(Said::Waits);
         };
         let id = view.id();
@@ -280,10 +277,7 @@ impl<'a, N: Net, C: Application> LoneNode<'a, N, C> {
     }
 
     // Whether its view has too few members to send in it.
-    pub(crate) fn is_few(&mut self) -> bool
-        ensures same { (self.new.member ≡ self.old.member) × (self.new.teller.voice ≡ self.old.teller.voice)
-            × AreSame self.old.once self.old.outbox self.old.teller.unsaid self.new.once self.new.outbox self.new.teller.unsaid }
-    {
+    pub(crate) fn is_few(&self) -> bool {
         match self.whereabouts().view {
             Some(standing) => standing.members < self.manner.quorum as usize,
             None => false,
@@ -291,10 +285,7 @@ impl<'a, N: Net, C: Application> LoneNode<'a, N, C> {
     }
 
     // Whether it sends nothing for now.
-    pub(crate) fn holds(&mut self) -> bool
-        ensures same { (self.new.member ≡ self.old.member) × (self.new.teller.voice ≡ self.old.teller.voice)
-            × AreSame self.old.once self.old.outbox self.old.teller.unsaid self.new.once self.new.outbox self.new.teller.unsaid }
-    {
+    pub(crate) fn holds(&self) -> bool {
         (self.manner.finds && self.finder.holds()) || self.is_few()
     }
 }

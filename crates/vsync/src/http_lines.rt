@@ -60,7 +60,8 @@ impl<'a> Lines for HttpLines<'a> {
         if self.is_short {
             return Err(LinesError::Memory);
         }
-        self.desk.tell(text)
+        self.desk.tell(text)?;
+        Ok(())
     }
 
     fn hear(&mut self, event: &Event) {

@@ -11,4 +11,4 @@ returns g c fresh =
     (silent-first c.args.manner.finds c.args.plan.now.contact) c.in-Ok.member _ _ _ _ c.in-Ok.ensures.channel (rw c.in-Ok.ensures.net fresh)
     (rw (c.new-lone.ensures.member, c.new-lone.ensures.voice, c.new-lone.ensures.manner, c.new-lone.ensures.once) at c.play-played.ensures.plays (g.L.Lines.came c.args.lines.now) (g.L.Lines.came c.give_back.new.lines)
     (rw (c.new-lone.ensures.outbox, c.new-lone.ensures.unsaid) (owes-new (g.L.Lines.came c.args.lines.now))) (rw c.give_back.ensures (earlier-refl (g.L.Lines.came c.play-played.new.lines))))
-    (rw (c.tell.ensures, c.play-played.ensures.gone, c.into_net.ensures, c.tally.ensures) at c.close.ensures)
+    (rw (c.tell.ensures, c.play-played.ensures.gone, c.into_net.ensures) at c.close.ensures)

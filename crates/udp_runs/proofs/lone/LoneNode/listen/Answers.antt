@@ -1,7 +1,7 @@
 use Rattle.std.proofs.Common.{refl}
 use Rattle.law_runners.specs.Runs.{Listen}
 use Rattle.node_turns.proofs.NodesTell.{quiet-as, quiet-by, quiet-then}
-use Rattle.node_turns.proofs.LinesOwed.{filled-owes, same-keeps}
+use Rattle.node_turns.proofs.LinesOwed.{filled-owes}
 use Rattle.node_lines.proofs.LinesKept.{fills-earlier}
 use Rattle.udp_runs.proofs.lone.LoneNode.listen.Goals as goal
 
@@ -13,11 +13,11 @@ returns-in_err-has_sent-clause-drives g c group start later owed earlier = rw (c
 
 pub returns-in_err-goes_on-in-Err-clause-drives : goal.returns-in_err-goes_on-in-Err-clause-drives
 returns-in_err-goes_on-in-Err-clause-drives g c group start later owed earlier =
-    quiet-then _ _ _ _ group _ _ _ (rw (c.take_lines.ensures.member, c.take_lines.ensures.same.1) at c.send_lines.ensures.drives group start _ later (filled-owes _ _ _ _ _ _ _ c.in_ok-take_lines.ensures.fills c.take_lines.ensures.unsaid owed) earlier) (rw c.goes_on.ensures.same.0 (quiet-by _ _ _ _ group _ _ _ (Listen _ _ c.listen.ensures) refl tt))
+    quiet-then _ _ _ _ group _ _ _ (rw (c.take_lines.ensures.member, c.take_lines.ensures.same.1) at c.send_lines.ensures.drives group start _ later (filled-owes _ _ _ _ _ _ _ c.in_ok-take_lines.ensures.fills c.take_lines.ensures.unsaid owed) earlier) (quiet-by _ _ _ _ group _ _ _ (Listen _ _ c.listen.ensures) refl tt)
 
 pub returns-in_ok-goes_on-in-Err-clause-drives : goal.returns-in_ok-goes_on-in-Err-clause-drives
 returns-in_ok-goes_on-in-Err-clause-drives g c group start later owed earlier =
-    quiet-then _ _ _ _ group _ _ _ (rw (c.take_lines.ensures.member, c.take_lines.ensures.same.1) at c.send_lines.ensures.drives group start _ later (filled-owes _ _ _ _ _ _ _ c.in_ok-take_lines.ensures.fills c.take_lines.ensures.unsaid owed) earlier) (rw c.goes_on.ensures.same.0 (quiet-by _ _ _ _ group _ _ _ (Listen _ _ c.listen.ensures) refl tt))
+    quiet-then _ _ _ _ group _ _ _ (rw (c.take_lines.ensures.member, c.take_lines.ensures.same.1) at c.send_lines.ensures.drives group start _ later (filled-owes _ _ _ _ _ _ _ c.in_ok-take_lines.ensures.fills c.take_lines.ensures.unsaid owed) earlier) (quiet-by _ _ _ _ group _ _ _ (Listen _ _ c.listen.ensures) refl tt)
 
 pub returns-then-has_sent-clause-drives : goal.returns-then-has_sent-clause-drives
 returns-then-has_sent-clause-drives g c group start later owed earlier = quiet-then _ _ _ _ group _ _ _ (rw (c.take_lines.ensures.member, c.take_lines.ensures.same.1) at c.send_lines.ensures.drives group start _ later (filled-owes _ _ _ _ _ _ _ c.in_ok-take_lines.ensures.fills c.take_lines.ensures.unsaid owed) earlier) (quiet-by _ _ _ _ group _ _ _ (Listen _ _ c.listen.ensures) refl tt)
@@ -50,4 +50,4 @@ pub returns-else-has_sent-clause-owes : goal.returns-else-has_sent-clause-owes
 returns-else-has_sent-clause-owes g c start owed = c.in_ok-has_sent.ensures.owes start _ (filled-owes _ _ _ _ _ _ _ c.in_ok-take_lines.ensures.fills c.take_lines.ensures.unsaid owed)
 
 pub returns-in_ok-goes_on-in-Err-clause-owes : goal.returns-in_ok-goes_on-in-Err-clause-owes
-returns-in_ok-goes_on-in-Err-clause-owes g c start owed = same-keeps _ _ _ _ _ _ c.goes_on.ensures.same.2 start _ (c.in_ok-has_sent.ensures.owes start _ (filled-owes _ _ _ _ _ _ _ c.in_ok-take_lines.ensures.fills c.take_lines.ensures.unsaid owed))
+returns-in_ok-goes_on-in-Err-clause-owes g c start owed = c.in_ok-has_sent.ensures.owes start _ (filled-owes _ _ _ _ _ _ _ c.in_ok-take_lines.ensures.fills c.take_lines.ensures.unsaid owed)

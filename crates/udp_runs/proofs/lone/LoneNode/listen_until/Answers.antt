@@ -1,7 +1,6 @@
 use Rattle.std.proofs.Common.{refl, ◌∙◌}
 use Rattle.node_lines.proofs.LinesKept.{earlier-refl, earlier-trans}
 use Rattle.node_turns.proofs.NodesTell.{tells-none, tells-then}
-use Rattle.node_turns.proofs.LinesOwed.{same-keeps}
 use Rattle.udp_runs.proofs.lone.LoneNode.listen_until.Goals as goal
 
 pub loop-init : goal.loop-init
@@ -11,7 +10,7 @@ pub returns-in-Err-clause-tells : goal.returns-in-Err-clause-tells
 returns-in-Err-clause-tells g c group start later owed earlier none =
     let (told, voice, gone, once, grows, owes) = c.loop.invariant in
     tells-then _ _ _ _ group _ _ _ _ _ _ _ _ _ (told group start later owed (earlier-trans _ _ _ (rw c.look.ensures at c.listen_for.ensures.grows) earlier) none)
-    (rw (c.go_on.ensures.same.1, c.go_on.ensures.same.0, voice, c.go_on.ensures.same.2.0, once) at c.in-Err.ensures.tells group start later (rw c.look.ensures (same-keeps _ _ _ _ _ _ c.go_on.ensures.same.2 start _ (owes start owed))) earlier)
+    (rw (voice, once) at c.in-Err.ensures.tells group start later (rw c.look.ensures (owes start owed)) earlier)
 
 pub returns-in-Err-clause-grows : goal.returns-in-Err-clause-grows
 returns-in-Err-clause-grows g c =
@@ -22,10 +21,10 @@ pub loop-preserved : goal.loop-preserved
 loop-preserved g c =
     let (told, voice, gone, once, grows, owes) = c.loop.invariant in (
       λ group start later owed earlier none. tells-then _ _ _ _ group _ _ _ _ _ _ _ _ _ (told group start later owed (earlier-trans _ _ _ (rw c.look.ensures at c.listen_for.ensures.grows) earlier) none)
-          (rw (c.go_on.ensures.same.1, c.go_on.ensures.same.0, voice, c.go_on.ensures.same.2.0, once) at c.in-Ok.ensures.tells group start later (rw c.look.ensures (same-keeps _ _ _ _ _ _ c.go_on.ensures.same.2 start _ (owes start owed))) earlier),
-      c.listen_for.ensures.same.0 ∙ c.go_on.ensures.same.1 ∙ voice,
+          (rw (voice, once) at c.in-Ok.ensures.tells group start later (rw c.look.ensures (owes start owed)) earlier),
+      c.listen_for.ensures.same.0 ∙ voice,
       c.now.ensures ∙ gone,
-      c.listen_for.ensures.same.1 ∙ c.go_on.ensures.same.2.0 ∙ once,
+      c.listen_for.ensures.same.1 ∙ once,
       earlier-trans _ _ _ grows (rw c.look.ensures at c.listen_for.ensures.grows),
-      λ start owed. c.in-Ok.ensures.owes start (rw c.look.ensures (same-keeps _ _ _ _ _ _ c.go_on.ensures.same.2 start _ (owes start owed))),
+      λ start owed. c.in-Ok.ensures.owes start (rw c.look.ensures (owes start owed)),
     )

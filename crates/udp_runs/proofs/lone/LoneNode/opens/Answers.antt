@@ -4,13 +4,13 @@ use Rattle.node_turns.proofs.LinesOwed.{may-first}
 use Rattle.udp_runs.proofs.lone.LoneNode.opens.Goals as goal
 
 pub returns-in_default-clause-drives : goal.returns-in_default-clause-drives
-returns-in_default-clause-drives g c group start later = rw c.channel.ensures.value (quiet-none _ _ _ _ group _)
+returns-in_default-clause-drives g c group start later = quiet-none _ _ _ _ group _
 
 pub returns-in_err-payload-clause-drives : goal.returns-in_err-payload-clause-drives
-returns-in_err-payload-clause-drives g c group start later = rw c.channel.ensures.value (quiet-none _ _ _ _ group _)
+returns-in_err-payload-clause-drives g c group start later = quiet-none _ _ _ _ group _
 
 pub returns-in-Some-2-clause-drives : goal.returns-in-Some-2-clause-drives
-returns-in-Some-2-clause-drives g c group start later = rw c.channel.ensures.value at c.sends.ensures.drives group start later (may-first _ _ _ _ start later _ c.in-Some.view.now (sym (rw c.channel.ensures.value at c.in-Some.ensures)) (rw c.id.ensures at c.is_id.ensures) (sym (rw c.in-Some-2.is at c.in_ok-payload.ensures)))
+returns-in-Some-2-clause-drives g c group start later = c.sends.ensures.drives group start later (may-first _ _ _ _ start later _ c.in-Some.view.now (sym (rw c.channel_ref.ensures at c.in-Some.ensures)) (rw c.id.ensures at c.is_id.ensures) (sym (rw c.in-Some-2.is at c.in_ok-payload.ensures)))
 
 pub returns-in-None-clause-drives : goal.returns-in-None-clause-drives
-returns-in-None-clause-drives g c group start later = rw c.channel.ensures.value (quiet-none _ _ _ _ group _)
+returns-in-None-clause-drives g c group start later = quiet-none _ _ _ _ group _

@@ -1,0 +1,169 @@
+//! The desk of a node, with the connections that it answers.
+
+use crate::accepting::{Caller, Door};
+use crate::client::Client;
+use crate::desk::Desk;
+use crate::kept::Keeps;
+use crate::CLIENTS;
+use address::{Address, ViewId};
+use std::alloc::{AllocError, Global};
+use std::hash::RandomState;
+use std::io;
+use std::net::{Net, SocketAddr};
+use std::os::fd::RawFd;
+use std::random::RandomSource;
+use std::time::Duration;
+use trace_props::Event;
+
+/// How many connections are accepted before others have their turn.
+const ACCEPTS: u32 = 16;
+
+/// Answers requests of HTTP for a node (docs/HTTP.md).
+pub struct HttpDesk {
+    alloc: Global,
+    door: Door,
+    keys: RandomState,
+    clients: Vec<Client>,
+    desk: Desk,
+    has_more: bool,
+}
+
+impl Drop for HttpDesk {
+    fn drop(self) {
+        let HttpDesk {
+            alloc: _,
+            door: _,
+            keys: _,
+            clients: _,
+            desk: _,
+            has_more: _,
+        } = self;
+    }
+}
+
+// Those of these connections that are ready may go on.
+fn wake(clients: &mut Vec<Client>, ready: &[usize]) {
+    for client in clients.iter_mut() {
+        if ready.contains(&client.id) {
+            client.wake();
+        }
+    }
+}
+
+// The tickets for which connections wait.
+fn awaited(alloc: Global, clients: &[Client]) -> Result<Vec<u64>, AllocError> {
+    let mut tickets = Vec::new(alloc);
+    for client in clients {
+        if let Some(ticket) = client.ticket() {
+            tickets.push(ticket)?;
+        }
+    }
+    Ok(tickets)
+}
+
+// Serves these connections; answers whether one has more to do at once.
+fn serve_all(desk: &mut Desk, clients: &mut Vec<Client>) -> Result<bool, AllocError> {
+    let mut has_more = false;
+    for client in clients.iter_mut() {
+        let more = desk.serve_one(client)?;
+        has_more = has_more || more;
+    }
+    Ok(has_more)
+}
+
+impl HttpDesk {
+    /// The desk of a node that keeps this and whose member has this address, by whether the node says again by itself what a view hands back. It listens at a socket address.
+    pub fn bind<R: Net + RandomSource>(
+        alloc: Global,
+        rt: &R,
+        keeps: Keeps,
+        own: Address,
+        says_again: bool,
+        at: SocketAddr,
+    ) -> io::Result<HttpDesk> {
+        Ok(HttpDesk {
+            alloc,
+            door: Door::bind(alloc, rt, at)?,
+            keys: RandomState::new(rt)?,
+            clients: Vec::new(alloc),
+            desk: Desk::new(alloc, keeps, own, says_again)?,
+            has_more: true,
+        })
+    }
+
+    /// What is readable when a connection is ready, for who waits for it beside others.
+    pub fn descriptor(&self) -> RawFd {
+        self.door.descriptor()
+    }
+
+    /// What happened next at the node. It may begin again with another member.
+    pub fn hear(&mut self, event: &Event) -> Result<(), AllocError> {
+        self.desk.hear(event)
+    }
+
+    /// How many messages of a view are stable, as far as the node knows.
+    pub fn learn(&mut self, view: ViewId, stable: u64) {
+        self.desk.stable = Some((view, stable));
+    }
+
+    /// The member has ended: all who wait are answered 503, and so is each write from now on.
+    pub fn end(&mut self) -> Result<(), AllocError> {
+        self.desk.end()
+    }
+
+    /// Appends the lines that the node is to send next, each with a line feed.
+    pub fn tell(&mut self, text: &mut Vec<u8>) -> Result<(), AllocError> {
+        self.desk.writes.tell(text)
+    }
+
+    /// Whether there is something to do at once: a line to send, or an answer to give.
+    pub fn is_due(&self) -> bool {
+        self.has_more || self.desk.is_due()
+    }
+
+    // Accepts those who stand before the door.
+    fn accept(&mut self) -> Result<(), AllocError> {
+        for _ in 0..ACCEPTS {
+            if !self.door.has_callers {
+                return Ok(());
+            }
+            if let Some(caller) = self.door.accept() {
+                if self.clients.len() < CLIENTS {
+                    let keeps = self.desk.kept.keeps();
+                    let client = Client::new(self.alloc, self.keys, keeps, caller, self.desk.now)?;
+                    self.clients.push(client)?;
+                } else {
+                    caller.turn_away();
+                }
+            }
+        }
+        Ok(())
+    }
+
+    // Each connection has its turn, and those that are over are let go.
+    fn give_turns(&mut self) -> Result<bool, AllocError> {
+        self.desk.connections = self.clients.len();
+        let served = serve_all(&mut self.desk, &mut self.clients);
+        self.clients.retain(|client| !client.is_over);
+        served
+    }
+
+    /// Serves all connections, each for a bounded number of steps. It does not wait.
+    pub fn serve(&mut self, now: Duration) -> Result<(), AllocError> {
+        self.desk.now = now;
+        if let Ok(ready) = self.door.look(self.alloc) {
+            wake(&mut self.clients, ready.as_slice());
+        }
+        self.desk.settle_all()?;
+        self.accept()?;
+        let has_more = self.give_turns()?;
+        self.desk.replies.clear();
+        // Nobody waits for a lock any more whose connection is over.
+        if self.desk.kept.queued() > 0 {
+            let tickets = awaited(self.alloc, self.clients.as_slice())?;
+            self.desk.kept.keep(tickets.as_slice());
+        }
+        self.has_more = has_more || self.door.has_callers;
+        Ok(())
+    }
+}
