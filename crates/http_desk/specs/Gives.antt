@@ -1,9 +1,8 @@
 -- What is sent to a connection.
 use Rattle.std.specs.Prelude.{◌≡◌, ◌⊎◌, ℕ, List, Option}
 use Rattle.std.specs.Option.{IsSomeAnd}
-use Rattle.http_desk.specs.declared.reply.Reply.{Reply}
-use Rattle.http_desk.specs.declared.request.Asked.{Asked}
+use Rattle.http_desk.specs.declared.services.Answered.{Answered}
 
 -- a response is the answer that was found for what was asked, or 503
-abbrev pub IsGiven : Option (Asked × Reply) → ℕ → List ℕ → Type 0
-IsGiven found status body = (status ≡ 503) ⊎ IsSomeAnd found (λ f. (status ≡ f.1.status) × (body ≡ f.1.body.items))
+abbrev pub IsGiven : Option Answered → ℕ → List ℕ → Type 0
+IsGiven found status body = (status ≡ 503) ⊎ IsSomeAnd found (λ f. (status ≡ f.reply.status) × (body ≡ f.reply.body.items))

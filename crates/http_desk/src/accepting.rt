@@ -2,7 +2,7 @@
 
 use mio::net::{TcpListener, TcpStream};
 use mio::{Events, Interest, Poll, Token};
-use std::alloc::Global;
+use std::alloc::{AllocError, Global};
 use std::io;
 use std::io::Write;
 use std::net::{Net, SocketAddr};
@@ -59,6 +59,15 @@ impl Drop for Door {
     }
 }
 
+// The tokens of all that is ready.
+fn tokens_of(alloc: Global, events: &Events) -> Result<Vec<usize>, AllocError> {
+    let mut tokens = Vec::new(alloc);
+    for event in events.iter() {
+        tokens.push(event.token().0)?;
+    }
+    Ok(tokens)
+}
+
 impl Door {
     pub(crate) fn bind<R: Net>(alloc: Global, rt: &R, at: SocketAddr) -> io::Result<Door> {
         let poll = Poll::new(rt)?;
@@ -82,13 +91,8 @@ impl Door {
     /// Which connections are ready. It does not wait.
     pub(crate) fn look(&mut self, alloc: Global) -> io::Result<Vec<usize>> {
         self.poll.poll(&mut self.events, Some(Duration::ZERO))?;
-        let mut ready = Vec::new(alloc);
-        for event in self.events.iter() {
-            match event.token().0 {
-                LISTENER => self.has_callers = true,
-                id => ready.push(id)?,
-            }
-        }
+        let ready = tokens_of(alloc, &self.events)?;
+        self.has_callers = self.has_callers || ready.as_slice().contains(&LISTENER);
         Ok(ready)
     }
 

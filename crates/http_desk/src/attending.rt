@@ -6,7 +6,7 @@ ghost use Rattle.http_desk.specs.Replies.{AnswersValue};
 
 use crate::changes::Since;
 use crate::client::{Client, Hold, Step};
-use crate::desk::Desk;
+use crate::desk::{Answer, Desk};
 use crate::history::Tag;
 use crate::json::{put_entries, put_keys, put_lock, put_locks};
 use crate::kept::Kept;
@@ -40,13 +40,14 @@ fn value_reply(alloc: Global, map: &ReplicatedMap, key: &[u8]) -> Result<Reply, 
 }
 
 // The answer for a ticket, if it is there.
-fn taken(
-    replies: &mut Vec<(u64, Reply, Option<Tag>)>,
-    ticket: u64,
-) -> Option<(Reply, Option<Tag>)> {
-    let index = replies.iter().position(|reply| reply.0 == ticket)?;
-    let (_ticket, reply, at) = replies.swap_remove(index);
-    Some((reply, at))
+fn taken(replies: &mut Vec<Answer>, ticket: u64) -> Option<Answer> {
+    let index = replies.iter().position(|answer| answer.ticket == ticket)?;
+    Some(replies.swap_remove(index))
+}
+
+// All that there is of something.
+fn whole(media: Media, body: Result<Vec<u8>, AllocError>) -> Result<Reply, AllocError> {
+    Ok(Reply::of(StatusCode::OK, media, body?))
 }
 
 // What there is at once for a request, or what it waits for.
@@ -158,10 +159,9 @@ impl Desk {
     }
 
     // The picture of the last events.
-    fn picture(&self) -> Result<Reply, AllocError> {
+    fn picture(&self) -> Result<Vec<u8>, AllocError> {
         let events = self.history.events();
-        let picture = draw(self.alloc, events, &[], &[], Verdict::Holds)?;
-        Ok(Reply::of(StatusCode::OK, Media::Svg, picture))
+        draw(self.alloc, events, &[], &[], Verdict::Holds)
     }
 
     // Until when who asks now waits for so many seconds.
@@ -192,24 +192,18 @@ impl Desk {
         let reply = match asked {
             Asked::Write(order) => return self.ordered(order),
             Asked::Changes(tag) => return self.changes(tag.as_slice()),
-            Asked::Value(key) => self.value(key.as_slice())?,
-            Asked::Entries => self.entries()?,
-            Asked::Lock(name) => self.lock(name.as_slice())?,
-            Asked::Locks => self.locks()?,
-            Asked::Status => {
-                let body = status(self.alloc, &self.standing())?;
-                Reply::of(StatusCode::OK, Media::Json, body)
-            }
-            Asked::Metrics => {
-                let body = metrics(self.alloc, &self.standing())?;
-                Reply::of(StatusCode::OK, Media::Metrics, body)
-            }
-            Asked::Events => Reply::of(StatusCode::OK, Media::Text, self.history.text()?),
-            Asked::Picture => self.picture()?,
-            Asked::Page => Reply::of(StatusCode::OK, Media::Html, page(self.alloc)?),
-            Asked::Refused(refusal) => Reply::refused(self.alloc, *refusal)?,
+            Asked::Value(key) => self.value(key.as_slice()),
+            Asked::Entries => self.entries(),
+            Asked::Lock(name) => self.lock(name.as_slice()),
+            Asked::Locks => self.locks(),
+            Asked::Status => whole(Media::Json, status(self.alloc, &self.standing())),
+            Asked::Metrics => whole(Media::Metrics, metrics(self.alloc, &self.standing())),
+            Asked::Events => whole(Media::Text, self.history.text()),
+            Asked::Picture => whole(Media::Svg, self.picture()),
+            Asked::Page => whole(Media::Html, page(self.alloc)),
+            Asked::Refused(refusal) => Reply::refused(self.alloc, *refusal),
         };
-        Ok(Found::Reply(reply))
+        Ok(Found::Reply(reply?))
     }
 
     // Answers what a connection asks, or notes what it waits for.
@@ -240,7 +234,8 @@ impl Desk {
         until: Duration,
         end: Duration,
     ) -> Result<Found, AllocError> {
-        if let Some((reply, at)) = taken(&mut self.replies, ticket) {
+        if let Some(answer) = taken(&mut self.replies, ticket) {
+            let Answer { ticket: _, reply, at } = answer;
             return Ok(self.given(reply, at));
         }
         if self.now >= until && self.kept.is_queued(ticket) {

@@ -1,12 +1,12 @@
 //! A connection. Its requests are read ahead by one `Connection`, and answered by another one that is given the same bytes: what the second one sends are answers to
 //! the requests that came, whatever the first one makes of them.
 
-use crate::history::Tag;
 use crate::accepting::Caller;
+use crate::history::Tag;
 use crate::kept::Keeps;
 use crate::reply::Reply;
 use crate::request::Asked;
-use crate::services::{Giving, Noting};
+use crate::services::{Answered, Giving, Noting};
 use http_server::{Config, Connection};
 use mio::net::TcpStream;
 use std::alloc::{AllocError, Global};
@@ -257,7 +257,7 @@ impl Client {
     }
 
     // The connection itself refuses what is no request.
-    fn advance(&mut self, found: Option<(Asked, Reply)>) {
+    fn advance(&mut self, found: Option<Answered>) {
         let mut giving = Giving {
             alloc: self.alloc,
             keeps: self.keeps,
@@ -298,7 +298,7 @@ impl Client {
     pub(crate) fn give(&mut self, reply: Reply) {
         self.hold = Hold::Nothing;
         if let Some(asked) = self.asked.take() {
-            self.advance(Some((asked, reply)));
+            self.advance(Some(Answered { asked, reply }));
         }
     }
 }

@@ -1,6 +1,6 @@
 //! What a desk knows of its node beside what the node keeps.
 
-use crate::history::Tag;
+use crate::history::{Tag, member_of};
 use address::{Address, ViewId};
 use std::alloc::{AllocError, Global};
 use std::time::Duration;
@@ -120,21 +120,17 @@ impl Counts {
 
     /// What happened next; events of other members leave it as it is.
     pub(crate) fn hear(&mut self, event: &Event, now: Duration) -> Result<(), AllocError> {
+        if member_of(event) != self.own {
+            return Ok(());
+        }
         match event {
-            Event::Sent(sending) if sending.member == self.own => {
-                self.sent = self.sent.saturating_add(1);
-            }
-            Event::Delivered(delivery) if delivery.member == self.own => {
+            Event::Sent(_) => self.sent = self.sent.saturating_add(1),
+            Event::Delivered(_) => {
                 self.delivered = self.delivered.saturating_add(1);
                 self.place = self.place.saturating_add(1);
             }
-            Event::Blocked(member) if *member == self.own => self.blocked = Some(now),
-            Event::Installed(install) => {
-                let install = install.get();
-                if install.member == self.own {
-                    self.install(install)?;
-                }
-            }
+            Event::Blocked(_) => self.blocked = Some(now),
+            Event::Installed(install) => return self.install(install.get()),
             _ => (),
         }
         Ok(())

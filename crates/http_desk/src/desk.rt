@@ -16,6 +16,14 @@ use std::alloc::{AllocError, Global};
 use std::time::Duration;
 use trace_props::{Delivery, Event};
 
+/// The answer of a ticket, perhaps only once all members have delivered what stands up to a place.
+#[derive(Drop)]
+pub(crate) struct Answer {
+    pub(crate) ticket: u64,
+    pub(crate) reply: Reply,
+    pub(crate) at: Option<Tag>,
+}
+
 /// What a node keeps for those who ask it, and what it answers them.
 pub(crate) struct Desk {
     pub(crate) alloc: Global,
@@ -31,8 +39,8 @@ pub(crate) struct Desk {
     pub(crate) writes: Writes,
     // The view of which it was told last how many messages are stable, and how many.
     pub(crate) stable: Option<(ViewId, u64)>,
-    // Answers that their connections have not taken: by their tickets, each perhaps only once all members have delivered what stands up to a place.
-    pub(crate) replies: Vec<(u64, Reply, Option<Tag>)>,
+    // Answers that their connections have not taken.
+    pub(crate) replies: Vec<Answer>,
     tickets: u64,
     pub(crate) has_ended: bool,
     pub(crate) now: Duration,
@@ -201,7 +209,7 @@ impl Desk {
 
     // The answer of a ticket is there.
     fn answer(&mut self, ticket: u64, reply: Reply, at: Option<Tag>) -> Result<(), AllocError> {
-        self.replies.push((ticket, reply, at))?;
+        self.replies.push(Answer { ticket, reply, at })?;
         Ok(())
     }
 

@@ -117,6 +117,16 @@ fn stands_behind(keys: &[Vec<u8>], index: usize, key: &[u8]) -> bool {
         .any(|other| other.as_slice() == key)
 }
 
+// A key, and what it has.
+fn put_key(out: &mut Vec<u8>, map: &ReplicatedMap, key: &[u8]) -> Result<(), AllocError> {
+    put_string(out, key)?;
+    put(out, b":")?;
+    match map.get(key) {
+        Some(held) => put_string(out, held.value.as_slice()),
+        None => put(out, b"null"),
+    }
+}
+
 /// Appends these keys of a map as an object, each once: with its value, or `null` if it has none.
 pub(crate) fn put_keys(
     out: &mut Vec<u8>,
@@ -126,18 +136,10 @@ pub(crate) fn put_keys(
     out.push(b'{')?;
     let mut is_first = true;
     for (i, key) in keys.iter().enumerate() {
-        if stands_behind(keys, i, key.as_slice()) {
-            continue;
-        }
-        if !is_first {
-            out.push(b',')?;
-        }
-        is_first = false;
-        put_string(out, key.as_slice())?;
-        out.push(b':')?;
-        match map.get(key.as_slice()) {
-            Some(held) => put_string(out, held.value.as_slice())?,
-            None => put(out, b"null")?,
+        if !stands_behind(keys, i, key.as_slice()) {
+            put(out, if is_first { b"" } else { b"," })?;
+            is_first = false;
+            put_key(out, map, key.as_slice())?;
         }
     }
     put(out, b"}\n")

@@ -95,29 +95,28 @@ fn token_reply(alloc: Global, token: &Token) -> Result<Reply, AllocError>
 fn lock_reply(alloc: Global, fate: &lock_service::Fate) -> Result<Option<Reply>, AllocError>
     ensures { IfOk result (AnswersLockFate fate.now) }
 {
-    match fate {
-        lock_service::Fate::Granted(token) => Ok(Some(token_reply(alloc, token)?)),
-        lock_service::Fate::Full => Ok(Some(Reply::words(
+    let reply = match fate {
+        lock_service::Fate::Granted(token) => token_reply(alloc, token),
+        lock_service::Fate::Full => Reply::words(
             alloc,
             StatusCode::INSUFFICIENT_STORAGE,
             b"the table is full\n",
-        )?)),
-        lock_service::Fate::Gone => Ok(Some(Reply::words(
+        ),
+        lock_service::Fate::Gone => Reply::words(
             alloc,
             StatusCode::SERVICE_UNAVAILABLE,
             b"the node does not wait for the lock any more\n",
-        )?)),
-        lock_service::Fate::Released => {
-            Ok(Some(Reply::words(alloc, StatusCode::OK, b"done\n")?))
-        }
-        lock_service::Fate::NotHeld => Ok(Some(Reply::words(
+        ),
+        lock_service::Fate::Released => Reply::words(alloc, StatusCode::OK, b"done\n"),
+        lock_service::Fate::NotHeld => Reply::words(
             alloc,
             StatusCode::NOT_FOUND,
             b"the node neither holds the lock nor waits for it\n",
-        )?)),
-        lock_service::Fate::NoRequest => { Ok(Some(Reply::plain(alloc, StatusCode::BAD_REQUEST)?)) }
-        lock_service::Fate::HandedBack => Ok(None),
-    }
+        ),
+        lock_service::Fate::NoRequest => Reply::plain(alloc, StatusCode::BAD_REQUEST),
+        lock_service::Fate::HandedBack => return Ok(None),
+    };
+    Ok(Some(reply?))
 }
 
 fn known_of_lock(alloc: Global, answer: &lock_service::Answer) -> Result<Known, AllocError>

@@ -84,24 +84,27 @@ fn asked_of_kept(
     let path = request.uri().path();
     let is_map = keeps == Keeps::Map;
     let is_locks = keeps == Keeps::Locks;
-    if let Some(name) = path.strip_prefix("/map/") {
+    let asked = if let Some(key) = path.strip_prefix("/map/") {
         if is_map {
-            return Ok(Some(asked_of_key(alloc, request, name.as_bytes())?));
+            asked_of_key(alloc, request, key.as_bytes())
+        } else {
+            Ok(Asked::Refused(Refusal::NotKept))
         }
-        return Ok(Some(Asked::Refused(Refusal::NotKept)));
-    }
-    if let Some(name) = path.strip_prefix("/locks/") {
+    } else if let Some(name) = path.strip_prefix("/locks/") {
         if is_locks {
-            return Ok(Some(asked_of_lock(alloc, request, name.as_bytes())?));
+            asked_of_lock(alloc, request, name.as_bytes())
+        } else {
+            Ok(Asked::Refused(Refusal::NotKept))
         }
-        return Ok(Some(Asked::Refused(Refusal::NotKept)));
-    }
-    match path {
-        "/map" if is_map => Ok(Some(asked_of_all(alloc, request)?)),
-        "/locks" if is_locks => Ok(Some(asked_of_table(request))),
-        "/map" | "/locks" => Ok(Some(Asked::Refused(Refusal::NotKept))),
-        _ => Ok(None),
-    }
+    } else {
+        match path {
+            "/map" if is_map => asked_of_all(alloc, request),
+            "/locks" if is_locks => Ok(asked_of_table(request)),
+            "/map" | "/locks" => Ok(Asked::Refused(Refusal::NotKept)),
+            _ => return Ok(None),
+        }
+    };
+    Ok(Some(asked?))
 }
 
 /// What a request asks of a node that keeps this.

@@ -39,7 +39,14 @@ impl Service for Noting {
 pub(crate) struct Giving {
     pub(crate) alloc: Global,
     pub(crate) keeps: Keeps,
-    pub(crate) found: Option<(Asked, Reply)>,
+    pub(crate) found: Option<Answered>,
+}
+
+/// What was asked, and the answer that was found.
+#[derive(Drop)]
+pub(crate) struct Answered {
+    pub(crate) asked: Asked,
+    pub(crate) reply: Reply,
 }
 
 fn add(
@@ -99,9 +106,9 @@ impl Service for Giving {
         response: &mut Response,
     ) -> Result<(), AllocError> {
         let asked = asked_by(self.alloc, request, self.keeps)?;
-        if let Some((noted, reply)) = &self.found {
-            if asked == *noted {
-                return fill(self.alloc, reply, response);
+        if let Some(found) = &self.found {
+            if asked == found.asked {
+                return fill(self.alloc, &found.reply, response);
             }
         }
         response.status = StatusCode::SERVICE_UNAVAILABLE;

@@ -81,12 +81,14 @@ impl HttpDesk {
         says_again: bool,
         at: SocketAddr,
     ) -> io::Result<HttpDesk> {
+        let keys = RandomState::new(rt)?;
+        let desk = Desk::new(alloc, keeps, own, says_again)?;
         Ok(HttpDesk {
             alloc,
             door: Door::bind(alloc, rt, at)?,
-            keys: RandomState::new(rt)?,
+            keys,
             clients: Vec::new(alloc),
-            desk: Desk::new(alloc, keeps, own, says_again)?,
+            desk,
             has_more: true,
         })
     }

@@ -106,12 +106,19 @@ fn address_of<R: std::net::Net>(network: &R, text: &str) -> Result<IpAddr, BindE
 fn look_up<R: std::net::Net>(network: &R, name: &str) -> Result<IpAddr, BindError> {
     // No port is asked for.
     match (name, 0).to_socket_addrs(network) {
-        Ok(mut found) => {
-            let first = found.next().ok_or(BindError::Bind)?;
-            if first.is_ipv4() {
-                return Ok(first.ip());
+        Ok(found) => {
+            let mut host = None;
+            for next in found {
+                let is_better = match host {
+                    None => true,
+                    Some(IpAddr::V6(_)) => next.is_ipv4(),
+                    Some(IpAddr::V4(_)) => false,
+                };
+                if is_better {
+                    host = Some(next.ip());
+                }
             }
-            Ok(found.find(|next| next.is_ipv4()).unwrap_or(first).ip())
+            host.ok_or(BindError::Bind)
         }
         Err(error) if error.kind() == ErrorKind::OutOfMemory => Err(BindError::Memory),
         Err(_) => Err(BindError::Bind),

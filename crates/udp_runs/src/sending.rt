@@ -177,7 +177,8 @@ impl<'a, N: Net, C: Application> LoneNode<'a, N, C> {
         ensures same { (self.new.teller.voice ≡ self.old.teller.voice) × (self.new.once ≡ self.old.once) }
     {
         let lines = self.teller.unsaid.take_lines();
-        self.outbox.begin_with(lines.as_slice())
+        self.outbox.begin_with(lines.as_slice())?;
+        Ok(())
     }
 
     // The line that it is to send next; none while a line is to be told of that cannot be sent.
@@ -256,7 +257,8 @@ impl<'a, N: Net, C: Application> LoneNode<'a, N, C> {
         }
         self.send_first()?;
         self.send_once()?;
-        self.send_lines()
+        self.send_lines()?;
+        Ok(())
     }
 
     // Takes the lines that came.

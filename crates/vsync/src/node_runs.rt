@@ -219,7 +219,49 @@ fn machine_of<'x, 'y, R: AllocGlobal>(
     )
 }
 
-// Runs the members of a node on a machine, one after another, and says what is to be said of them on the standard error.
+// Runs a member of a node on a machine, and says what is to be said of it on the standard error. Answers the plan of the next, which has what this one did not say
+// of what is sent once; or the status with which the program ends.
+fn run_one<
+    'a,
+    A: Application,
+    L: Lines,
+    R: Files + Net + RandomSource + Clock + Print + Eprint + AllocGlobal,
+    W: Write + Drop,
+>(
+    rt: &R,
+    settings: &Settings,
+    plan: &MemberPlan<'a>,
+    options: &MemberOptions<'_>,
+    pauses: &mut u32,
+    lines: &mut L,
+    machine: &mut Watched<'_, '_, R>,
+    output: &mut Output<W>,
+) -> Result<MemberPlan<'a>, Status> {
+    let manner = manner_of(options);
+    let status = run_member::<A, _, _, _>(
+        rt.alloc(),
+        settings,
+        plan,
+        manner,
+        lines,
+        machine,
+        output,
+    );
+    let tally = machine.tally().unwrap_or(Tally::new());
+    report(rt, &tally, options.stats);
+    if tally.trouble.is_some() || !begins_again(status, &tally, options) {
+        return Err(end_of(rt, status, &tally, machine, output.has_failed()));
+    }
+    *pauses = pause(rt, plan.address, status, &tally, *pauses);
+    Ok(MemberPlan {
+        address: next_of(rt, plan.address, options)?,
+        rounds: plan.rounds.saturating_sub(tally.rounds.saturating_add(1)),
+        contact: None,
+        send: if tally.is_unsaid { plan.send } else { None },
+    })
+}
+
+// Runs the members of a node on a machine, one after another.
 fn run_members<
     A: Application,
     L: Lines,
@@ -234,39 +276,22 @@ fn run_members<
     machine: &mut Watched<'_, '_, R>,
     output: &mut Output<W>,
 ) -> Status {
-    let (mut address, mut rounds, mut contact) = (plan.address, plan.rounds, plan.contact);
-    let (mut is_unsaid, mut pauses) = (true, 0);
+    let mut plan = *plan;
+    let mut pauses = 0;
     for _ in 0..u64::MAX {
-        let send = if is_unsaid { plan.send } else { None };
-        let member = MemberPlan {
-            address,
-            rounds,
-            contact,
-            send,
-        };
-        let manner = manner_of(options);
-        let status = run_member::<A, _, _, _>(
-            rt.alloc(),
+        match run_one::<A, _, _, _>(
+            rt,
             settings,
-            &member,
-            manner,
+            &plan,
+            options,
+            &mut pauses,
             lines,
             machine,
             output,
-        );
-        let tally = machine.tally().unwrap_or(Tally::new());
-        report(rt, &tally, options.stats);
-        if tally.trouble.is_some() || !begins_again(status, &tally, options) {
-            return end_of(rt, status, &tally, machine, output.has_failed());
-        }
-        pauses = pause(rt, address, status, &tally, pauses);
-        address = match next_of(rt, address, options) {
-            Ok(next) => next,
+        ) {
+            Ok(next) => plan = next,
             Err(status) => return status,
-        };
-        rounds = rounds.saturating_sub(tally.rounds.saturating_add(1));
-        contact = None;
-        is_unsaid = tally.is_unsaid;
+        }
     }
     Status::Done
 }
