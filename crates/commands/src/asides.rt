@@ -204,10 +204,8 @@ fn line_at(lines: &[u64], index: usize) -> u64
 // Carries out one event.
 fn step<R: Receiver>(world: &mut World<R>, event: &WorldEvent) -> Result<(), AllocError>
     ensures step { OnOk result (WorldStep R.meaning (shown world.old) event.now (shown world.new)) }
-    ensures faithful { OnOk result (IsFaithful world.new.history) }
-    ensures ordered { OnOk result (EachPlace IsWellOrdered world.new.history.trace) }
-    ensures synchronous { OnOk result (IsVirtuallySynchronous R.meaning world.new.history.trace) }
-    ensures agreeing { OnOk result (EachPlace (ReplicasAgree R.meaning) world.new.history.trace) }
+    ensures sound { OnOk result (IsFaithful world.new.history × EachPlace IsWellOrdered world.new.history.trace
+        × IsVirtuallySynchronous R.meaning world.new.history.trace × EachPlace (ReplicasAgree R.meaning) world.new.history.trace) }
 {
     world.run(slice::from_ref(event))?;
     Ok(())
@@ -221,10 +219,8 @@ fn play_alone<R: Receiver>(
     event: &WorldEvent,
 ) -> Result<(), AllocError>
     ensures step { OnOk result (WorldStep R.meaning (shown world.old) event.now (shown world.new)) }
-    ensures faithful { OnOk result (IsFaithful world.new.history) }
-    ensures ordered { OnOk result (EachPlace IsWellOrdered world.new.history.trace) }
-    ensures synchronous { OnOk result (IsVirtuallySynchronous R.meaning world.new.history.trace) }
-    ensures agreeing { OnOk result (EachPlace (ReplicasAgree R.meaning) world.new.history.trace) }
+    ensures sound { OnOk result (IsFaithful world.new.history × EachPlace IsWellOrdered world.new.history.trace
+        × IsVirtuallySynchronous R.meaning world.new.history.trace × EachPlace (ReplicasAgree R.meaning) world.new.history.trace) }
     ensures asides { OnOk result (asides.new.items ≡ asides.old.items ++ asides_between false line event.now world.old.history world.new.history) }
 {
     let replied = world.replies().len();
@@ -243,10 +239,8 @@ fn play_with_packets<R: Receiver>(
     event: &WorldEvent,
 ) -> Result<(), AllocError>
     ensures step { OnOk result (WorldStep R.meaning (shown world.old) event.now (shown world.new)) }
-    ensures faithful { OnOk result (IsFaithful world.new.history) }
-    ensures ordered { OnOk result (EachPlace IsWellOrdered world.new.history.trace) }
-    ensures synchronous { OnOk result (IsVirtuallySynchronous R.meaning world.new.history.trace) }
-    ensures agreeing { OnOk result (EachPlace (ReplicasAgree R.meaning) world.new.history.trace) }
+    ensures sound { OnOk result (IsFaithful world.new.history × EachPlace IsWellOrdered world.new.history.trace
+        × IsVirtuallySynchronous R.meaning world.new.history.trace × EachPlace (ReplicasAgree R.meaning) world.new.history.trace) }
     ensures asides { OnOk result (asides.new.items ≡ asides.old.items ++ asides_between true line event.now world.old.history world.new.history) }
 {
     let past = world.packets().len();
@@ -272,10 +266,8 @@ fn play_event<R: Receiver>(
     event: &WorldEvent,
 ) -> Result<(), AllocError>
     ensures step { OnOk result (WorldStep R.meaning (shown world.old) event.now (shown world.new)) }
-    ensures faithful { OnOk result (IsFaithful world.new.history) }
-    ensures ordered { OnOk result (EachPlace IsWellOrdered world.new.history.trace) }
-    ensures synchronous { OnOk result (IsVirtuallySynchronous R.meaning world.new.history.trace) }
-    ensures agreeing { OnOk result (EachPlace (ReplicasAgree R.meaning) world.new.history.trace) }
+    ensures sound { OnOk result (IsFaithful world.new.history × EachPlace IsWellOrdered world.new.history.trace
+        × IsVirtuallySynchronous R.meaning world.new.history.trace × EachPlace (ReplicasAgree R.meaning) world.new.history.trace) }
     ensures asides { OnOk result (asides.new.items ≡ asides.old.items ++ asides_between packets line event.now world.old.history world.new.history) }
 {
     if packets {

@@ -15,7 +15,7 @@ pub loop-index-preserved : goal.loop-index-preserved
 loop-index-preserved g c = (
   more-beside g.R.Receiver.meaning c.args.packets c.args.lines.now c.args.events.now c.loop-index.index c.line_at.result c.index-events-index.result (shown c.loop-index.world) (shown c.play_event.new.world)
       c.loop-index.asides.items c.play_event.new.asides.items c.loop-index-test.true c.index-events-index.is c.loop-index.invariant.0 c.in_ok-play_event.ensures.step c.line_at.ensures c.in_ok-play_event.ensures.asides,
-  record { faithful = c.in_ok-play_event.ensures.faithful; ordered = c.in_ok-play_event.ensures.ordered; synchronous = c.in_ok-play_event.ensures.synchronous; agreeing = c.in_ok-play_event.ensures.agreeing },
+  (let (faithful, ordered, synchronous, agreeing) = c.in_ok-play_event.ensures.sound in record { faithful = faithful; ordered = ordered; synchronous = synchronous; agreeing = agreeing }),
 )
 
 -- there is no other event
