@@ -5,7 +5,7 @@ ghost use Rattle.udp_runs.specs.Loopbacks.{nothing_asked, unbound_after, IsSeale
 
 use address::{Address, Node};
 use frames::{BOOT, FramedNet};
-use node_turns::{NodeMachine, Tally};
+use node_turns::{NodeMachine, NodeStatus, Notice, Tally};
 use std::alloc::Global;
 use std::marker::Model;
 use std::os::fd::RawFd;
@@ -187,6 +187,15 @@ impl<'a, R: std::net::Net + RandomSource + Clock> NodeMachine for Loopback<'a, R
 
     // Its socket is closed.
     fn close(&mut self, _member: Address, _net: NodeNet)
+        ensures { self.new ≡ self.old }
+    {}
+
+    // Nobody looks after its nodes.
+    fn show(&mut self, _status: &NodeStatus, _members: &[Address])
+        ensures { self.new ≡ self.old }
+    {}
+
+    fn notice(&mut self, _notice: Notice)
         ensures { self.new ≡ self.old }
     {}
 

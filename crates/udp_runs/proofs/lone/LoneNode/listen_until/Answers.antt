@@ -23,7 +23,7 @@ loop-preserved g c =
       λ group start later owed earlier none. tells-then _ _ _ _ group _ _ _ _ _ _ _ _ _ (told group start later owed (earlier-trans _ _ _ (rw c.look.ensures at c.listen_for.ensures.grows) earlier) none)
           (rw (voice, once) at c.in-Ok.ensures.tells group start later (rw c.look.ensures (owes start owed)) earlier),
       c.listen_for.ensures.same.0 ∙ voice,
-      c.now.ensures ∙ gone,
+      c.now-self.ensures ∙ gone,
       c.listen_for.ensures.same.1 ∙ once,
       earlier-trans _ _ _ grows (rw c.look.ensures at c.listen_for.ensures.grows),
       λ start owed. c.in-Ok.ensures.owes start (rw c.look.ensures (owes start owed)),

@@ -17,3 +17,9 @@ returns-in_ok-from_slice-in-Ok-Some-clause-line g c start came x = line-of start
 pub returns-in-Err-Long-clause-owes : goal.returns-in-Err-Long-clause-owes
 returns-in-Err-Long-clause-owes g c start came x = subst (λ (q : OutboxModel). Owes start came q c.args.self.now.teller.unsaid) (sym c.drop_long.ensures)
     (owes-without-long start came c.see_end.new.self c.args.self.now.teller.unsaid (subst (λ (q : OutboxModel). Owes start came q c.args.self.now.teller.unsaid) (sym c.see_end.ensures) x))
+
+pub returns-in_ok-from_slice-in-Ok-Some-clause-owes : goal.returns-in_ok-from_slice-in-Ok-Some-clause-owes
+returns-in_ok-from_slice-in-Ok-Some-clause-owes g c = λ start came x. subst (λ (q : OutboxModel). Owes start came q c.args.self.now.teller.unsaid) (sym c.see_end.ensures) x
+
+pub returns-in-Ok-None-clause-owes : goal.returns-in-Ok-None-clause-owes
+returns-in-Ok-None-clause-owes g c = λ start came x. subst (λ (q : OutboxModel). Owes start came q c.args.self.now.teller.unsaid) (sym c.see_end.ensures) x
