@@ -235,7 +235,11 @@ impl Desk {
         end: Duration,
     ) -> Result<Found, AllocError> {
         if let Some(answer) = taken(&mut self.replies, ticket) {
-            let Answer { ticket: _, reply, at } = answer;
+            let Answer {
+                ticket: _,
+                reply,
+                at,
+            } = answer;
             return Ok(self.given(reply, at));
         }
         if self.now >= until && self.kept.is_queued(ticket) {

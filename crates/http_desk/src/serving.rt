@@ -1,10 +1,10 @@
 //! The desk of a node, with the connections that it answers.
 
+use crate::CLIENTS;
 use crate::accepting::{Caller, Door};
 use crate::client::Client;
 use crate::desk::Desk;
 use crate::kept::Keeps;
-use crate::CLIENTS;
 use address::{Address, ViewId};
 use std::alloc::{AllocError, Global};
 use std::hash::RandomState;

@@ -94,9 +94,7 @@ pub(crate) fn redirect<R: Receiver>(
 {
     match first_in(member_state) {
         None => Ok(()),
-        Some(first) => {
-            who.put(address, Body::Redirect(first), out)
-        }
+        Some(first) => { who.put(address, Body::Redirect(first), out) }
     }
 }
 

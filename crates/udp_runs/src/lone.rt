@@ -72,7 +72,11 @@ fn goes_on(has_ended: &mut bool, answer: Result<(), Error>) -> Result<(), Cut> {
 // When a round is due behind one that was: a tick after that was due, or after now, if that is half a tick or more ago.
 fn due_after(due: Duration, tick: Duration, now: Duration) -> Duration {
     let late = now.saturating_sub(due);
-    let last = if late.saturating_add(late) < tick { due } else { now };
+    let last = if late.saturating_add(late) < tick {
+        due
+    } else {
+        now
+    };
     last.saturating_add(tick)
 }
 
@@ -111,8 +115,7 @@ impl<'a, N: Net, C: Application> LoneNode<'a, N, C> {
     }
 
     /// What happened to it, in numbers.
-    pub(crate) fn tally(&self) -> Tally
-    {
+    pub(crate) fn tally(&self) -> Tally {
         let mut tally = self.teller.tally;
         tally.garbled = self.member.garbled();
         tally.foreign = self.member.foreign();

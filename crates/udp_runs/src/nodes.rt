@@ -50,8 +50,8 @@ impl<N: Net, C: Application> Nodes<N, C> {
         ensures unused { IfOk result (λ nodes. AreUnused nodes.node_states.items) }
         ensures listed { IfOk result (λ nodes. AreListed settings.now.nodes nodes.node_states.items) }
     {
-        let mut node_states = Vec::with_capacity(alloc, settings.nodes().len())?;
         let places = sorted(alloc, settings)?;
+        let mut node_states = Vec::with_capacity(alloc, settings.nodes().len())?;
         for place in places.as_slice() {
             node_states.push(NodeState::new(place))?;
         }

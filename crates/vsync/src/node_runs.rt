@@ -276,7 +276,7 @@ fn run_members<
     machine: &mut Watched<'_, '_, R>,
     output: &mut Output<W>,
 ) -> Status {
-    let mut plan = *plan;
+    let mut plan = MemberPlan { ..*plan };
     let mut pauses = 0;
     for _ in 0..u64::MAX {
         match run_one::<A, _, _, _>(
