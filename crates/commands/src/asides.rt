@@ -185,7 +185,7 @@ fn add_put_out_at(
 {
     match site {
         None => Ok(()),
-        Some(node) => { add_put_out(asides, place, node, past, packets) }
+        Some(node) => add_put_out(asides, place, node, past, packets),
     }
 }
 

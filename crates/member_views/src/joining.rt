@@ -94,7 +94,7 @@ pub(crate) fn redirect<R: Receiver>(
 {
     match first_in(member_state) {
         None => Ok(()),
-        Some(first) => { who.put(address, Body::Redirect(first), out) }
+        Some(first) => who.put(address, Body::Redirect(first), out),
     }
 }
 
@@ -128,11 +128,9 @@ fn outdate<R: Receiver>(
 {
     match &member_state.view_state {
         None => Ok(()),
-        Some(view_state) => {
-            member_state
-                .notes
-                .outdate(&who.address, view_state.view(), &address)
-        }
+        Some(view_state) => member_state
+            .notes
+            .outdate(&who.address, view_state.view(), &address),
     }
 }
 
@@ -148,9 +146,13 @@ fn note_in(
 {
     match view_state {
         None => Ok(()),
-        Some(view_state) => {
-            notes.note_joiner(who.alloc, &who.address, view_state.view(), listed, address)
-        }
+        Some(view_state) => notes.note_joiner(
+            who.alloc,
+            &who.address,
+            view_state.view(),
+            listed,
+            address,
+        ),
     }
 }
 
@@ -163,15 +165,13 @@ fn note_joiner<R: Receiver>(
     ensures { OnOk result (member_state.new ≡ joined who.now.address address member_state.old) }
 {
     match &member_state.flush {
-        None => {
-            note_in(
-                &mut member_state.notes,
-                who,
-                &member_state.view_state,
-                &[],
-                address,
-            )
-        }
+        None => note_in(
+            &mut member_state.notes,
+            who,
+            &member_state.view_state,
+            &[],
+            address,
+        ),
         Some(flush) => {
             let listed = flush.members().as_slice();
             note_in(

@@ -75,7 +75,7 @@ pub fn announce_view<R: Receiver>(
 {
     match view_for(member_state, who, &address) {
         None => Ok(()),
-        Some(view) => { say(who, view, address, out) }
+        Some(view) => say(who, view, address, out),
     }
 }
 
@@ -90,7 +90,7 @@ fn note_in(
 {
     match view_state {
         None => Ok(()),
-        Some(view_state) => { notes.note_view(who.alloc, &who.address, view_state.view(), other) }
+        Some(view_state) => notes.note_view(who.alloc, &who.address, view_state.view(), other),
     }
 }
 

@@ -28,7 +28,7 @@ fn report_again<R: Receiver>(
 {
     match member_state.promise.proposal() {
         None => Ok(()),
-        Some(proposal) => { member_state.report(who, proposal.id(), out) }
+        Some(proposal) => member_state.report(who, proposal.id(), out),
     }
 }
 
@@ -88,7 +88,7 @@ pub fn flush_again<R: Receiver>(
     ensures { OnOk result (Grows who.now.group out.old out.new (flushes_again who.now.address member_state.now) []) }
 {
     match &member_state.flush {
-        Some(flush) => { propose_again(flush, who, out) }
-        None => { report_again(member_state, who, out) }
+        Some(flush) => propose_again(flush, who, out),
+        None => report_again(member_state, who, out),
     }
 }

@@ -117,7 +117,7 @@ fn deliver_last<R: Receiver>(
 {
     match view_state {
         None => Ok(0),
-        Some(view_state) => { deliver_lacking(who, view_state, install, receiver, out) }
+        Some(view_state) => deliver_lacking(who, view_state, install, receiver, out),
     }
 }
 
@@ -140,7 +140,7 @@ fn left_of(
 {
     match view_state {
         None => Ok(HandedBack::nothing(alloc)),
-        Some(view_state) => { view_state.handed_back(own) }
+        Some(view_state) => view_state.handed_back(own),
     }
 }
 

@@ -96,7 +96,7 @@ impl<R: Receiver> MemberState<R> {
     {
         match &self.view_state {
             None => Ok(None),
-            Some(view_state) => { self.due_at(who, view_state.view()) }
+            Some(view_state) => self.due_at(who, view_state.view()),
         }
     }
 
@@ -108,7 +108,7 @@ impl<R: Receiver> MemberState<R> {
     {
         match self.due(who)? {
             None => Ok(()),
-            Some(proposal) => { self.begin(who, &proposal, out) }
+            Some(proposal) => self.begin(who, &proposal, out),
         }
     }
 

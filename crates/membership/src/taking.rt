@@ -54,8 +54,8 @@ impl<R: Receiver> MemberState<R> {
         ensures ignored { is_ignored_offer (offered proposal.now self.old.promise) ≡ true → (result ≡ Ok tt) × StaysAs (in_step self.old out.old) (in_step self.new out.new) }
     {
         match self.promise.answer_to(proposal) {
-            OfferAnswer::Accept => { self.promise(who, proposal, out) }
-            OfferAnswer::Behind(_) => { self.answer_behind(who, proposal, out) }
+            OfferAnswer::Accept => self.promise(who, proposal, out),
+            OfferAnswer::Behind(_) => self.answer_behind(who, proposal, out),
             OfferAnswer::Ignore => Ok(()),
         }
     }

@@ -37,11 +37,15 @@ fn put_aside_group(
     ensures { OnOk result (KnowsWays (row_in ways.now.sources) (row_in ways.now.ends) rows.now → out.new.items ≡ out.old.items ++ aside_group rows.now packets.now row.now) }
 {
     match row.kind {
-        AsideKind::Refused { line, refusal } => { put_refused_group(out, row, line, refusal) }
-        AsideKind::PutOut(number) => {
-            put_packet_group(out, ways, row, number, bytes_numbered(packets, number))
-        }
-        AsideKind::HandedOver(number) => { put_handed_group(out, ways, rows, row, number) }
+        AsideKind::Refused { line, refusal } => put_refused_group(out, row, line, refusal),
+        AsideKind::PutOut(number) => put_packet_group(
+            out,
+            ways,
+            row,
+            number,
+            bytes_numbered(packets, number),
+        ),
+        AsideKind::HandedOver(number) => put_handed_group(out, ways, rows, row, number),
     }
 }
 

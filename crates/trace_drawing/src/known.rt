@@ -286,7 +286,7 @@ fn note_sent(
     ensures { OnOk result ((t : List Event) → number ≡ length t → KnowsSends (get same_message sends.old) t → KnowsSends (get same_message sends.new) (t ++ event.now ∷ [])) }
 {
     match message_sent(event) {
-        Some(message) => { put_row(sends, message, number) }
+        Some(message) => put_row(sends, message, number),
         None => Ok(()),
     }
 }
@@ -300,7 +300,7 @@ fn note_installed(
     ensures { OnOk result ((t : List Event) → number ≡ length t → KnowsInstalls (get same_view_id installs.old) t → KnowsInstalls (get same_view_id installs.new) (t ++ event.now ∷ [])) }
 {
     match view_installed(event) {
-        Some(view) => { put_row(installs, view, number) }
+        Some(view) => put_row(installs, view, number),
         None => Ok(()),
     }
 }

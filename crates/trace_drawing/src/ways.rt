@@ -64,8 +64,8 @@ fn note_row(
 {
     match row.kind {
         AsideKind::Refused { .. } => Ok(()),
-        AsideKind::PutOut(packet) => { sources.put(packet, number) }
-        AsideKind::HandedOver(packet) => { ends.put(packet, number) }
+        AsideKind::PutOut(packet) => sources.put(packet, number),
+        AsideKind::HandedOver(packet) => ends.put(packet, number),
     }
 }
 

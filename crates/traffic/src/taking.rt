@@ -141,7 +141,7 @@ impl Follower {
     {
         match self.missing(highest) {
             None => Ok(()),
-            Some(missing) => { self.ask(who, missing, out) }
+            Some(missing) => self.ask(who, missing, out),
         }
     }
 

@@ -139,7 +139,7 @@ pub fn note_sent<'a>(
     ensures last { OnOk result ((other : MemberInView) (sender : Address) → last_kept (get same_in_view in_views.new other) sender ≡ last_kept (get same_in_view in_views.old other) sender) }
 {
     match in_views.get_mut(&in_view) {
-        Some(kept) => { kept.send(message) }
+        Some(kept) => kept.send(message),
         None => {
             let mut first = InView::new(alloc);
             first.send(message)?;
@@ -161,7 +161,7 @@ pub fn note_delivered<'a>(
         ≡ (if same_in_view in_view other then (if same_address message.now.sender sender then message.now.number else last_kept (get same_in_view in_views.old other) sender) else last_kept (get same_in_view in_views.old other) sender)) }
 {
     match in_views.get_mut(&in_view) {
-        Some(kept) => { kept.deliver(message) }
+        Some(kept) => kept.deliver(message),
         None => {
             let mut first = InView::new(alloc);
             first.deliver(message)?;

@@ -136,7 +136,7 @@ pub fn note_first<'a>(
 {
     match install_in(event) {
         None => Ok(()),
-        Some(install) => { write(firsts, install.view.id(), install) }
+        Some(install) => write(firsts, install.view.id(), install),
     }
 }
 

@@ -65,7 +65,7 @@ fn receive<R: Receiver>(
         ≡ (if same_address member other then R.meaning.apply (unwrap_or (get same_address states.old member) R.meaning.opening) sender payload.now else unwrap_or (get same_address states.old other) R.meaning.opening)) }
 {
     match states.get_mut(&member) {
-        Some(state) => { state.receive(sender, payload) }
+        Some(state) => state.receive(sender, payload),
         None => {
             let mut state = R::opening(alloc)?;
             state.receive(sender, payload)?;
