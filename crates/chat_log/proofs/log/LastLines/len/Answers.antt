@@ -1,8 +1,0 @@
-use Rattle.std.proofs.Common.{rules}
-use Rattle.chat_log.proofs.log.LastLines.len.Goals as goal
-
-pub returns-clause-value : goal.returns-clause-value
-returns-clause-value c = search rules
-
-pub returns-clause-few : goal.returns-clause-few
-returns-clause-few c = search rules

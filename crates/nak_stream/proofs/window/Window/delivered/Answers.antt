@@ -1,5 +1,0 @@
-use Rattle.std.proofs.Common.{rules}
-use Rattle.nak_stream.proofs.window.Window.delivered.Goals as goal
-
-pub returns : goal.returns
-returns c = search rules

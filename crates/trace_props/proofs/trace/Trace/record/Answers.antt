@@ -1,8 +1,0 @@
-use Rattle.std.proofs.Common.{rules}
-use Rattle.trace_props.proofs.trace.Trace.record.Goals as goal
-
-pub returns-clause-events : goal.returns-clause-events
-returns-clause-events c = search rules
-
-pub returns-clause-room : goal.returns-clause-room
-returns-clause-room c = search rules
