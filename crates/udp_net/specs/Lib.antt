@@ -1,6 +1,5 @@
 pub mod Acks
 pub mod Bursts
-pub mod Either
 pub mod Errors
 pub mod Hosts
 pub mod Logs

@@ -5,7 +5,6 @@
 mod acks;
 mod asker;
 mod document;
-mod either_net;
 mod error;
 mod four;
 mod gate;
@@ -24,7 +23,6 @@ mod waiter;
 mod word;
 
 pub use document::settings;
-pub use either_net::EitherNet;
 pub use error::{BindError, Fault, SettingsError};
 pub use four::{FOUR, settings_of};
 pub use held_back::HeldBack;

@@ -1,4 +1,5 @@
 pub mod Loopbacks
+pub mod NodeNets
 pub mod Nodes
 pub mod Carrying
 pub mod Scripts

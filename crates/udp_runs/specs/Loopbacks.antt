@@ -2,14 +2,14 @@
 use Rattle.std.specs.Prelude.{◌≡◌, ℕ, ℤ, Bool, true, false, List, Option, None, Some}
 use Rattle.std.specs.Option.{ForSome}
 use Rattle.hmac.specs.Hmac.{block_key}
-use Rattle.udp_net.specs.declared.either_net.EitherNet.{EitherNet}
-use Rattle.udp_net.specs.declared.either_net.EitherNet.TheVariants.{First, Second}
 use Rattle.udp_net.specs.declared.sieved_net.SievedNet.{SievedNet}
 use Rattle.udp_net.specs.declared.socket_net.SocketNet.{SocketNet}
 use Rattle.udp_net.specs.declared.error.BindError.{BindError}
 use Rattle.udp_net.specs.declared.error.BindError.TheVariants.{Config, Bind, Memory}
 use Rattle.frames.specs.Nets.{FramedModel}
 use Rattle.node_turns.specs.declared.manner.Tally.{Tally}
+use Rattle.udp_runs.specs.declared.node_net.NodeNet.{NodeNet}
+use Rattle.udp_runs.specs.declared.node_net.NodeNet.TheVariants.{Plain, Sealed}
 
 -- whether a socket could not be bound, what was told last of a node that ran by itself, and how its nets are made: whether they take a node's datagrams wherever these
 -- come from, the key that seals them, and what ends their waits too
@@ -29,9 +29,9 @@ abbrev pub IsSealedOver : Bool → List ℕ → SievedNet (FramedModel SocketNet
 IsSealedOver is_open key net = (net.inner.seal.key ≡ block_key key) × (net.inner.inner.is_open ≡ is_open) × (net.inner.inner.is_bare ≡ true)
 
 -- a net of a machine is made as was asked: without a key it is a socket that asks where datagrams come from, unless it is open
-abbrev pub IsMadeBy : LoopbackModel → EitherNet SocketNet (SievedNet (FramedModel SocketNet)) → Type 0
-IsMadeBy m (First socket) = (m.key ≡ None) × (socket.is_open ≡ m.is_open) × (socket.is_bare ≡ false)
-IsMadeBy m (Second net) = ForSome m.key (λ key. IsSealedOver m.is_open key net)
+abbrev pub IsMadeBy : LoopbackModel → NodeNet → Type 0
+IsMadeBy m (Plain socket) = (m.key ≡ None) × (socket.is_open ≡ m.is_open) × (socket.is_bare ≡ false)
+IsMadeBy m (Sealed net) = ForSome m.key (λ key. IsSealedOver m.is_open key net)
 
 -- whether a socket could not be bound, after a net was asked for
 abbrev pub unbound_after : Bool → Option BindError → Bool

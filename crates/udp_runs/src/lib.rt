@@ -4,6 +4,7 @@
 mod lone;
 mod looking;
 mod loopback;
+mod node_net;
 mod node_state;
 mod nodes;
 mod one_node;
@@ -12,8 +13,9 @@ mod searching;
 mod sending;
 mod watch;
 
-pub use loopback::{Loopback, NodeNet};
+pub use loopback::Loopback;
 pub use node_lines::{Lines, LinesError, NoLines};
+pub use node_net::NodeNet;
 pub use node_turns::{LineTrouble, NodeMachine, NodeManner, NodeStatus, Notice, Tally};
 pub use one_node::run_member;
 pub use script::run_udp;

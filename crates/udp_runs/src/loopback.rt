@@ -3,6 +3,7 @@ ghost use Rattle.std.specs.Option.{ForSome};
 ghost use Rattle.std.specs.Result.{result_err};
 ghost use Rattle.udp_runs.specs.Loopbacks.{nothing_asked, unbound_after, IsSealedOver, IsMadeBy};
 
+use crate::node_net::NodeNet;
 use address::{Address, Node};
 use frames::{BOOT, FramedNet};
 use node_turns::{NodeMachine, NodeStatus, Notice, Tally};
@@ -11,10 +12,7 @@ use std::marker::Model;
 use std::os::fd::RawFd;
 use std::random::RandomSource;
 use std::time::{Clock, Duration};
-use udp_net::{BindError, EitherNet, Hosts, Net, Settings, SievedNet, SocketNet};
-
-/// The net of a node: plain datagrams; or frames that are sealed with its group's key, with the words and the packets in them (docs/WIRE.md, "Frames").
-pub type NodeNet = EitherNet<SocketNet, SievedNet<FramedNet<SocketNet>>>;
+use udp_net::{BindError, Hosts, Net, Settings, SievedNet, SocketNet};
 
 /// This machine: each node has a socket of UDP, at its port by the settings. Contracts see whether a socket could not be bound, and what was told.
 pub struct Loopback<'a, R> {
@@ -157,10 +155,10 @@ impl<'a, R: std::net::Net + RandomSource> Loopback<'a, R> {
             let _ = socket.also_wait_for(other);
         }
         let Some(key) = self.key else {
-            return Ok(EitherNet::First(socket));
+            return Ok(NodeNet::Plain(socket));
         };
         let net = sealed(self.alloc, self.runtime, self.settings, node, socket, key)?;
-        Ok(EitherNet::Second(net))
+        Ok(NodeNet::Sealed(net))
     }
 }
 

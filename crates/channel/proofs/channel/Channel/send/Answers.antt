@@ -7,6 +7,3 @@ returns-in-Err-clause-payload g c = search rules
 
 pub returns-in-Ok-Some-clause-calls : goal.returns-in-Ok-Some-clause-calls
 returns-in-Ok-Some-clause-calls g c = grind (arith, common_steps)
-
-pub returns-in-Ok-Some-clause-sent : goal.returns-in-Ok-Some-clause-sent
-returns-in-Ok-Some-clause-sent g c = grind (arith, common_steps)
