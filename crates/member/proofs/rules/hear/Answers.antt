@@ -1,5 +1,6 @@
 -- By the rule of each kind of packet.
-use Rattle.std.proofs.Common.{◌≡◌, Some, sym, ap, ◌∙◌, refl, subst, rules}
+use Rattle.std.proofs.Common.{arith, ◌≡◌, Some, sym, ap, ◌∙◌, refl, subst, rules}
+use Rattle.std.proofs.lemmas.Grind.{common_steps}
 use Rattle.address.specs.Ids.{Address}
 use Rattle.state_transfer.specs.Meanings.{Meaning}
 use Rattle.wire_values.specs.declared.packet.Body.{Body}
@@ -149,3 +150,96 @@ returns-in_ok-on_forward-in-Forward-clause-ignored g c =
 pub returns-in_ok-on_nak-in-Nak-clause-ignored : goal.returns-in_ok-on_nak-in-Nak-clause-ignored
 returns-in_ok-on_nak-in-Nak-clause-ignored g c =
     λ i. let y = c.in_ok-on_nak-in-Nak.ensures.ignored (not-true _ (sym (ap (λ (b : Body). ignores c.args.who.now.address c.args.source b c.args.member_state.now) c.in-Nak.is) ∙ i)) in (refl, y.1)
+
+pub returns-in_err-on_join-in-Join-clause-hears : goal.returns-in_err-on_join-in-Join-clause-hears
+returns-in_err-on_join-in-Join-clause-hears g c = grind (arith, common_steps)
+
+pub returns-in_err-on_join-in-Join-clause-ignored : goal.returns-in_err-on_join-in-Join-clause-ignored
+returns-in_err-on_join-in-Join-clause-ignored g c = grind (arith, common_steps)
+
+pub returns-in_err-on_redirect-in-Redirect-clause-hears : goal.returns-in_err-on_redirect-in-Redirect-clause-hears
+returns-in_err-on_redirect-in-Redirect-clause-hears g c = grind (arith, common_steps)
+
+pub returns-in_err-on_redirect-in-Redirect-clause-ignored : goal.returns-in_err-on_redirect-in-Redirect-clause-ignored
+returns-in_err-on_redirect-in-Redirect-clause-ignored g c = grind (arith, common_steps)
+
+pub returns-in_err-on_suspect-in-Leave-clause-hears : goal.returns-in_err-on_suspect-in-Leave-clause-hears
+returns-in_err-on_suspect-in-Leave-clause-hears g c = grind (arith, common_steps)
+
+pub returns-in_err-on_suspect-in-Leave-clause-ignored : goal.returns-in_err-on_suspect-in-Leave-clause-ignored
+returns-in_err-on_suspect-in-Leave-clause-ignored g c = grind (arith, common_steps)
+
+pub returns-in_err-on_forward-in-Forward-clause-hears : goal.returns-in_err-on_forward-in-Forward-clause-hears
+returns-in_err-on_forward-in-Forward-clause-hears g c = grind (arith, common_steps)
+
+pub returns-in_err-on_forward-in-Forward-clause-ignored : goal.returns-in_err-on_forward-in-Forward-clause-ignored
+returns-in_err-on_forward-in-Forward-clause-ignored g c = grind (arith, common_steps)
+
+pub returns-in_err-on_order-in-Order-clause-hears : goal.returns-in_err-on_order-in-Order-clause-hears
+returns-in_err-on_order-in-Order-clause-hears g c = grind (arith, common_steps)
+
+pub returns-in_err-on_nak-in-Nak-clause-hears : goal.returns-in_err-on_nak-in-Nak-clause-hears
+returns-in_err-on_nak-in-Nak-clause-hears g c = grind (arith, common_steps)
+
+pub returns-in_err-on_nak-in-Nak-clause-ignored : goal.returns-in_err-on_nak-in-Nak-clause-ignored
+returns-in_err-on_nak-in-Nak-clause-ignored g c = grind (arith, common_steps)
+
+pub returns-in_err-on_ack-in-Ack-clause-hears : goal.returns-in_err-on_ack-in-Ack-clause-hears
+returns-in_err-on_ack-in-Ack-clause-hears g c = grind (arith, common_steps)
+
+pub returns-in_err-on_ack-in-Ack-clause-ignored : goal.returns-in_err-on_ack-in-Ack-clause-ignored
+returns-in_err-on_ack-in-Ack-clause-ignored g c = grind (arith, common_steps)
+
+pub returns-in_err-on_status-in-Status-clause-hears : goal.returns-in_err-on_status-in-Status-clause-hears
+returns-in_err-on_status-in-Status-clause-hears g c = grind (arith, common_steps)
+
+pub returns-in_err-on_flush-in-Flush-clause-hears : goal.returns-in_err-on_flush-in-Flush-clause-hears
+returns-in_err-on_flush-in-Flush-clause-hears g c = grind (arith, common_steps)
+
+pub returns-in_err-on_flush-in-Flush-clause-ignored : goal.returns-in_err-on_flush-in-Flush-clause-ignored
+returns-in_err-on_flush-in-Flush-clause-ignored g c = grind (arith, common_steps)
+
+pub returns-in_err-on_behind-in-Behind-clause-hears : goal.returns-in_err-on_behind-in-Behind-clause-hears
+returns-in_err-on_behind-in-Behind-clause-hears g c = grind (arith, common_steps)
+
+pub returns-in_err-on_behind-in-Behind-clause-ignored : goal.returns-in_err-on_behind-in-Behind-clause-ignored
+returns-in_err-on_behind-in-Behind-clause-ignored g c = grind (arith, common_steps)
+
+pub returns-in_err-on_report-in-Report-clause-hears : goal.returns-in_err-on_report-in-Report-clause-hears
+returns-in_err-on_report-in-Report-clause-hears g c = grind (arith, common_steps)
+
+pub returns-in_err-on_report-in-Report-clause-ignored : goal.returns-in_err-on_report-in-Report-clause-ignored
+returns-in_err-on_report-in-Report-clause-ignored g c = grind (arith, common_steps)
+
+pub returns-in_err-take_install-in-Install-clause-hears : goal.returns-in_err-take_install-in-Install-clause-hears
+returns-in_err-take_install-in-Install-clause-hears g c = grind (arith, common_steps)
+
+pub returns-in_err-on_merge-in-Merge-clause-hears : goal.returns-in_err-on_merge-in-Merge-clause-hears
+returns-in_err-on_merge-in-Merge-clause-hears g c = grind (arith, common_steps)
+
+pub returns-in_err-on_merge-in-Merge-clause-ignored : goal.returns-in_err-on_merge-in-Merge-clause-ignored
+returns-in_err-on_merge-in-Merge-clause-ignored g c = grind (arith, common_steps)
+
+pub returns-in_err-take_chunk-in-State-clause-hears : goal.returns-in_err-take_chunk-in-State-clause-hears
+returns-in_err-take_chunk-in-State-clause-hears g c = grind (arith, common_steps)
+
+pub returns-in_ok-on_join-in-Join-clause-ignored : goal.returns-in_ok-on_join-in-Join-clause-ignored
+returns-in_ok-on_join-in-Join-clause-ignored g c = grind (arith, common_steps)
+
+pub returns-in_ok-on_redirect-in-Redirect-clause-ignored : goal.returns-in_ok-on_redirect-in-Redirect-clause-ignored
+returns-in_ok-on_redirect-in-Redirect-clause-ignored g c = grind (arith, common_steps)
+
+pub returns-in_ok-on_suspect-in-Leave-clause-ignored : goal.returns-in_ok-on_suspect-in-Leave-clause-ignored
+returns-in_ok-on_suspect-in-Leave-clause-ignored g c = grind (arith, common_steps)
+
+pub returns-in_ok-on_flush-in-Flush-clause-ignored : goal.returns-in_ok-on_flush-in-Flush-clause-ignored
+returns-in_ok-on_flush-in-Flush-clause-ignored g c = grind (arith, common_steps)
+
+pub returns-in_ok-on_behind-in-Behind-clause-ignored : goal.returns-in_ok-on_behind-in-Behind-clause-ignored
+returns-in_ok-on_behind-in-Behind-clause-ignored g c = grind (arith, common_steps)
+
+pub returns-in_ok-on_report-in-Report-clause-ignored : goal.returns-in_ok-on_report-in-Report-clause-ignored
+returns-in_ok-on_report-in-Report-clause-ignored g c = grind (arith, common_steps)
+
+pub returns-in_ok-on_merge-in-Merge-clause-ignored : goal.returns-in_ok-on_merge-in-Merge-clause-ignored
+returns-in_ok-on_merge-in-Merge-clause-ignored g c = grind (arith, common_steps)
