@@ -1,5 +1,4 @@
 use Rattle.std.proofs.Common.{arith}
-use Rattle.std.proofs.lemmas.Grind.{common_steps}
 use Rattle.chat_log.proofs.HalvesOfChats.{halves}
 use Rattle.chat_log.proofs.writing.put_chat.Goals as goal
 
@@ -24,15 +23,3 @@ put_lines-requires-clause-lines g c =
 pub put_lines-requires-2-clause-lines : goal.put_lines-requires-2-clause-lines
 put_lines-requires-2-clause-lines g c =
     (halves _ _ g.L.ChatSize.fits _ _ _ c.requires c.as_slices.ensures.items).of_newer
-
-pub returns-in_err-reserve-clause-ok : goal.returns-in_err-reserve-clause-ok
-returns-in_err-reserve-clause-ok g c = grind (arith, common_steps)
-
-pub returns-in_err-reserve-clause-err : goal.returns-in_err-reserve-clause-err
-returns-in_err-reserve-clause-err g c = grind (arith, common_steps)
-
-pub returns-clause-ok : goal.returns-clause-ok
-returns-clause-ok g c = grind (arith, common_steps)
-
-pub returns-clause-err : goal.returns-clause-err
-returns-clause-err g c = grind (arith, common_steps)

@@ -1,5 +1,4 @@
 use Rattle.std.proofs.Common.{◌≡◌, ◌+◌, ◌∙◌, length, ap, rules, arith}
-use Rattle.std.proofs.lemmas.Grind.{common_steps}
 use Rattle.std.specs.Vec.{vec_len}
 use Rattle.std.proofs.lemmas.List.{length-append}
 use Rattle.keyed_state.specs.States.{entry_bytes, entry_size}
@@ -37,15 +36,3 @@ loop-entry-preserved g c =
       short = omega (arith, sums, c.loop-entry.invariant.short);
       left = (rw (from-place form es i e c.loop-entry-test.true c.entry-item.is) at c.loop-entry.invariant.left).1;
     }
-
-pub loop-entry-init : goal.loop-entry-init
-loop-entry-init g c = grind (arith, common_steps)
-
-pub loop-entry-smaller : goal.loop-entry-smaller
-loop-entry-smaller g c = grind (arith, common_steps)
-
-pub returns-clause-items : goal.returns-clause-items
-returns-clause-items g c = grind (arith, common_steps)
-
-pub returns-clause-room : goal.returns-clause-room
-returns-clause-room g c = grind (arith, common_steps)

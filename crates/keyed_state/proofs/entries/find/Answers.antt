@@ -1,5 +1,4 @@
 use Rattle.std.proofs.Common.{◌≡◌, ◌+◌, ◌-◌, ◌/◌, ◌<◌, ℕ, length, take, refl, sym, ap, subst, ◌∙◌, inl, inr, add-one, arith}
-use Rattle.std.proofs.lemmas.Grind.{common_steps}
 use Rattle.std.specs.Ordering.{ordering_reverse}
 use Rattle.std.specs.Cmp.Lexicographic.{nat_list_cmp_total}
 use Rattle.std.proofs.lemmas.Option.{slice_get_read}
@@ -43,9 +42,3 @@ returns g c =
     let es = c.args.entries.now in
     let same : c.loop-low.high ≡ c.loop-low.low = omega arith in
     free-at k es c.loop-low.low (omega arith) c.loop-low.invariant.below (subst (λ (n : ℕ). StopsAt k es n) same c.loop-low.invariant.stops)
-
-pub loop-low-smaller-in-Less : goal.loop-low-smaller-in-Less
-loop-low-smaller-in-Less g c = grind (arith, common_steps)
-
-pub loop-low-smaller : goal.loop-low-smaller
-loop-low-smaller g c = grind (arith, common_steps)

@@ -1,5 +1,4 @@
 use Rattle.std.proofs.Common.{◌-◌, ◌≤◌, drop, length, sym, ◌∙◌, arith}
-use Rattle.std.proofs.lemmas.Grind.{common_steps}
 use Rattle.std.proofs.lemmas.List.{length-drop}
 use Rattle.keyed_state.proofs.KeysHavePlaces.{rises-short}
 use Rattle.keyed_state.proofs.entries.is_rising.Goals as goal
@@ -9,15 +8,3 @@ returns g c =
     let es = c.args.entries.now in
     let few : length (drop (c.loop-i.i - 1) es) ≤ 1 = omega (arith, length-drop (c.loop-i.i - 1) es) in
     sym (c.loop-i.invariant ∙ rises-short (drop (c.loop-i.i - 1) es) few)
-
-pub loop-i-init : goal.loop-i-init
-loop-i-init g c = grind (arith, common_steps)
-
-pub returns-then-ne : goal.returns-then-ne
-returns-then-ne g c = grind (arith, common_steps)
-
-pub loop-i-smaller : goal.loop-i-smaller
-loop-i-smaller g c = grind (arith, common_steps)
-
-pub loop-i-preserved : goal.loop-i-preserved
-loop-i-preserved g c = grind (arith, common_steps)

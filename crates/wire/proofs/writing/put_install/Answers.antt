@@ -1,5 +1,4 @@
-use Rattle.std.proofs.Common.{arith, ◌∙◌, List}
-use Rattle.std.proofs.lemmas.Grind.{common_steps}
+use Rattle.std.proofs.Common.{◌∙◌, List}
 use Rattle.std.specs.List.{AllByRecursion}
 use Rattle.address.specs.Ids.{Address}
 use Rattle.wire_values.specs.Fields.{IsAddress}
@@ -15,9 +14,3 @@ returns-clause-fits c = record {
   state = c.put_given.ensures.state;
   rules = c.view.ensures.install;
 }
-
-pub returns-clause-items : goal.returns-clause-items
-returns-clause-items c = grind (arith, common_steps)
-
-pub returns-clause-room : goal.returns-clause-room
-returns-clause-room c = grind (arith, common_steps)

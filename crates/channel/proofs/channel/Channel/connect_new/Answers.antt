@@ -1,5 +1,4 @@
-use Rattle.std.proofs.Common.{None, arith}
-use Rattle.std.proofs.lemmas.Grind.{common_steps}
+use Rattle.std.proofs.Common.{None}
 use Rattle.member.specs.declared.input.Input.TheVariants.{Create}
 use Rattle.channel.proofs.ConnectsStart.{begun}
 use Rattle.channel.proofs.channel.Channel.connect_new.Goals as goal
@@ -9,9 +8,3 @@ pub returns-clause-connects : goal.returns-clause-connects
 returns-clause-connects g c =
     rw (← c.self.view_is) (begun g.R.Receiver.meaning Create c.args.name.now _ c.begin.new.self c.begin.result c.in_ok-begin.field-0 None _ c.begin.ensures
     c.in_ok-begin.was c.in_ok-call.ensures.calls)
-
-pub returns-in_err-begin-clause-connects : goal.returns-in_err-begin-clause-connects
-returns-in_err-begin-clause-connects g c = grind (arith, common_steps)
-
-pub returns-in_err-call-clause-connects : goal.returns-in_err-call-clause-connects
-returns-in_err-call-clause-connects g c = grind (arith, common_steps)

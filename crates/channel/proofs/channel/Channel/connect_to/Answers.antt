@@ -1,5 +1,4 @@
-use Rattle.std.proofs.Common.{None, sym, ◌∙◌, arith}
-use Rattle.std.proofs.lemmas.Grind.{common_steps}
+use Rattle.std.proofs.Common.{None, sym, ◌∙◌}
 use Rattle.member.specs.declared.input.Input.TheVariants.{Join}
 use Rattle.channel.proofs.ConnectsStart.{reconnected, asked-again}
 use Rattle.channel.proofs.channel.Channel.connect_to.Goals as goal
@@ -15,9 +14,3 @@ returns-clause-connects g c = elim c.if-not-is_in.branch [
       rw (← c.self.view_is) (asked-again g.R.Receiver.meaning (Join c.args.contact) c.args.name.now _ c.if-not-is_in.self None _
       (sym c.is_in.ensures ∙ w.if-not-is_in.false) (w.self-is ∙ sym c.self.view_is) c.in_ok-call.ensures.calls)
 ]
-
-pub returns-in_err-begin-clause-connects : goal.returns-in_err-begin-clause-connects
-returns-in_err-begin-clause-connects g c = grind (arith, common_steps)
-
-pub returns-in_err-call-clause-connects : goal.returns-in_err-call-clause-connects
-returns-in_err-call-clause-connects g c = grind (arith, common_steps)
