@@ -91,9 +91,13 @@ impl Door {
     /// Which connections are ready. It does not wait.
     pub(crate) fn look(&mut self, alloc: Global) -> io::Result<Vec<usize>> {
         self.poll.poll(&mut self.events, Some(Duration::ZERO))?;
-        let ready = tokens_of(alloc, &self.events)?;
-        self.has_callers = self.has_callers || ready.as_slice().contains(&LISTENER);
-        Ok(ready)
+        // First: a listener says only once that somebody came, and memory may be refused then.
+        for event in self.events.iter() {
+            if event.token().0 == LISTENER {
+                self.has_callers = true;
+            }
+        }
+        Ok(tokens_of(alloc, &self.events)?)
     }
 
     /// The next connection.
