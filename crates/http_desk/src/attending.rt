@@ -15,6 +15,7 @@ use crate::page::page;
 use crate::reply::{Media, Reply};
 use crate::request::{Asked, Order};
 use crate::status::status;
+use crate::text::Text;
 use crate::{IDLE, PATIENCE};
 use http::StatusCode;
 use lock_table::LockTable;
@@ -24,7 +25,6 @@ use std::mem::replace;
 use std::time::Duration;
 use trace_drawing::draw;
 use trace_props::Verdict;
-use vsync_text::put;
 
 /// How many requests of a connection are answered before others have their turn.
 const REQUESTS: u32 = 16;
@@ -91,11 +91,11 @@ impl Desk {
 
     // All entries.
     fn entries(&self) -> Result<Reply, AllocError> {
-        let mut body = Vec::new(self.alloc);
+        let mut body = Text::new(self.alloc);
         if let Some(map) = self.map() {
-            put_entries(&mut body, map)?;
+            put_entries(&mut body, map);
         }
-        let reply = Reply::of(StatusCode::OK, Media::Json, body).since(
+        let reply = Reply::of(StatusCode::OK, Media::Json, body.whole()?).since(
             self.alloc,
             self.changes.last(),
         )?;
@@ -104,11 +104,11 @@ impl Desk {
 
     // These keys, with what each has now.
     fn changed(&self, keys: &[Vec<u8>]) -> Result<Reply, AllocError> {
-        let mut body = Vec::new(self.alloc);
+        let mut body = Text::new(self.alloc);
         if let Some(map) = self.map() {
-            put_keys(&mut body, map, keys)?;
+            put_keys(&mut body, map, keys);
         }
-        let reply = Reply::of(StatusCode::OK, Media::Json, body).since(
+        let reply = Reply::of(StatusCode::OK, Media::Json, body.whole()?).since(
             self.alloc,
             self.changes.last(),
         )?;
@@ -135,10 +135,10 @@ impl Desk {
         };
         let reply = match lock {
             Some(lock) => {
-                let mut body = Vec::new(self.alloc);
-                put_lock(&mut body, lock)?;
-                put(&mut body, b"\n")?;
-                Reply::of(StatusCode::OK, Media::Json, body)
+                let mut body = Text::new(self.alloc);
+                put_lock(&mut body, lock);
+                body.put(b"\n");
+                Reply::of(StatusCode::OK, Media::Json, body.whole()?)
             }
             None => Reply::words(
                 self.alloc,
@@ -151,11 +151,11 @@ impl Desk {
 
     // All locks.
     fn locks(&self) -> Result<Reply, AllocError> {
-        let mut body = Vec::new(self.alloc);
+        let mut body = Text::new(self.alloc);
         if let Some(table) = self.table() {
-            put_locks(&mut body, table)?;
+            put_locks(&mut body, table);
         }
-        self.of_copy(Reply::of(StatusCode::OK, Media::Json, body))
+        self.of_copy(whole(Media::Json, body.whole())?)
     }
 
     // The picture of the last events.

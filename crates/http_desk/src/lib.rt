@@ -25,6 +25,7 @@ mod services;
 mod serving;
 mod standing;
 mod status;
+mod text;
 mod writes;
 
 pub use kept::Keeps;

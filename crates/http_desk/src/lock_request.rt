@@ -5,11 +5,12 @@ use crate::map_request::is_field;
 use crate::query::{decoded, field_of};
 use crate::refusal::Refusal;
 use crate::request::{Asked, Order, read_only};
+use crate::text::Text;
 use bytes::Bytes;
 use http::Request;
 use keyed_state::KeyBytes;
 use std::alloc::{AllocError, Global};
-use vsync_text::{Part, put_parts};
+use vsync_text::Part;
 
 // For how many seconds a request waits for a lock; `None` if it says no such number.
 fn wait_of(request: &Request<Bytes>) -> Option<u64> {
@@ -28,12 +29,9 @@ pub(crate) fn line_of<'a>(
     word: &'a [u8],
     name: &'a [u8],
 ) -> Result<Vec<u8>, AllocError> {
-    let mut line = Vec::new(alloc);
-    put_parts(
-        &mut line,
-        &[Part::Text(word), Part::Text(b" "), Part::Text(name)],
-    )?;
-    Ok(line)
+    let mut line = Text::new(alloc);
+    line.put_parts(&[Part::Text(word), Part::Text(b" "), Part::Text(name)]);
+    line.whole()
 }
 
 // A command of a word and a lock's name, for which a request waits so long.

@@ -4,13 +4,14 @@ use crate::PATIENCE;
 use crate::query::{decoded, field_of};
 use crate::refusal::Refusal;
 use crate::request::{Asked, Order};
+use crate::text::Text;
 use address::limits::PAYLOAD;
 use bytes::Bytes;
 use http::{HeaderName, Request, header};
 use keyed_state::{KeyBytes, Token, token_in};
 use replicated_map::{Command, ValueBytes, Version};
 use std::alloc::{AllocError, Global};
-use vsync_text::{Part, put_parts};
+use vsync_text::Part;
 
 // The value of a header; the first one if it is there more than once.
 fn header_of(request: &Request<Bytes>, name: HeaderName) -> Option<&[u8]> {
@@ -39,41 +40,29 @@ pub(crate) fn is_field(bytes: &[u8]) -> bool {
 }
 
 // Adds the line of a command that names a version.
-fn put_versioned<'a>(
-    line: &mut Vec<u8>,
-    word: &'a [u8],
-    key: &'a [u8],
-    token: Token,
-) -> Result<(), AllocError> {
-    put_parts(
-        line,
-        &[
-            Part::Text(word),
-            Part::Text(b" "),
-            Part::Text(key),
-            Part::Text(b" "),
-            Part::View(token.view),
-            Part::Text(b"/"),
-            Part::Number(token.count),
-        ],
-    )
+fn put_versioned<'a>(line: &mut Text, word: &'a [u8], key: &'a [u8], token: Token) {
+    line.put_parts(&[
+        Part::Text(word),
+        Part::Text(b" "),
+        Part::Text(key),
+        Part::Text(b" "),
+        Part::View(token.view),
+        Part::Text(b"/"),
+        Part::Number(token.count),
+    ]);
 }
 
 // Adds a word and fields, each behind a space.
-fn put_words<'a>(
-    line: &mut Vec<u8>,
-    word: &'a [u8],
-    fields: &[&'a [u8]],
-) -> Result<(), AllocError> {
-    put_parts(line, &[Part::Text(word)])?;
+fn put_words(line: &mut Text, word: &[u8], fields: &[&[u8]]) {
+    line.put(word);
     for field in fields {
-        put_parts(line, &[Part::Text(b" "), Part::Text(field)])?;
+        line.put(b" ");
+        line.put(field);
     }
-    Ok(())
 }
 
 // Adds the line that says a command.
-fn put_command<'a>(line: &mut Vec<u8>, command: &Command<'a>) -> Result<(), AllocError> {
+fn put_command<'a>(line: &mut Text, command: &Command<'a>) {
     match command {
         Command::Put { key, value, .. } => {
             put_words(line, b"put", &[key.as_slice(), value.as_slice()])
@@ -93,7 +82,7 @@ fn put_command<'a>(line: &mut Vec<u8>, command: &Command<'a>) -> Result<(), Allo
                 line,
                 b"replace",
                 &[key.as_slice(), expected, value.as_slice()],
-            )
+            );
         }
         Command::Clear => put_words(line, b"clear", &[]),
         Command::ReplaceAt {
@@ -102,8 +91,8 @@ fn put_command<'a>(line: &mut Vec<u8>, command: &Command<'a>) -> Result<(), Allo
             value,
             ..
         } => {
-            put_versioned(line, b"replace_at", key.as_slice(), version.token())?;
-            put_words(line, b"", &[value.as_slice()])
+            put_versioned(line, b"replace_at", key.as_slice(), version.token());
+            put_words(line, b"", &[value.as_slice()]);
         }
         Command::RemoveAt { version, key } => {
             put_versioned(line, b"remove_at", key.as_slice(), version.token())
@@ -113,9 +102,9 @@ fn put_command<'a>(line: &mut Vec<u8>, command: &Command<'a>) -> Result<(), Allo
 
 /// The line that says a command (docs/RECEIVERS.md, "The map's lines").
 pub(crate) fn line_of(alloc: Global, command: &Command<'_>) -> Result<Vec<u8>, AllocError> {
-    let mut line = Vec::new(alloc);
-    put_command(&mut line, command)?;
-    Ok(line)
+    let mut line = Text::new(alloc);
+    put_command(&mut line, command);
+    line.whole()
 }
 
 // A command whose line fits.

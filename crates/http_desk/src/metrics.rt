@@ -2,36 +2,29 @@
 
 use crate::kept::Keeps;
 use crate::standing::Standing;
+use crate::text::Text;
 use std::alloc::{AllocError, Global};
-use vsync_text::{Part, put_parts};
+use vsync_text::Part;
 
 // Metrics of a kind: for each its name and its number.
-fn put_metrics(
-    out: &mut Vec<u8>,
-    kind: &'static [u8],
-    metrics: &[(&'static [u8], u64)],
-) -> Result<(), AllocError> {
+fn put_metrics(out: &mut Text, kind: &'static [u8], metrics: &[(&'static [u8], u64)]) {
     for (name, number) in metrics {
-        put_parts(
-            out,
-            &[
-                Part::Text(b"# TYPE vsync_"),
-                Part::Text(name),
-                Part::Text(b" "),
-                Part::Text(kind),
-                Part::Text(b"\nvsync_"),
-                Part::Text(name),
-                Part::Text(b" "),
-                Part::Number(*number),
-                Part::Text(b"\n"),
-            ],
-        )?;
+        out.put_parts(&[
+            Part::Text(b"# TYPE vsync_"),
+            Part::Text(name),
+            Part::Text(b" "),
+            Part::Text(kind),
+            Part::Text(b"\nvsync_"),
+            Part::Text(name),
+            Part::Text(b" "),
+            Part::Number(*number),
+            Part::Text(b"\n"),
+        ]);
     }
-    Ok(())
 }
 
 // What only rises.
-fn put_counters(out: &mut Vec<u8>, standing: &Standing<'_>) -> Result<(), AllocError> {
+fn put_counters(out: &mut Text, standing: &Standing<'_>) {
     let counts = standing.counts;
     put_metrics(
         out,
@@ -45,11 +38,11 @@ fn put_counters(out: &mut Vec<u8>, standing: &Standing<'_>) -> Result<(), AllocE
             (b"http_requests_total", counts.requests),
             (b"http_writes_total", counts.writes),
         ],
-    )
+    );
 }
 
 // How the view stands.
-fn put_view(out: &mut Vec<u8>, standing: &Standing<'_>) -> Result<(), AllocError> {
+fn put_view(out: &mut Text, standing: &Standing<'_>) {
     let counts = standing.counts;
     let blocked = match standing.blocked() {
         Some(time) => time.as_secs(),
@@ -66,11 +59,11 @@ fn put_view(out: &mut Vec<u8>, standing: &Standing<'_>) -> Result<(), AllocError
             (b"view_stable_messages", standing.stable()),
             (b"nodes_seen", counts.seen.len() as u64),
         ],
-    )
+    );
 }
 
 // What is kept.
-fn put_kept(out: &mut Vec<u8>, standing: &Standing<'_>) -> Result<(), AllocError> {
+fn put_kept(out: &mut Text, standing: &Standing<'_>) {
     let kept = standing.kept;
     match kept.keeps() {
         Keeps::Map => put_metrics(out, b"gauge", &[(b"map_keys", kept.len() as u64)]),
@@ -82,12 +75,12 @@ fn put_kept(out: &mut Vec<u8>, standing: &Standing<'_>) -> Result<(), AllocError
                 (b"waiting_for_locks", kept.queued() as u64),
             ],
         ),
-        Keeps::Nothing => Ok(()),
+        Keeps::Nothing => (),
     }
 }
 
 // What waits, what is kept, and for how long it runs.
-fn put_gauges(out: &mut Vec<u8>, standing: &Standing<'_>) -> Result<(), AllocError> {
+fn put_gauges(out: &mut Text, standing: &Standing<'_>) {
     put_metrics(
         out,
         b"gauge",
@@ -96,20 +89,20 @@ fn put_gauges(out: &mut Vec<u8>, standing: &Standing<'_>) -> Result<(), AllocErr
             (b"waiting_writes", standing.writes.len() as u64),
             (b"connections", standing.clients as u64),
         ],
-    )?;
-    put_kept(out, standing)?;
+    );
+    put_kept(out, standing);
     put_metrics(
         out,
         b"gauge",
         &[(b"uptime_seconds", standing.uptime.as_secs())],
-    )
+    );
 }
 
 /// The metrics: counters only rise.
 pub(crate) fn metrics(alloc: Global, standing: &Standing<'_>) -> Result<Vec<u8>, AllocError> {
-    let mut out = Vec::new(alloc);
-    put_counters(&mut out, standing)?;
-    put_view(&mut out, standing)?;
-    put_gauges(&mut out, standing)?;
-    Ok(out)
+    let mut out = Text::new(alloc);
+    put_counters(&mut out, standing);
+    put_view(&mut out, standing);
+    put_gauges(&mut out, standing);
+    out.whole()
 }

@@ -3,10 +3,11 @@
 use crate::json::{put_all, put_fields, put_quoted, put_view};
 use crate::kept::Keeps;
 use crate::standing::Standing;
+use crate::text::Text;
 use address::limits::VERSION;
 use std::alloc::{AllocError, Global};
 use std::time::Duration;
-use vsync_text::{Part, put, put_parts};
+use vsync_text::Part;
 
 fn milliseconds(time: Duration) -> u64 {
     u64::try_from(time.as_millis()).unwrap_or(u64::MAX)
@@ -30,48 +31,45 @@ fn items_of(keeps: Keeps) -> &'static [u8] {
 }
 
 // The view, its members and its coordinator.
-fn put_members(out: &mut Vec<u8>, standing: &Standing<'_>) -> Result<(), AllocError> {
+fn put_members(out: &mut Text, standing: &Standing<'_>) {
     let members = standing.counts.members.as_slice();
-    put_view(out, b",\"view\":", standing.counts.view)?;
-    put(out, b",\"members\":")?;
-    put_all(out, members)?;
+    put_view(out, b",\"view\":", standing.counts.view);
+    out.put(b",\"members\":");
+    put_all(out, members);
     match members.first() {
         Some(coordinator) => put_quoted(out, b",\"coordinator\":", coordinator),
-        None => put(out, b",\"coordinator\":null"),
+        None => out.put(b",\"coordinator\":null"),
     }
 }
 
 // Whether its member is blocked, and for how long.
-fn put_blocked(out: &mut Vec<u8>, standing: &Standing<'_>) -> Result<(), AllocError> {
+fn put_blocked(out: &mut Text, standing: &Standing<'_>) {
     match standing.blocked() {
         Some(time) => {
-            put(out, b",\"blocked\":true")?;
-            put_fields(out, &[(b"blocked_ms", milliseconds(time))])
+            out.put(b",\"blocked\":true");
+            put_fields(out, &[(b"blocked_ms", milliseconds(time))]);
         }
-        None => put(out, b",\"blocked\":false,\"blocked_ms\":null"),
+        None => out.put(b",\"blocked\":false,\"blocked_ms\":null"),
     }
 }
 
 // The last incarnation of each node that was in a view.
-fn put_seen(out: &mut Vec<u8>, standing: &Standing<'_>) -> Result<(), AllocError> {
-    put(out, b",\"incarnations\":{")?;
+fn put_seen(out: &mut Text, standing: &Standing<'_>) {
+    out.put(b",\"incarnations\":{");
     for (i, address) in standing.counts.seen.iter().enumerate() {
         let before: &[u8] = if i > 0 { b",\"" } else { b"\"" };
-        put_parts(
-            out,
-            &[
-                Part::Text(before),
-                Part::Number(u64::from(address.node().number())),
-                Part::Text(b"\":"),
-                Part::Number(u64::from(address.incarnation())),
-            ],
-        )?;
+        out.put_parts(&[
+            Part::Text(before),
+            Part::Number(u64::from(address.node().number())),
+            Part::Text(b"\":"),
+            Part::Number(u64::from(address.incarnation())),
+        ]);
     }
-    put(out, b"}")
+    out.put(b"}");
 }
 
 // What it counts.
-fn put_counts(out: &mut Vec<u8>, standing: &Standing<'_>) -> Result<(), AllocError> {
+fn put_counts(out: &mut Text, standing: &Standing<'_>) {
     let counts = standing.counts;
     let kept = standing.kept;
     put_fields(
@@ -88,35 +86,29 @@ fn put_counts(out: &mut Vec<u8>, standing: &Standing<'_>) -> Result<(), AllocErr
             (b"merges", counts.merges),
             (b"suspicions", counts.lost),
         ],
-    )
+    );
 }
 
 /// The status as JSON.
 pub(crate) fn status(alloc: Global, standing: &Standing<'_>) -> Result<Vec<u8>, AllocError> {
-    let mut out = Vec::new(alloc);
-    put_parts(
-        &mut out,
-        &[
-            Part::Text(b"{\"address\":\""),
-            Part::Address(standing.own),
-            Part::Text(b"\",\"keeps\":\""),
-            Part::Text(name_of(standing.kept.keeps())),
-            Part::Text(b"\""),
-        ],
-    )?;
-    put_members(&mut out, standing)?;
-    put_blocked(&mut out, standing)?;
-    put_counts(&mut out, standing)?;
-    put_seen(&mut out, standing)?;
-    put_parts(
-        &mut out,
-        &[
-            Part::Text(b",\"uptime_ms\":"),
-            Part::Number(milliseconds(standing.uptime)),
-            Part::Text(b",\"build\":\"vsync, packets of version "),
-            Part::Number(u64::from(VERSION)),
-            Part::Text(b"\"}\n"),
-        ],
-    )?;
-    Ok(out)
+    let mut out = Text::new(alloc);
+    out.put_parts(&[
+        Part::Text(b"{\"address\":\""),
+        Part::Address(standing.own),
+        Part::Text(b"\",\"keeps\":\""),
+        Part::Text(name_of(standing.kept.keeps())),
+        Part::Text(b"\""),
+    ]);
+    put_members(&mut out, standing);
+    put_blocked(&mut out, standing);
+    put_counts(&mut out, standing);
+    put_seen(&mut out, standing);
+    out.put_parts(&[
+        Part::Text(b",\"uptime_ms\":"),
+        Part::Number(milliseconds(standing.uptime)),
+        Part::Text(b",\"build\":\"vsync, packets of version "),
+        Part::Number(u64::from(VERSION)),
+        Part::Text(b"\"}\n"),
+    ]);
+    out.whole()
 }

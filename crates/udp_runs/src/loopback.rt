@@ -19,7 +19,7 @@ pub struct Loopback<'a, R> {
     alloc: Global,
     runtime: &'a R,
     settings: &'a Settings,
-    hosts: Hosts,
+    hosts: &'a Hosts,
     is_unbound: bool,
     tally: Option<Tally>,
     // Whether a node's datagrams are taken wherever they come from.
@@ -62,7 +62,7 @@ impl<'a, R> Loopback<'a, R> {
         alloc: Global,
         runtime: &'a R,
         settings: &'a Settings,
-        hosts: Hosts,
+        hosts: &'a Hosts,
     ) -> Loopback<'a, R>
         ensures { result ≡ nothing_asked }
     {
@@ -145,7 +145,7 @@ impl<'a, R: std::net::Net + RandomSource> Loopback<'a, R> {
             self.alloc,
             self.runtime,
             self.settings,
-            &self.hosts,
+            self.hosts,
             node,
         )?;
         if self.is_open {

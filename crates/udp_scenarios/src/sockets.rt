@@ -34,7 +34,8 @@ pub fn run_with<C: Application>(
     settings: &Settings,
     script: &[u8],
 ) -> (Vec<u8>, Status) {
-    let mut machine = Loopback::new(rt.alloc(), rt, settings, Hosts::local(rt.alloc()));
+    let hosts = Hosts::local(rt.alloc());
+    let mut machine = Loopback::new(rt.alloc(), rt, settings, &hosts);
     let mut text = Vec::new(rt.alloc());
     let mut reader = script;
     let status = run_udp::<C, _, _, _>(rt.alloc(), settings, &mut machine, &mut reader, &mut text);

@@ -39,6 +39,15 @@ const QUORUM: u16 = 1;
 // The longest that a node waits before it begins again: two to the power of this, in seconds.
 const LONGEST_PAUSE: u32 = 6;
 
+/// With what a node runs: its settings, the options of its command, where others are reached, and the key of its group, if its datagrams are sealed.
+#[derive(Clone, Copy)]
+pub(crate) struct NodeRun<'a, 'b> {
+    pub(crate) settings: &'a Settings,
+    pub(crate) options: &'a MemberOptions<'b>,
+    pub(crate) hosts: &'a Hosts,
+    pub(crate) key: Option<&'a [u8]>,
+}
+
 // How the options say that a member runs.
 fn manner_of(options: &MemberOptions<'_>) -> NodeManner {
     NodeManner {
@@ -186,35 +195,30 @@ fn end_of<R: Files + Net + RandomSource + Clock + Eprint>(
     )
 }
 
-// This machine, for a node of the settings that runs by these options.
+// This machine, for a node that runs so.
 fn machine_of<'x, 'y, R: AllocGlobal>(
     rt: &'x R,
-    settings: &'x Settings,
-    options: &MemberOptions<'y>,
-    hosts: Hosts,
-    key: Option<&'x [u8]>,
+    run: NodeRun<'x, 'y>,
     other: Option<RawFd>,
     stable: &'x Stable,
 ) -> Watched<'x, 'y, R> {
-    let mut loopback = Loopback::new(rt.alloc(), rt, settings, hosts);
-    if options.any_source {
+    let mut loopback = Loopback::new(rt.alloc(), rt, run.settings, run.hosts);
+    if run.options.any_source {
         loopback.hear_from_anywhere();
     }
-    if let Some(key) = key {
+    if let Some(key) = run.key {
         loopback.seal_with(key);
     }
     if let Some(other) = other {
         loopback.also_wait_for(other);
     }
-    let quorum = options.quorum.unwrap_or(QUORUM);
-    let nodes = settings.nodes();
     Watched::new(
         rt,
         rt.alloc(),
         loopback,
-        nodes,
-        options.status,
-        quorum,
+        run.settings.nodes(),
+        run.options.status,
+        run.options.quorum.unwrap_or(QUORUM),
         stable,
     )
 }
@@ -229,20 +233,19 @@ fn run_one<
     W: Write + Drop,
 >(
     rt: &R,
-    settings: &Settings,
+    run: NodeRun<'_, '_>,
     plan: &MemberPlan<'a>,
-    options: &MemberOptions<'_>,
     pauses: &mut u32,
     lines: &mut L,
     machine: &mut Watched<'_, '_, R>,
     output: &mut Output<W>,
 ) -> Result<MemberPlan<'a>, Status> {
-    let manner = manner_of(options);
+    let options = run.options;
     let status = run_member::<A, _, _, _>(
         rt.alloc(),
-        settings,
+        run.settings,
         plan,
-        manner,
+        manner_of(options),
         lines,
         machine,
         output,
@@ -269,9 +272,8 @@ fn run_members<
     W: Write + Drop,
 >(
     rt: &R,
-    settings: &Settings,
+    run: NodeRun<'_, '_>,
     plan: &MemberPlan<'_>,
-    options: &MemberOptions<'_>,
     lines: &mut L,
     machine: &mut Watched<'_, '_, R>,
     output: &mut Output<W>,
@@ -279,16 +281,7 @@ fn run_members<
     let mut plan = MemberPlan { ..*plan };
     let mut pauses = 0;
     for _ in 0..u64::MAX {
-        match run_one::<A, _, _, _>(
-            rt,
-            settings,
-            &plan,
-            options,
-            &mut pauses,
-            lines,
-            machine,
-            output,
-        ) {
+        match run_one::<A, _, _, _>(rt, run, &plan, &mut pauses, lines, machine, output) {
             Ok(next) => plan = next,
             Err(status) => return status,
         }
@@ -298,60 +291,37 @@ fn run_members<
 
 // Runs the members of a node, each with what it keeps.
 fn run_with<
-    'x,
     A: Application,
     L: Lines,
     R: Files + Net + RandomSource + Clock + Print + Eprint + AllocGlobal,
 >(
-    rt: &'x R,
-    settings: &'x Settings,
+    rt: &R,
+    run: NodeRun<'_, '_>,
     plan: &MemberPlan<'_>,
-    options: &MemberOptions<'_>,
-    hosts: Hosts,
-    key: Option<&[u8]>,
     lines: &mut L,
     other: Option<RawFd>,
     stable: &Stable,
 ) -> Status {
-    let mut machine = machine_of(rt, settings, options, hosts, key, other, stable);
+    let mut machine = machine_of(rt, run, other, stable);
     let mut lines = KeptLines::new(rt.alloc(), lines);
     let mut output = Output::new(io::writer(rt));
-    run_members::<A, _, _, _>(
-        rt,
-        settings,
-        plan,
-        options,
-        &mut lines,
-        &mut machine,
-        &mut output,
-    )
+    run_members::<A, _, _, _>(rt, run, plan, &mut lines, &mut machine, &mut output)
 }
 
 // Runs the node with what its options say that it keeps.
 fn run_lines<L: Lines, R: Files + Net + RandomSource + Clock + Print + Eprint + AllocGlobal>(
     rt: &R,
-    settings: &Settings,
+    run: NodeRun<'_, '_>,
     plan: &MemberPlan<'_>,
-    options: &MemberOptions<'_>,
-    hosts: Hosts,
-    key: Option<&[u8]>,
     lines: &mut L,
     other: Option<RawFd>,
     stable: &Stable,
 ) -> Status {
-    match options.flags.kept() {
-        Kept::Chat => run_with::<ChatLog, L, R>(
-            rt, settings, plan, options, hosts, key, lines, other, stable,
-        ),
-        Kept::LongChat => run_with::<LongChat, L, R>(
-            rt, settings, plan, options, hosts, key, lines, other, stable,
-        ),
-        Kept::Map => run_with::<ReplicatedMap, L, R>(
-            rt, settings, plan, options, hosts, key, lines, other, stable,
-        ),
-        Kept::Locks => run_with::<LockTable, L, R>(
-            rt, settings, plan, options, hosts, key, lines, other, stable,
-        ),
+    match run.options.flags.kept() {
+        Kept::Chat => run_with::<ChatLog, L, R>(rt, run, plan, lines, other, stable),
+        Kept::LongChat => run_with::<LongChat, L, R>(rt, run, plan, lines, other, stable),
+        Kept::Map => run_with::<ReplicatedMap, L, R>(rt, run, plan, lines, other, stable),
+        Kept::Locks => run_with::<LockTable, L, R>(rt, run, plan, lines, other, stable),
     }
 }
 
@@ -383,15 +353,12 @@ fn keeps_of(options: &MemberOptions<'_>) -> Keeps {
 // Runs the node with a desk that answers requests at an address.
 fn run_http<R: Files + Net + RandomSource + Clock + Print + Eprint + AllocGlobal>(
     rt: &R,
-    settings: &Settings,
+    run: NodeRun<'_, '_>,
     plan: &MemberPlan<'_>,
-    options: &MemberOptions<'_>,
-    hosts: Hosts,
-    key: Option<&[u8]>,
     at: SocketAddr,
 ) -> Status {
-    let keeps = keeps_of(options);
-    let says_again = options.find || keeps == Keeps::Locks;
+    let keeps = keeps_of(run.options);
+    let says_again = run.options.find || keeps == Keeps::Locks;
     let desk = match HttpDesk::bind(rt.alloc(), rt, keeps, plan.address, says_again, at) {
         Ok(desk) => desk,
         Err(error) => {
@@ -402,9 +369,7 @@ fn run_http<R: Files + Net + RandomSource + Clock + Print + Eprint + AllocGlobal
     let other = Some(desk.descriptor());
     let stable: Stable = Cell::new(None);
     let mut lines = HttpLines::new(desk, &stable);
-    let status = run_lines(
-        rt, settings, plan, options, hosts, key, &mut lines, other, &stable,
-    );
+    let status = run_lines(rt, run, plan, &mut lines, other, &stable);
     let _ = lines.end();
     status
 }
@@ -413,15 +378,8 @@ fn run_http<R: Files + Net + RandomSource + Clock + Print + Eprint + AllocGlobal
 pub(crate) fn run_from<
     L: Lines,
     R: Files + Net + RandomSource + Clock + Print + Eprint + AllocGlobal,
->(
-    rt: &R,
-    settings: &Settings,
-    plan: &MemberPlan<'_>,
-    options: &MemberOptions<'_>,
-    hosts: Hosts,
-    key: Option<&[u8]>,
-    lines: &mut L,
-) -> Status {
+>(rt: &R, run: NodeRun<'_, '_>, plan: &MemberPlan<'_>, lines: &mut L) -> Status {
+    let options = run.options;
     let rounds = if options.forever {
         u64::MAX
     } else {
@@ -435,12 +393,10 @@ pub(crate) fn run_from<
                 ..*plan
             };
             match http_of(options) {
-                Ok(Some(at)) => run_http(rt, settings, &plan, options, hosts, key, at),
+                Ok(Some(at)) => run_http(rt, run, &plan, at),
                 Ok(None) => {
                     let stable: Stable = Cell::new(None);
-                    run_lines(
-                        rt, settings, &plan, options, hosts, key, lines, None, &stable,
-                    )
+                    run_lines(rt, run, &plan, lines, None, &stable)
                 }
                 Err(why) => mistaken(rt, why),
             }

@@ -8,7 +8,7 @@ ghost use Rattle.vsync.specs.Settings.{EndsWithout, GivesSettings};
 
 use crate::hosts::{PeersError, peers_in};
 use crate::keys::key_of;
-use crate::node_runs::run_from;
+use crate::node_runs::{NodeRun, run_from};
 use crate::output::Output;
 use crate::programs::{bytes_at, failed, mistaken, outside, without_memory};
 use crate::said::Appended;
@@ -86,7 +86,7 @@ fn run_script_of<I: Read, R: Net + RandomSource + Clock + Print + Eprint + Alloc
     path: &str,
 ) -> Status {
     let hosts = Hosts::local(rt.alloc());
-    let mut machine = Loopback::new(rt.alloc(), rt, settings, hosts);
+    let mut machine = Loopback::new(rt.alloc(), rt, settings, &hosts);
     let mut output = Output::new(io::writer(rt));
     let status = run_udp::<ChatLog, _, _, _>(
         rt.alloc(),
@@ -157,21 +157,26 @@ fn run_plan<R: Files + Net + RandomSource + Clock + Print + Eprint + AllocGlobal
     settings: &Settings,
     plan: &MemberPlan<'_>,
     options: &MemberOptions<'_>,
-    hosts: Hosts,
+    hosts: &Hosts,
 ) -> Status {
     warn(rt, settings, plan.contact);
     let key = match key_of(rt, options.key_file) {
         Ok(key) => key,
         Err(status) => return status,
     };
-    let key = key.as_ref().map(|key| key.as_slice());
+    let run = NodeRun {
+        settings,
+        options,
+        hosts,
+        key: key.as_ref().map(|key| key.as_slice()),
+    };
     let Some(path) = options.say else {
-        return run_from(rt, settings, plan, options, hosts, key, &mut NoLines);
+        return run_from(rt, run, plan, &mut NoLines);
     };
     match Appended::new(rt.alloc(), rt, path) {
         Ok(lines) => {
             let mut lines = lines;
-            run_from(rt, settings, plan, options, hosts, key, &mut lines)
+            run_from(rt, run, plan, &mut lines)
         }
         Err(error) => failed(rt, &error, "cannot open", path),
     }
@@ -189,7 +194,7 @@ fn run_at<R: Files + Net + RandomSource + Clock + Print + Eprint + AllocGlobal>(
         Err(status) => return status,
     };
     match hosts_of(rt, &words.options, peers) {
-        Ok(hosts) => run_plan(rt, &settings, plan, &words.options, hosts),
+        Ok(hosts) => run_plan(rt, &settings, plan, &words.options, &hosts),
         Err(status) => status,
     }
 }
