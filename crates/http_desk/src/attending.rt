@@ -15,7 +15,6 @@ use crate::page::page;
 use crate::reply::{Media, Reply};
 use crate::request::{Asked, Order};
 use crate::status::status;
-use crate::text::Text;
 use crate::{IDLE, PATIENCE};
 use http::StatusCode;
 use lock_table::LockTable;
@@ -23,7 +22,7 @@ use replicated_map::ReplicatedMap;
 use std::alloc::{AllocError, Global};
 use std::mem::replace;
 use std::time::Duration;
-use trace_drawing::draw;
+use trace_drawing::{Text, draw};
 use trace_props::Verdict;
 
 /// How many requests of a connection are answered before others have their turn.

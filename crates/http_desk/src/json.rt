@@ -3,12 +3,12 @@
 ghost use Rattle.std.specs.Prelude.{◌≡◌, ◌++◌, OnOk};
 ghost use Rattle.http_desk.specs.Replies.{quoted_token};
 
-use crate::text::Text;
 use address::{Address, ViewId};
 use keyed_state::{Token, put_token_text};
 use lock_table::{Lock, LockTable};
 use replicated_map::ReplicatedMap;
 use std::alloc::AllocError;
+use trace_drawing::Text;
 use vsync_text::{Part, put};
 
 /// Appends bytes as a string of JSON: a byte that is no printable ASCII is written by its number.

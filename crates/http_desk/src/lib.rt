@@ -25,7 +25,6 @@ mod services;
 mod serving;
 mod standing;
 mod status;
-mod text;
 mod writes;
 
 pub use kept::Keeps;

@@ -5,11 +5,11 @@ use crate::map_request::is_field;
 use crate::query::{decoded, field_of};
 use crate::refusal::Refusal;
 use crate::request::{Asked, Order, read_only};
-use crate::text::Text;
 use bytes::Bytes;
 use http::Request;
 use keyed_state::KeyBytes;
 use std::alloc::{AllocError, Global};
+use trace_drawing::Text;
 use vsync_text::Part;
 
 // For how many seconds a request waits for a lock; `None` if it says no such number.

@@ -4,13 +4,13 @@ use crate::PATIENCE;
 use crate::query::{decoded, field_of};
 use crate::refusal::Refusal;
 use crate::request::{Asked, Order};
-use crate::text::Text;
 use address::limits::PAYLOAD;
 use bytes::Bytes;
 use http::{HeaderName, Request, header};
 use keyed_state::{KeyBytes, Token, token_in};
 use replicated_map::{Command, ValueBytes, Version};
 use std::alloc::{AllocError, Global};
+use trace_drawing::Text;
 use vsync_text::Part;
 
 // The value of a header; the first one if it is there more than once.

@@ -2,8 +2,8 @@
 
 use crate::kept::Keeps;
 use crate::standing::Standing;
-use crate::text::Text;
 use std::alloc::{AllocError, Global};
+use trace_drawing::Text;
 use vsync_text::Part;
 
 // Metrics of a kind: for each its name and its number.

@@ -3,10 +3,10 @@
 use crate::json::{put_all, put_fields, put_quoted, put_view};
 use crate::kept::Keeps;
 use crate::standing::Standing;
-use crate::text::Text;
 use address::limits::VERSION;
 use std::alloc::{AllocError, Global};
 use std::time::Duration;
+use trace_drawing::Text;
 use vsync_text::Part;
 
 fn milliseconds(time: Duration) -> u64 {

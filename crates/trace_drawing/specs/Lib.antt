@@ -9,3 +9,4 @@ pub mod Asides
 pub mod Broken
 pub mod Picture
 pub mod Promises
+pub mod Written

@@ -1,16 +1,17 @@
 //! The marks of what stands between events.
 
-ghost use Rattle.std.specs.Prelude.{◌≡◌, ◌++◌, flat_map, OnOk};
+ghost use Rattle.std.specs.Prelude.{◌≡◌, flat_map};
+ghost use Rattle.trace_drawing.specs.Written.{Appends};
 ghost use Rattle.trace_drawing.specs.Packets.{row_in, KnowsWays};
 ghost use Rattle.trace_drawing.specs.Asides.{aside_group, asides_text};
 
 use crate::aside::{AsideKind, AsideRow};
 use crate::packets::{bytes_numbered, put_handed_group, put_packet_group};
 use crate::refusals::put_refused_group;
+use crate::text::Text;
 use crate::ways::Ways;
 use address::Bytes;
-use std::alloc::{AllocError, Global};
-use vsync_text::put;
+use std::alloc::Global;
 
 /// How the marks of refusals and of packets look, and their words: in print and on a light ground, and on a dark one.
 pub const ASIDE_STYLE: &[u8] = b"<style>\
@@ -28,13 +29,13 @@ pub const ASIDE_STYLE: &[u8] = b"<style>\
 
 // Appends all that is drawn of an aside.
 fn put_aside_group(
-    out: &mut Vec<u8>,
+    out: &mut Text,
     ways: &Ways,
     rows: &[AsideRow],
     packets: &[Bytes],
     row: &AsideRow,
-) -> Result<(), AllocError>
-    ensures { OnOk result (KnowsWays (row_in ways.now.sources) (row_in ways.now.ends) rows.now → out.new.items ≡ out.old.items ++ aside_group rows.now packets.now row.now) }
+)
+    ensures { KnowsWays (row_in ways.now.sources) (row_in ways.now.ends) rows.now → Appends (aside_group rows.now packets.now row.now) out.old out.new }
 {
     match row.kind {
         AsideKind::Refused { line, refusal } => put_refused_group(out, row, line, refusal),
@@ -50,33 +51,26 @@ fn put_aside_group(
 }
 
 // Appends all that is drawn of some asides.
-fn put_aside_groups(
-    out: &mut Vec<u8>,
-    ways: &Ways,
-    rows: &[AsideRow],
-    packets: &[Bytes],
-) -> Result<(), AllocError>
-    ensures { OnOk result (KnowsWays (row_in ways.now.sources) (row_in ways.now.ends) rows.now → out.new.items ≡ out.old.items ++ flat_map (aside_group rows.now packets.now) rows.now) }
+fn put_aside_groups(out: &mut Text, ways: &Ways, rows: &[AsideRow], packets: &[Bytes])
+    ensures { KnowsWays (row_in ways.now.sources) (row_in ways.now.ends) rows.now → Appends (flat_map (aside_group rows.now packets.now) rows.now) out.old out.new }
 {
     for row in rows {
-        put_aside_group(out, ways, rows, packets, row)?;
+        put_aside_group(out, ways, rows, packets, row);
     }
-    Ok(())
 }
 
 /// Appends all that is drawn of asides and of the packets of which they speak, where there are any.
-pub fn put_asides(
-    alloc: Global,
-    out: &mut Vec<u8>,
-    rows: &[AsideRow],
-    packets: &[Bytes],
-) -> Result<(), AllocError>
-    ensures { OnOk result (out.new.items ≡ out.old.items ++ asides_text rows.now packets.now) }
+pub fn put_asides(alloc: Global, out: &mut Text, rows: &[AsideRow], packets: &[Bytes])
+    ensures { Appends (asides_text rows.now packets.now) out.old out.new }
 {
     if rows.is_empty() {
-        return Ok(());
+        return;
     }
-    let ways = Ways::new(alloc, rows, packets)?;
-    put(out, ASIDE_STYLE)?;
-    put_aside_groups(out, &ways, rows, packets)
+    match Ways::new(alloc, rows, packets) {
+        Ok(ways) => {
+            out.put(ASIDE_STYLE);
+            put_aside_groups(out, &ways, rows, packets);
+        }
+        Err(_) => out.refuse(),
+    }
 }

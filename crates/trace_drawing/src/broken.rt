@@ -1,15 +1,15 @@
 //! The mark of a broken rule: where it breaks, and which it is, in words.
 
-ghost use Rattle.std.specs.Prelude.{◌≡◌, ◌++◌, ◌∷◌, List, codes, slice_get, OnOk};
+ghost use Rattle.std.specs.Prelude.{◌≡◌, ◌++◌, ◌∷◌, List, codes, slice_get};
+ghost use Rattle.trace_drawing.specs.Written.{Appends};
 ghost use Rattle.trace_drawing.specs.Broken.{words_of, broken_start, broken_words, broken_group, broken_in, broken_text, room_for};
 ghost use Rattle.std.specs.Option.{option_copied};
 
 use crate::marks::{Mark, place_of, x_of, y_of};
 use crate::row::Row;
 use crate::spelling::{put_mark, put_text_start};
-use std::alloc::AllocError;
+use crate::text::Text;
 use trace_props::{Event, Rule, Verdict};
-use vsync_text::{append_event, put};
 
 /// How the mark of a broken rule looks, and its words: in print and on a light ground, and on a dark one.
 pub const BROKEN_STYLE: &[u8] = b"<style>\
@@ -49,65 +49,50 @@ pub fn room_for(verdict: Verdict) -> u64
 }
 
 // Appends the beginning of a broken rule's group.
-fn put_broken_start(out: &mut Vec<u8>, rule: Rule, event: &Event) -> Result<(), AllocError>
-    ensures { OnOk result (out.new.items ≡ out.old.items ++ broken_start rule event.now) }
+fn put_broken_start(out: &mut Text, rule: Rule, event: &Event)
+    ensures { Appends (broken_start rule event.now) out.old out.new }
 {
-    put(out, b"<g><title>")?;
-    put(out, words_of(rule))?;
-    put(out, b"\n")?;
-    append_event(out, event)?;
-    put(out, b"</title>")
+    out.put(b"<g><title>");
+    out.put(words_of(rule));
+    out.put(b"\n");
+    out.append_event(event);
+    out.put(b"</title>");
 }
 
 // Appends the words beside the mark of a broken rule.
-fn put_broken_words(
-    out: &mut Vec<u8>,
-    rule: Rule,
-    level: u32,
-    column: u32,
-) -> Result<(), AllocError>
-    ensures { OnOk result (out.new.items ≡ out.old.items ++ broken_words rule level column) }
+fn put_broken_words(out: &mut Text, rule: Rule, level: u32, column: u32)
+    ensures { Appends (broken_words rule level column) out.old out.new }
 {
     put_text_start(
         out,
         b"<text class='q' x='",
         x_of(column) + 112,
         y_of(level) + 4,
-    )?;
-    put(out, words_of(rule))?;
-    put(out, b"</text>")
+    );
+    out.put(words_of(rule));
+    out.put(b"</text>");
 }
 
 // Appends all that is drawn of a rule that an event breaks.
-fn put_broken_group(
-    out: &mut Vec<u8>,
-    rule: Rule,
-    row: &Row,
-    event: &Event,
-) -> Result<(), AllocError>
-    ensures { OnOk result (out.new.items ≡ out.old.items ++ broken_group rule row.now event.now) }
+fn put_broken_group(out: &mut Text, rule: Rule, row: &Row, event: &Event)
+    ensures { Appends (broken_group rule row.now event.now) out.old out.new }
 {
-    put_broken_start(out, rule, event)?;
-    put_mark(out, Mark::Broken(place_of(row.level, row.column)))?;
-    put_broken_words(out, rule, row.level, row.column)?;
-    put(out, b"</g>\n")
+    put_broken_start(out, rule, event);
+    put_mark(out, Mark::Broken(place_of(row.level, row.column)));
+    put_broken_words(out, rule, row.level, row.column);
+    out.put(b"</g>\n");
 }
 
 // Appends what is drawn of a rule that breaks in a row, where there is one.
-fn put_broken_in(
-    out: &mut Vec<u8>,
-    rule: Rule,
-    row: Option<&Row>,
-    event: Option<&Event>,
-) -> Result<(), AllocError>
-    ensures { OnOk result (out.new.items ≡ out.old.items ++ broken_in rule (option_copied row.entry) (option_copied event.entry)) }
+fn put_broken_in(out: &mut Text, rule: Rule, row: Option<&Row>, event: Option<&Event>)
+    ensures { Appends (broken_in rule (option_copied row.entry) (option_copied event.entry)) out.old out.new }
 {
     match row {
-        None => Ok(()),
+        None => (),
         Some(row) => match event {
-            None => Ok(()),
+            None => (),
             Some(event) => {
-                put(out, BROKEN_STYLE)?;
+                out.put(BROKEN_STYLE);
                 put_broken_group(out, rule, row, event)
             }
         },
@@ -115,20 +100,14 @@ fn put_broken_in(
 }
 
 // Appends what is drawn of a rule that breaks at a place, from 1.
-fn put_broken_at(
-    out: &mut Vec<u8>,
-    rows: &[Row],
-    events: &[Event],
-    rule: Rule,
-    place: u64,
-) -> Result<(), AllocError>
-    ensures { OnOk result (out.new.items ≡ out.old.items ++ broken_text rows.now events.now (Verdict.Breaks rule place)) }
+fn put_broken_at(out: &mut Text, rows: &[Row], events: &[Event], rule: Rule, place: u64)
+    ensures { Appends (broken_text rows.now events.now (Verdict.Breaks rule place)) out.old out.new }
 {
     if place == 0 {
-        return Ok(());
+        return;
     }
     match u32::try_from(place - 1) {
-        Err(_) => Err(AllocError),
+        Err(_) => out.refuse(),
         Ok(number) => {
             let index = number as usize;
             put_broken_in(out, rule, rows.get(index), events.get(index))
@@ -137,16 +116,11 @@ fn put_broken_at(
 }
 
 /// Appends what is drawn of a verdict.
-pub fn put_broken(
-    out: &mut Vec<u8>,
-    rows: &[Row],
-    events: &[Event],
-    verdict: Verdict,
-) -> Result<(), AllocError>
-    ensures { OnOk result (out.new.items ≡ out.old.items ++ broken_text rows.now events.now verdict) }
+pub fn put_broken(out: &mut Text, rows: &[Row], events: &[Event], verdict: Verdict)
+    ensures { Appends (broken_text rows.now events.now verdict) out.old out.new }
 {
     match verdict {
-        Verdict::Holds => Ok(()),
+        Verdict::Holds => (),
         Verdict::Breaks { rule, place } => put_broken_at(out, rows, events, rule, place),
     }
 }

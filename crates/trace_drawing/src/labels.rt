@@ -1,12 +1,12 @@
 //! Payloads as labels: text where they are printable, else hexadecimal; cut, and escaped.
 
-ghost use Rattle.std.specs.Prelude.{◌≡◌, ◌++◌, take, OnOk};
+ghost use Rattle.std.specs.Prelude.{◌≡◌, take};
 ghost use Rattle.std.specs.List.{list_all};
+ghost use Rattle.trace_drawing.specs.Written.{Appends};
 ghost use Rattle.trace_drawing.specs.Labels.{escaped_byte, escaped, is_printable, is_text, dots, label};
 ghost use Rattle.trace_drawing.specs.Promises.{is_plain};
 
-use std::alloc::AllocError;
-use vsync_text::{put, put_hex};
+use crate::text::Text;
 
 /// The most letters that are shown of a payload that is text.
 pub const LETTERS: usize = 12;
@@ -28,14 +28,14 @@ fn is_text(bytes: &[u8]) -> bool
 }
 
 // Appends a byte as text of XML.
-fn put_escaped(out: &mut Vec<u8>, byte: u8) -> Result<(), AllocError>
-    ensures { OnOk result (out.new.items ≡ out.old.items ++ escaped_byte byte) }
+fn put_escaped(out: &mut Text, byte: u8)
+    ensures { Appends (escaped_byte byte) out.old out.new }
 {
     match byte {
-        b'<' => put(out, b"&lt;"),
-        b'>' => put(out, b"&gt;"),
-        b'&' => put(out, b"&amp;"),
-        _ => put(out, &[byte]),
+        b'<' => out.put(b"&lt;"),
+        b'>' => out.put(b"&gt;"),
+        b'&' => out.put(b"&amp;"),
+        _ => out.put(&[byte]),
     }
 }
 
@@ -53,16 +53,16 @@ fn is_plain_text(bytes: &[u8]) -> bool
 }
 
 // Appends bytes as text of XML.
-fn put_text(out: &mut Vec<u8>, bytes: &[u8]) -> Result<(), AllocError>
-    ensures { OnOk result (out.new.items ≡ out.old.items ++ escaped bytes.now) }
+fn put_text(out: &mut Text, bytes: &[u8])
+    ensures { Appends (escaped bytes.now) out.old out.new }
 {
     if is_plain_text(bytes) {
-        return put(out, bytes);
+        out.put(bytes);
+        return;
     }
     for byte in bytes {
-        put_escaped(out, *byte)?;
+        put_escaped(out, *byte);
     }
-    Ok(())
 }
 
 // The first bytes, at most so many.
@@ -77,26 +77,24 @@ fn front(bytes: &[u8], most: usize) -> &[u8]
 }
 
 // Appends three dots where there are more than so many.
-fn put_dots(out: &mut Vec<u8>, bytes: &[u8], most: usize) -> Result<(), AllocError>
-    ensures { OnOk result (out.new.items ≡ out.old.items ++ dots most bytes.now) }
+fn put_dots(out: &mut Text, bytes: &[u8], most: usize)
+    ensures { Appends (dots most bytes.now) out.old out.new }
 {
     if most < bytes.len() {
-        put(out, b"&#8230;")
-    } else {
-        Ok(())
+        out.put(b"&#8230;");
     }
 }
 
 /// Appends what is shown of a payload.
-pub fn put_label(out: &mut Vec<u8>, payload: &[u8]) -> Result<(), AllocError>
-    ensures { OnOk result (out.new.items ≡ out.old.items ++ label payload.now) }
+pub fn put_label(out: &mut Text, payload: &[u8])
+    ensures { Appends (label payload.now) out.old out.new }
 {
     if is_text(payload) {
-        put_text(out, front(payload, LETTERS))?;
+        put_text(out, front(payload, LETTERS));
         put_dots(out, payload, LETTERS)
     } else {
-        put(out, b"0x")?;
-        put_hex(out, front(payload, BYTES))?;
+        out.put(b"0x");
+        out.put_hex(front(payload, BYTES));
         put_dots(out, payload, BYTES)
     }
 }

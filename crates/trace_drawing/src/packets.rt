@@ -1,7 +1,8 @@
 //! The marks of packets.
 
-ghost use Rattle.std.specs.Prelude.{◌≡◌, ◌++◌, ◌+◌, List, codes, flat_map, option_to_list, IfOk, OnOk};
+ghost use Rattle.std.specs.Prelude.{◌≡◌, ◌++◌, ◌+◌, List, codes, flat_map, option_to_list, false};
 ghost use Rattle.vsync_text.specs.PacketText.{kind_in};
+ghost use Rattle.trace_drawing.specs.Written.{Appends};
 ghost use Rattle.trace_drawing.specs.declared.aside.AsideRow.{AsideRow};
 ghost use Rattle.trace_drawing.specs.Spelling.{mark_text, start_behind};
 ghost use Rattle.trace_drawing.specs.Marks.{x_in, y_of};
@@ -10,10 +11,9 @@ ghost use Rattle.trace_drawing.specs.Packets.{bytes_numbered, packet_start, pack
 use crate::aside::AsideRow;
 use crate::marks::{Mark, Place, aside_place, x_in, y_of};
 use crate::spelling::{put_mark, put_over, put_some_mark, put_text_start};
+use crate::text::Text;
 use crate::ways::Ways;
 use address::Bytes;
-use std::alloc::AllocError;
-use vsync_text::{append_packet, put};
 
 /// The bytes of the packet of a number, from 1; none where there is none.
 pub fn bytes_numbered(packets: &[Bytes], number: u64) -> &[u8]
@@ -32,102 +32,81 @@ pub fn bytes_numbered(packets: &[Bytes], number: u64) -> &[u8]
 }
 
 // Appends the beginning of a packet's group, and answers the name of what the packet says.
-fn put_packet_start(
-    out: &mut Vec<u8>,
-    number: u64,
-    bytes: &[u8],
-) -> Result<&'static [u8], AllocError>
-    ensures text { OnOk result (out.new.items ≡ out.old.items ++ packet_start number bytes.now) }
-    ensures kind { IfOk result (λ kind. kind.now ≡ kind_in bytes.now) }
+fn put_packet_start(out: &mut Text, number: u64, bytes: &[u8]) -> &'static [u8]
+    ensures text { Appends (packet_start number bytes.now) out.old out.new }
+    ensures kind { out.new.is_short ≡ false → result.now ≡ kind_in bytes.now }
 {
-    put(out, b"<g><title>")?;
-    let kind = append_packet(out, number, bytes)?;
-    put(out, b"</title>")?;
-    Ok(kind)
+    out.put(b"<g><title>");
+    let kind = out.append_packet(number, bytes);
+    out.put(b"</title>");
+    kind
 }
 
 // Appends the beginning of a packet's name.
-fn put_name_start(out: &mut Vec<u8>, row: &AsideRow) -> Result<(), AllocError>
-    ensures { OnOk result (out.new.items ≡ out.old.items ++ start_behind (codes "<text class='j' x='") (x_in row.now.column + 11) (y_of row.now.level + 4)) }
+fn put_name_start(out: &mut Text, row: &AsideRow)
+    ensures { Appends (start_behind (codes "<text class='j' x='") (x_in row.now.column + 11) (y_of row.now.level + 4)) out.old out.new }
 {
     put_text_start(
         out,
         b"<text class='j' x='",
         x_in(row.column) + 11,
         y_of(row.level) + 4,
-    )
+    );
 }
 
 // Appends the number of a packet and its kind.
-fn put_packet_name(
-    out: &mut Vec<u8>,
-    row: &AsideRow,
-    number: u64,
-    kind: &[u8],
-) -> Result<(), AllocError>
-    ensures { OnOk result (out.new.items ≡ out.old.items ++ packet_name row.now number kind.now) }
+fn put_packet_name(out: &mut Text, row: &AsideRow, number: u64, kind: &[u8])
+    ensures { Appends (packet_name row.now number kind.now) out.old out.new }
 {
     let mut first = *b"00000000000000000000 ";
-    put_name_start(out, row)?;
-    put_over(out, number, &mut first)?;
-    put(out, kind)?;
-    put(out, b"</text>")
+    put_name_start(out, row);
+    put_over(out, number, &mut first);
+    out.put(kind);
+    out.put(b"</text>");
 }
 
 // Appends the mark of a packet, and its way if it is lost.
-fn put_packet_marks(out: &mut Vec<u8>, at: Place, lost: Option<Mark>) -> Result<(), AllocError>
-    ensures { OnOk result (out.new.items ≡ out.old.items ++ (mark_text (Mark.Packet at) ++ flat_map mark_text (option_to_list lost))) }
+fn put_packet_marks(out: &mut Text, at: Place, lost: Option<Mark>)
+    ensures { Appends (mark_text (Mark.Packet at) ++ flat_map mark_text (option_to_list lost)) out.old out.new }
 {
-    put_mark(out, Mark::Packet(at))?;
-    put_some_mark(out, lost)
+    put_mark(out, Mark::Packet(at));
+    put_some_mark(out, lost);
 }
 
 /// Appends all that is drawn of a packet in the row in which it is put out.
-pub fn put_packet_group(
-    out: &mut Vec<u8>,
-    ways: &Ways,
-    row: &AsideRow,
-    number: u64,
-    bytes: &[u8],
-) -> Result<(), AllocError>
-    ensures { OnOk result ((rows : List AsideRow) → KnowsWays (row_in ways.now.sources) (row_in ways.now.ends) rows → out.new.items ≡ out.old.items ++ packet_group rows row.now number bytes.now) }
+pub fn put_packet_group(out: &mut Text, ways: &Ways, row: &AsideRow, number: u64, bytes: &[u8])
+    ensures { (rows : List AsideRow) → KnowsWays (row_in ways.now.sources) (row_in ways.now.ends) rows → Appends (packet_group rows row.now number bytes.now) out.old out.new }
 {
-    let kind = put_packet_start(out, number, bytes)?;
-    put_packet_marks(out, aside_place(row), ways.lost(row, number))?;
-    put_packet_name(out, row, number, kind)?;
-    put(out, b"</g>\n")
+    let kind = put_packet_start(out, number, bytes);
+    put_packet_marks(out, aside_place(row), ways.lost(row, number));
+    put_packet_name(out, row, number, kind);
+    out.put(b"</g>\n");
 }
 
 // Appends the beginning of the group of a packet that is handed over.
-fn put_handed_start(out: &mut Vec<u8>, number: u64) -> Result<(), AllocError>
-    ensures { OnOk result (out.new.items ≡ out.old.items ++ handed_start number) }
+fn put_handed_start(out: &mut Text, number: u64)
+    ensures { Appends (handed_start number) out.old out.new }
 {
     let mut last = *b"00000000000000000000\n</title>";
-    put(out, b"<g><title>deliver ")?;
-    put_over(out, number, &mut last)
+    out.put(b"<g><title>deliver ");
+    put_over(out, number, &mut last);
 }
 
 // Appends the number of a packet.
-fn put_handed_name(out: &mut Vec<u8>, row: &AsideRow, number: u64) -> Result<(), AllocError>
-    ensures { OnOk result (out.new.items ≡ out.old.items ++ handed_name row.now number) }
+fn put_handed_name(out: &mut Text, row: &AsideRow, number: u64)
+    ensures { Appends (handed_name row.now number) out.old out.new }
 {
     let mut last = *b"00000000000000000000</text>";
-    put_name_start(out, row)?;
-    put_over(out, number, &mut last)
+    put_name_start(out, row);
+    put_over(out, number, &mut last);
 }
 
 /// Appends all that is drawn of a packet in a row in which it is handed over.
-pub fn put_handed_group(
-    out: &mut Vec<u8>,
-    ways: &Ways,
-    rows: &[AsideRow],
-    row: &AsideRow,
-    number: u64,
-) -> Result<(), AllocError>
-    ensures { OnOk result (KnowsWays (row_in ways.now.sources) (row_in ways.now.ends) rows.now → out.new.items ≡ out.old.items ++ handed_group rows.now row.now number) }
+pub fn put_handed_group(out: &mut Text, ways: &Ways, rows: &[AsideRow], row: &AsideRow, number: u64)
+    ensures { KnowsWays (row_in ways.now.sources) (row_in ways.now.ends) rows.now → Appends (handed_group rows.now row.now number) out.old out.new }
 {
-    put_handed_start(out, number)?;
-    put_some_mark(out, ways.to(rows, row, number))?;
-    put_handed_name(out, row, number)?;
-    put(out, b"</g>\n")
+    put_handed_start(out, number);
+    put_some_mark(out, ways.to(rows, row, number));
+    put_handed_name(out, row, number);
+    out.put(b"</g>\n");
 }

@@ -1,6 +1,7 @@
 //! The picture of a trace, as an SVG.
 
-ghost use Rattle.std.specs.Prelude.{◌≡◌, ◌++◌, length, flat_map, option_to_list, IfOk, OnOk};
+ghost use Rattle.std.specs.Prelude.{◌≡◌, ◌++◌, length, flat_map, option_to_list, IfOk};
+ghost use Rattle.trace_drawing.specs.Written.{Appends};
 ghost use Rattle.trace_drawing.specs.Marks.{marks_of};
 ghost use Rattle.trace_drawing.specs.Spelling.{mark_text};
 ghost use Rattle.trace_drawing.specs.Picture.{colour_of, colour, group_start, event_start, event_group, event_groups, line_group, svg_start, head_text, picture_of};
@@ -16,11 +17,11 @@ use crate::marks::{
 };
 use crate::row::{Line, Row};
 use crate::spelling::{put_mark, put_number, put_over, put_some_mark};
+use crate::text::Text;
 use crate::texts::{put_line_title, put_name_above, put_row_number, put_texts};
 use address::Bytes;
 use std::alloc::{AllocError, Global};
 use trace_props::{Event, Verdict};
-use vsync_text::{append_event, put};
 
 /// How many colours members have. With more members they come again.
 pub const COLOURS: u32 = 12;
@@ -78,123 +79,104 @@ fn colour(rows: &[Row], row: &Row, event: &Event) -> u32
 }
 
 // Appends the beginning of an event's group.
-fn put_group_start(out: &mut Vec<u8>, colour: u32, event: &Event) -> Result<(), AllocError>
-    ensures { OnOk result (out.new.items ≡ out.old.items ++ group_start colour event.now) }
+fn put_group_start(out: &mut Text, colour: u32, event: &Event)
+    ensures { Appends (group_start colour event.now) out.old out.new }
 {
     let mut first = *b"00000000000000000000'><title>";
-    put(out, b"<g class='c")?;
-    put_over(out, u64::from(colour), &mut first)?;
-    append_event(out, event)?;
-    put(out, b"</title>")
+    out.put(b"<g class='c");
+    put_over(out, u64::from(colour), &mut first);
+    out.append_event(event);
+    out.put(b"</title>");
 }
 
 // Appends the marks of an event.
-fn put_marks(out: &mut Vec<u8>, rows: &[Row], row: &Row, event: &Event) -> Result<(), AllocError>
-    ensures { OnOk result (out.new.items ≡ out.old.items ++ flat_map mark_text (marks_of rows.now row.now event.now)) }
+fn put_marks(out: &mut Text, rows: &[Row], row: &Row, event: &Event)
+    ensures { Appends (flat_map mark_text (marks_of rows.now row.now event.now)) out.old out.new }
 {
-    put_some_mark(out, blocked_stretch(row))?;
-    put_some_mark(out, link(rows, row, event))?;
-    put_mark(out, own_mark(event, place_of(row.level, row.column)))
+    put_some_mark(out, blocked_stretch(row));
+    put_some_mark(out, link(rows, row, event));
+    put_mark(out, own_mark(event, place_of(row.level, row.column)));
 }
 
 // Appends what stands before an event's marks.
-fn put_event_start(
-    out: &mut Vec<u8>,
-    rows: &[Row],
-    number: u32,
-    row: &Row,
-    event: &Event,
-) -> Result<(), AllocError>
-    ensures { OnOk result (out.new.items ≡ out.old.items ++ event_start rows.now number row.now event.now) }
+fn put_event_start(out: &mut Text, rows: &[Row], number: u32, row: &Row, event: &Event)
+    ensures { Appends (event_start rows.now number row.now event.now) out.old out.new }
 {
-    put_group_start(out, colour(rows, row, event), event)?;
-    put_name_above(out, row, &member(event))?;
-    put_row_number(out, number, row.level)
+    put_group_start(out, colour(rows, row, event), event);
+    put_name_above(out, row, &member(event));
+    put_row_number(out, number, row.level);
 }
 
 // Appends all that is drawn of an event.
-fn put_event(
-    out: &mut Vec<u8>,
-    rows: &[Row],
-    number: u32,
-    row: &Row,
-    event: &Event,
-) -> Result<(), AllocError>
-    ensures { OnOk result (out.new.items ≡ out.old.items ++ event_group rows.now number row.now event.now) }
+fn put_event(out: &mut Text, rows: &[Row], number: u32, row: &Row, event: &Event)
+    ensures { Appends (event_group rows.now number row.now event.now) out.old out.new }
 {
-    put_event_start(out, rows, number, row, event)?;
-    put_marks(out, rows, row, event)?;
-    put_texts(out, event, row.level, row.column)?;
-    put(out, b"</g>\n")
+    put_event_start(out, rows, number, row, event);
+    put_marks(out, rows, row, event);
+    put_texts(out, event, row.level, row.column);
+    out.put(b"</g>\n");
 }
 
 // Appends all that is drawn of events.
-fn put_events(
-    out: &mut Vec<u8>,
-    rows: &[Row],
-    events: &[Event],
-    count: u32,
-) -> Result<(), AllocError>
+fn put_events(out: &mut Text, rows: &[Row], events: &[Event], count: u32)
     requires rows { length rows.now ≡ count }
     requires events { length events.now ≡ count }
-    ensures { OnOk result (out.new.items ≡ out.old.items ++ event_groups rows.now 0 rows.now events.now) }
+    ensures { Appends (event_groups rows.now 0 rows.now events.now) out.old out.new }
 {
     for number in 0..count {
         let index = number as usize;
         let row = &rows[index];
         let event = &events[index];
-        put_event(out, rows, number, row, event)?;
+        put_event(out, rows, number, row, event);
     }
-    Ok(())
 }
 
 // Appends the marks of a member's line.
-fn put_line_marks(out: &mut Vec<u8>, line: Mark, stretch: Option<Mark>) -> Result<(), AllocError>
-    ensures { OnOk result (out.new.items ≡ out.old.items ++ (mark_text line ++ flat_map mark_text (option_to_list stretch))) }
+fn put_line_marks(out: &mut Text, line: Mark, stretch: Option<Mark>)
+    ensures { Appends (mark_text line ++ flat_map mark_text (option_to_list stretch)) out.old out.new }
 {
-    put_mark(out, line)?;
-    put_some_mark(out, stretch)
+    put_mark(out, line);
+    put_some_mark(out, stretch);
 }
 
 // Appends a member's line.
-fn put_line(out: &mut Vec<u8>, bottom: u64, line: &Line) -> Result<(), AllocError>
-    ensures { OnOk result (out.new.items ≡ out.old.items ++ line_group bottom line.now) }
+fn put_line(out: &mut Text, bottom: u64, line: &Line)
+    ensures { Appends (line_group bottom line.now) out.old out.new }
 {
-    put_line_title(out, &line.member)?;
-    put_line_marks(out, line_mark(bottom, line), last_stretch(bottom, line))?;
-    put(out, b"</g>\n")
+    put_line_title(out, &line.member);
+    put_line_marks(out, line_mark(bottom, line), last_stretch(bottom, line));
+    out.put(b"</g>\n");
 }
 
 // Appends the members' lines.
-fn put_lines(out: &mut Vec<u8>, bottom: u64, lines: &[Line]) -> Result<(), AllocError>
-    ensures { OnOk result (out.new.items ≡ out.old.items ++ flat_map (line_group bottom) lines.now) }
+fn put_lines(out: &mut Text, bottom: u64, lines: &[Line])
+    ensures { Appends (flat_map (line_group bottom) lines.now) out.old out.new }
 {
     for line in lines {
-        put_line(out, bottom, line)?;
+        put_line(out, bottom, line);
     }
-    Ok(())
 }
 
 // Appends the beginning of an SVG.
-fn put_svg_start(out: &mut Vec<u8>, width: u64, height: u64) -> Result<(), AllocError>
-    ensures { OnOk result (out.new.items ≡ out.old.items ++ svg_start width height) }
+fn put_svg_start(out: &mut Text, width: u64, height: u64)
+    ensures { Appends (svg_start width height) out.old out.new }
 {
     put_number(
         out,
         b"<svg xmlns='http://www.w3.org/2000/svg' width='",
         width,
-    )?;
-    put_number(out, b"' height='", height)?;
-    put(out, b"'>")
+    );
+    put_number(out, b"' height='", height);
+    out.put(b"'>");
 }
 
 // Appends the beginning of a picture.
-fn put_head(out: &mut Vec<u8>, width: u64, height: u64) -> Result<(), AllocError>
-    ensures { OnOk result (out.new.items ≡ out.old.items ++ head_text width height) }
+fn put_head(out: &mut Text, width: u64, height: u64)
+    ensures { Appends (head_text width height) out.old out.new }
 {
-    put_svg_start(out, width, height)?;
-    put(out, STYLE)?;
-    put(out, b"<rect class='w' width='100%' height='100%'/>\n")
+    put_svg_start(out, width, height);
+    out.put(STYLE);
+    out.put(b"<rect class='w' width='100%' height='100%'/>\n");
 }
 
 // A number of rows or of columns.
@@ -223,12 +205,12 @@ pub fn draw(
     let columns = counted(layout.lines.len())?;
     let levels = counted(layout.rows.len() + layout.asides.len())?;
     let bottom = y_of(levels);
-    let mut out = Vec::new(alloc);
-    put_head(&mut out, x_of(columns) + room_for(verdict), bottom + 20)?;
-    put_lines(&mut out, bottom, layout.lines.as_slice())?;
-    put_events(&mut out, layout.rows.as_slice(), events, count)?;
-    put_asides(alloc, &mut out, layout.asides.as_slice(), packets)?;
-    put_broken(&mut out, layout.rows.as_slice(), events, verdict)?;
-    put(&mut out, b"</svg>\n")?;
-    Ok(out)
+    let mut out = Text::new(alloc);
+    put_head(&mut out, x_of(columns) + room_for(verdict), bottom + 20);
+    put_lines(&mut out, bottom, layout.lines.as_slice());
+    put_events(&mut out, layout.rows.as_slice(), events, count);
+    put_asides(alloc, &mut out, layout.asides.as_slice(), packets);
+    put_broken(&mut out, layout.rows.as_slice(), events, verdict);
+    out.put(b"</svg>\n");
+    out.whole()
 }

@@ -1,80 +1,75 @@
 //! How marks are spelled.
 
-ghost use Rattle.std.specs.Prelude.{◌≡◌, ◌≤◌, ◌++◌, codes, length, drop, flat_map, option_to_list, OnOk};
+ghost use Rattle.std.specs.Prelude.{◌≡◌, ◌≤◌, ◌++◌, codes, length, drop, flat_map, option_to_list};
 ghost use Rattle.std.specs.Fmt.{decimal};
+ghost use Rattle.trace_drawing.specs.Written.{Appends};
 ghost use Rattle.trace_drawing.specs.Spelling.{point, path, bow, number_behind, start_behind, mark_text};
 
 use crate::marks::{Mark, Place};
+use crate::text::Text;
 use itoa::write_digits;
-use std::alloc::AllocError;
-use vsync_text::{put, put_decimal};
 
 /// Appends a number and what stands behind it. The digits are written over the end of the first 20 bytes, in front of what stands behind them, so that both are
 /// appended at once.
-pub fn put_over(out: &mut Vec<u8>, number: u64, form: &mut [u8]) -> Result<(), AllocError>
+pub fn put_over(out: &mut Text, number: u64, form: &mut [u8])
     requires room { 20 ≤ length form.old }
-    ensures { OnOk result (out.new.items ≡ out.old.items ++ (decimal number ++ drop 20 form.old)) }
+    ensures { Appends (decimal number ++ drop 20 form.old) out.old out.new }
 {
     let start = write_digits(number, form, 20);
     let (_, text) = form.split_at(start);
-    put(out, text)
+    out.put(text);
 }
 
 // Appends a place of a path, behind a letter or more.
-fn put_point(out: &mut Vec<u8>, before: &[u8], x: u64, y: u64) -> Result<(), AllocError>
-    ensures { OnOk result (out.new.items ≡ out.old.items ++ point before.now x y) }
+fn put_point(out: &mut Text, before: &[u8], x: u64, y: u64)
+    ensures { Appends (point before.now x y) out.old out.new }
 {
     let mut first = *b"00000000000000000000 ";
-    put(out, before)?;
-    put_over(out, x, &mut first)?;
-    put_decimal(out, y)
+    out.put(before);
+    put_over(out, x, &mut first);
+    out.put_decimal(y);
 }
 
 /// Appends a shape at a place, behind what stands before the place.
-pub fn put_shape(
-    out: &mut Vec<u8>,
-    before: &[u8],
-    at: Place,
-    shape: &[u8],
-) -> Result<(), AllocError>
-    ensures { OnOk result (out.new.items ≡ out.old.items ++ (point before.now at.x at.y ++ shape.now)) }
+pub fn put_shape(out: &mut Text, before: &[u8], at: Place, shape: &[u8])
+    ensures { Appends (point before.now at.x at.y ++ shape.now) out.old out.new }
 {
-    put_point(out, before, at.x, at.y)?;
-    put(out, shape)
+    put_point(out, before, at.x, at.y);
+    out.put(shape);
 }
 
 // Appends a straight line, behind what stands before its first place.
-fn put_straight(out: &mut Vec<u8>, before: &[u8], from: Place, to: Place) -> Result<(), AllocError>
-    ensures { OnOk result (out.new.items ≡ out.old.items ++ (point before.now from.x from.y ++ point (codes "L") to.x to.y ++ codes "'/>")) }
+fn put_straight(out: &mut Text, before: &[u8], from: Place, to: Place)
+    ensures { Appends (point before.now from.x from.y ++ point (codes "L") to.x to.y ++ codes "'/>") out.old out.new }
 {
-    put_point(out, before, from.x, from.y)?;
-    put_point(out, b"L", to.x, to.y)?;
-    put(out, b"'/>")
+    put_point(out, before, from.x, from.y);
+    put_point(out, b"L", to.x, to.y);
+    out.put(b"'/>");
 }
 
 // Appends a bow to the left, down to a place.
-fn put_bow(out: &mut Vec<u8>, from: Place, to: Place) -> Result<(), AllocError>
-    ensures { OnOk result (out.new.items ≡ out.old.items ++ bow from to) }
+fn put_bow(out: &mut Text, from: Place, to: Place)
+    ensures { Appends (bow from to) out.old out.new }
 {
     let down = to.y.saturating_sub(from.y);
     let mut first = *b"00000000000000000000 0 ";
-    put(out, b"c-30 0-30 ")?;
-    put_over(out, down, &mut first)?;
-    put_decimal(out, down)
+    out.put(b"c-30 0-30 ");
+    put_over(out, down, &mut first);
+    out.put_decimal(down);
 }
 
 // Appends a message's line that is bowed to the left.
-fn put_bowed(out: &mut Vec<u8>, from: Place, to: Place) -> Result<(), AllocError>
-    ensures { OnOk result (out.new.items ≡ out.old.items ++ path (codes "m") from (bow from to)) }
+fn put_bowed(out: &mut Text, from: Place, to: Place)
+    ensures { Appends (path (codes "m") from (bow from to)) out.old out.new }
 {
-    put_point(out, b"<path class='m' d='M", from.x, from.y)?;
-    put_bow(out, from, to)?;
-    put(out, b"'/>")
+    put_point(out, b"<path class='m' d='M", from.x, from.y);
+    put_bow(out, from, to);
+    out.put(b"'/>");
 }
 
 /// Appends a mark.
-pub fn put_mark(out: &mut Vec<u8>, mark: Mark) -> Result<(), AllocError>
-    ensures { OnOk result (out.new.items ≡ out.old.items ++ mark_text mark) }
+pub fn put_mark(out: &mut Text, mark: Mark)
+    ensures { Appends (mark_text mark) out.old out.new }
 {
     match mark {
         Mark::Lifeline { from, to } => put_straight(out, b"<path class='s' d='M", from, to),
@@ -117,30 +112,30 @@ pub fn put_mark(out: &mut Vec<u8>, mark: Mark) -> Result<(), AllocError>
 }
 
 /// Appends a mark, if there is one.
-pub fn put_some_mark(out: &mut Vec<u8>, mark: Option<Mark>) -> Result<(), AllocError>
-    ensures { OnOk result (out.new.items ≡ out.old.items ++ flat_map mark_text (option_to_list mark)) }
+pub fn put_some_mark(out: &mut Text, mark: Option<Mark>)
+    ensures { Appends (flat_map mark_text (option_to_list mark)) out.old out.new }
 {
     match mark {
-        None => Ok(()),
+        None => (),
         Some(mark) => put_mark(out, mark),
     }
 }
 
 /// Appends a number behind some bytes.
-pub fn put_number(out: &mut Vec<u8>, before: &[u8], number: u64) -> Result<(), AllocError>
-    ensures { OnOk result (out.new.items ≡ out.old.items ++ number_behind before.now number) }
+pub fn put_number(out: &mut Text, before: &[u8], number: u64)
+    ensures { Appends (number_behind before.now number) out.old out.new }
 {
-    put(out, before)?;
-    put_decimal(out, number)
+    out.put(before);
+    out.put_decimal(number);
 }
 
 /// Appends the beginning of a text at a place, behind what stands before the place. Its content and `</text>` are to follow.
-pub fn put_text_start(out: &mut Vec<u8>, before: &[u8], x: u64, y: u64) -> Result<(), AllocError>
-    ensures { OnOk result (out.new.items ≡ out.old.items ++ start_behind before.now x y) }
+pub fn put_text_start(out: &mut Text, before: &[u8], x: u64, y: u64)
+    ensures { Appends (start_behind before.now x y) out.old out.new }
 {
     let mut first = *b"00000000000000000000' y='";
     let mut second = *b"00000000000000000000'>";
-    put(out, before)?;
-    put_over(out, x, &mut first)?;
-    put_over(out, y, &mut second)
+    out.put(before);
+    put_over(out, x, &mut first);
+    put_over(out, y, &mut second);
 }

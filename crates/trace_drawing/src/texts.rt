@@ -1,8 +1,9 @@
 //! The texts of an event.
 
-ghost use Rattle.std.specs.Prelude.{◌≡◌, ◌+◌, ◌++◌, codes, OnOk};
+ghost use Rattle.std.specs.Prelude.{◌≡◌, ◌+◌, codes};
 ghost use Rattle.std.specs.Option.{option_copied};
 ghost use Rattle.address.specs.Ids.{text_of_address, text_of_view_id};
+ghost use Rattle.trace_drawing.specs.Written.{Appends};
 ghost use Rattle.trace_drawing.specs.Labels.{label};
 ghost use Rattle.trace_drawing.specs.Marks.{x_of, y_of, place_of};
 ghost use Rattle.trace_drawing.specs.Spelling.{start_behind, text_behind, text_at};
@@ -12,74 +13,57 @@ use crate::labels::put_label;
 use crate::marks::{BLOCK, names_y, place_of, x_of, y_of};
 use crate::row::Row;
 use crate::spelling::{put_number, put_over, put_shape, put_text_start};
+use crate::text::Text;
 use address::{Address, Bytes, ViewId};
-use std::alloc::AllocError;
 use trace_props::{Event, Install, Numbered};
-use vsync_text::{put, put_address, put_decimal};
 
 // Appends an address.
-fn put_name(out: &mut Vec<u8>, member: &Address) -> Result<(), AllocError>
-    ensures { OnOk result (out.new.items ≡ out.old.items ++ text_of_address member.now) }
+fn put_name(out: &mut Text, member: &Address)
+    ensures { Appends (text_of_address member.now) out.old out.new }
 {
-    put_decimal(out, u64::from(member.node().number()))?;
-    put_number(out, b".", u64::from(member.incarnation()))
+    out.put_decimal(u64::from(member.node().number()));
+    put_number(out, b".", u64::from(member.incarnation()));
 }
 
 // Appends a view id.
-fn put_view_id(out: &mut Vec<u8>, view: ViewId) -> Result<(), AllocError>
-    ensures { OnOk result (out.new.items ≡ out.old.items ++ text_of_view_id view) }
+fn put_view_id(out: &mut Text, view: ViewId)
+    ensures { Appends (text_of_view_id view) out.old out.new }
 {
-    put_decimal(out, view.counter())?;
-    put_address(out, b'@', &view.creator())
+    out.put_decimal(view.counter());
+    out.put_address(b'@', &view.creator());
 }
 
 // Appends the beginning of a text beside a mark, behind what stands before its place.
-fn put_beside_start(
-    out: &mut Vec<u8>,
-    before: &[u8],
-    level: u32,
-    column: u32,
-) -> Result<(), AllocError>
-    ensures { OnOk result (out.new.items ≡ out.old.items ++ start_behind before.now (x_of column + 11) (y_of level + 4)) }
+fn put_beside_start(out: &mut Text, before: &[u8], level: u32, column: u32)
+    ensures { Appends (start_behind before.now (x_of column + 11) (y_of level + 4)) out.old out.new }
 {
-    put_text_start(out, before, x_of(column) + 11, y_of(level) + 4)
+    put_text_start(out, before, x_of(column) + 11, y_of(level) + 4);
 }
 
 // Appends a text beside a mark.
-fn put_beside(out: &mut Vec<u8>, level: u32, column: u32, content: &[u8]) -> Result<(), AllocError>
-    ensures { OnOk result (out.new.items ≡ out.old.items ++ beside (codes "t") level column content.now) }
+fn put_beside(out: &mut Text, level: u32, column: u32, content: &[u8])
+    ensures { Appends (beside (codes "t") level column content.now) out.old out.new }
 {
-    put_beside_start(out, b"<text class='t' x='", level, column)?;
-    put(out, content)?;
-    put(out, b"</text>")
+    put_beside_start(out, b"<text class='t' x='", level, column);
+    out.put(content);
+    out.put(b"</text>");
 }
 
 // Appends what is shown of a payload, beside a mark.
-fn put_payload(
-    out: &mut Vec<u8>,
-    before: &[u8],
-    level: u32,
-    column: u32,
-    payload: &[u8],
-) -> Result<(), AllocError>
-    ensures { OnOk result (out.new.items ≡ out.old.items ++ text_behind before.now (x_of column + 11) (y_of level + 4) (label payload.now)) }
+fn put_payload(out: &mut Text, before: &[u8], level: u32, column: u32, payload: &[u8])
+    ensures { Appends (text_behind before.now (x_of column + 11) (y_of level + 4) (label payload.now)) out.old out.new }
 {
-    put_beside_start(out, before, level, column)?;
-    put_label(out, payload)?;
-    put(out, b"</text>")
+    put_beside_start(out, before, level, column);
+    put_label(out, payload);
+    out.put(b"</text>");
 }
 
 // Appends a mark where a state is given.
-fn put_given(
-    out: &mut Vec<u8>,
-    given: Option<&Bytes>,
-    level: u32,
-    column: u32,
-) -> Result<(), AllocError>
-    ensures { OnOk result (out.new.items ≡ out.old.items ++ given_text (option_copied given.entry) (place_of level column)) }
+fn put_given(out: &mut Text, given: Option<&Bytes>, level: u32, column: u32)
+    ensures { Appends (given_text (option_copied given.entry) (place_of level column)) out.old out.new }
 {
     match given {
-        None => Ok(()),
+        None => (),
         Some(_) => put_shape(
             out,
             b"<path class='g' d='M",
@@ -90,11 +74,11 @@ fn put_given(
 }
 
 // Appends how many messages are handed back.
-fn put_back(out: &mut Vec<u8>, back: &[Numbered], level: u32, column: u32) -> Result<(), AllocError>
-    ensures { OnOk result (out.new.items ≡ out.old.items ++ back_text back.now level column) }
+fn put_back(out: &mut Text, back: &[Numbered], level: u32, column: u32)
+    ensures { Appends (back_text back.now level column) out.old out.new }
 {
     if back.is_empty() {
-        return Ok(());
+        return;
     }
     let mut last = *b"00000000000000000000 back</text>";
     put_text_start(
@@ -102,41 +86,31 @@ fn put_back(out: &mut Vec<u8>, back: &[Numbered], level: u32, column: u32) -> Re
         b"<text class='t' x='",
         x_of(column) + 44,
         y_of(level) + 4,
-    )?;
-    put_over(out, back.len() as u64, &mut last)
+    );
+    put_over(out, back.len() as u64, &mut last);
 }
 
 // Appends the id of a view that is installed.
-fn put_installed(out: &mut Vec<u8>, view: ViewId, level: u32, column: u32) -> Result<(), AllocError>
-    ensures { OnOk result (out.new.items ≡ out.old.items ++ text_at (codes "i") (x_of column) (y_of level + 4) (text_of_view_id view)) }
+fn put_installed(out: &mut Text, view: ViewId, level: u32, column: u32)
+    ensures { Appends (text_at (codes "i") (x_of column) (y_of level + 4) (text_of_view_id view)) out.old out.new }
 {
-    put_text_start(out, b"<text class='i' x='", x_of(column), y_of(level) + 4)?;
-    put_view_id(out, view)?;
-    put(out, b"</text>")
+    put_text_start(out, b"<text class='i' x='", x_of(column), y_of(level) + 4);
+    put_view_id(out, view);
+    out.put(b"</text>");
 }
 
 // Appends the texts of an install.
-fn put_install(
-    out: &mut Vec<u8>,
-    install: &Install,
-    level: u32,
-    column: u32,
-) -> Result<(), AllocError>
-    ensures { OnOk result (out.new.items ≡ out.old.items ++ install_text install.now level column) }
+fn put_install(out: &mut Text, install: &Install, level: u32, column: u32)
+    ensures { Appends (install_text install.now level column) out.old out.new }
 {
-    put_installed(out, install.view.id(), level, column)?;
-    put_given(out, install.given.as_ref(), level, column)?;
-    put_back(out, install.handed_back.as_slice(), level, column)
+    put_installed(out, install.view.id(), level, column);
+    put_given(out, install.given.as_ref(), level, column);
+    put_back(out, install.handed_back.as_slice(), level, column);
 }
 
 /// Appends the texts of an event.
-pub fn put_texts(
-    out: &mut Vec<u8>,
-    event: &Event,
-    level: u32,
-    column: u32,
-) -> Result<(), AllocError>
-    ensures { OnOk result (out.new.items ≡ out.old.items ++ texts_of event.now level column) }
+pub fn put_texts(out: &mut Text, event: &Event, level: u32, column: u32)
+    ensures { Appends (texts_of event.now level column) out.old out.new }
 {
     match event {
         Event::Started(_) => put_beside(out, level, column, b"started"),
@@ -158,7 +132,7 @@ pub fn put_texts(
                 delivery.message.payload.as_slice(),
             )
         }
-        Event::Blocked(_) => Ok(()),
+        Event::Blocked(_) => (),
         Event::Installed(install) => put_install(out, install.get(), level, column),
         Event::Left(_) => put_beside(out, level, column, b"left"),
         Event::Crashed(_) => put_beside(out, level, column, b"crashed"),
@@ -176,41 +150,39 @@ fn same_block(level: u32, before: Option<u32>) -> bool
 }
 
 // Appends the name of a member above a column.
-fn put_above(out: &mut Vec<u8>, level: u32, column: u32, member: &Address) -> Result<(), AllocError>
-    ensures { OnOk result (out.new.items ≡ out.old.items ++ name_above level column member.now) }
+fn put_above(out: &mut Text, level: u32, column: u32, member: &Address)
+    ensures { Appends (name_above level column member.now) out.old out.new }
 {
-    put_text_start(out, b"<text class='n' x='", x_of(column), names_y(level))?;
-    put_name(out, member)?;
-    put(out, b"</text>")
+    put_text_start(out, b"<text class='n' x='", x_of(column), names_y(level));
+    put_name(out, member);
+    out.put(b"</text>");
 }
 
 /// Appends the name of a member above its column, at its first event in a block of rows.
-pub fn put_name_above(out: &mut Vec<u8>, row: &Row, member: &Address) -> Result<(), AllocError>
-    ensures { OnOk result (out.new.items ≡ out.old.items ++ name_text row.now member.now) }
+pub fn put_name_above(out: &mut Text, row: &Row, member: &Address)
+    ensures { Appends (name_text row.now member.now) out.old out.new }
 {
-    if same_block(row.level, row.before) {
-        Ok(())
-    } else {
-        put_above(out, row.level, row.column, member)
+    if !same_block(row.level, row.before) {
+        put_above(out, row.level, row.column, member);
     }
 }
 
 /// Appends the number of an event, from 1.
-pub fn put_row_number(out: &mut Vec<u8>, number: u32, level: u32) -> Result<(), AllocError>
-    ensures { OnOk result (out.new.items ≡ out.old.items ++ number_text number level) }
+pub fn put_row_number(out: &mut Text, number: u32, level: u32)
+    ensures { Appends (number_text number level) out.old out.new }
 {
     let mut first = *b"00000000000000000000'>";
     let mut second = *b"00000000000000000000</text>";
-    put(out, b"<text class='r' x='40' y='")?;
-    put_over(out, y_of(level) + 4, &mut first)?;
-    put_over(out, u64::from(number) + 1, &mut second)
+    out.put(b"<text class='r' x='40' y='");
+    put_over(out, y_of(level) + 4, &mut first);
+    put_over(out, u64::from(number) + 1, &mut second);
 }
 
 /// Appends the title of a member's line: its address.
-pub fn put_line_title(out: &mut Vec<u8>, member: &Address) -> Result<(), AllocError>
-    ensures { OnOk result (out.new.items ≡ out.old.items ++ line_start member.now) }
+pub fn put_line_title(out: &mut Text, member: &Address)
+    ensures { Appends (line_start member.now) out.old out.new }
 {
-    put(out, b"<g><title>")?;
-    put_name(out, member)?;
-    put(out, b"</title>")
+    out.put(b"<g><title>");
+    put_name(out, member);
+    out.put(b"</title>");
 }

@@ -1,10 +1,9 @@
-use Rattle.std.proofs.Common.{◌∙◌, ◌++◌, ap, sym, codes, append_assoc}
-use Rattle.std.proofs.lemmas.Result.{on_ok_weaker}
+use Rattle.std.proofs.Common.{◌∙◌, ap, sym, codes, append_assoc}
 use Rattle.trace_drawing.specs.Spelling.{point, mark_text}
+use Rattle.trace_drawing.proofs.TextsAppend.{same-text}
 use Rattle.trace_drawing.proofs.spelling.put_mark.Goals as goal
 
 -- the frame around an event
 pub returns-in-Broken : goal.returns-in-Broken
-returns-in-Broken c = on_ok_weaker c.put_shape-in-Broken.result (λ last. last
-    ∙ ap (λ t. c.args.out.now.items ++ t) (sym (append_assoc (point (codes "<path class='f' d='M") c.in-Broken.at.x c.in-Broken.at.y) (codes "m-60-10h165v20h-165z") (codes "'/>")))
-    ∙ ap (λ m. c.args.out.now.items ++ mark_text m) (sym c.in-Broken.is)) c.put_shape-in-Broken.ensures
+returns-in-Broken c =
+    same-text (sym (append_assoc (point (codes "<path class='f' d='M") c.in-Broken.at.x c.in-Broken.at.y) (codes "m-60-10h165v20h-165z") (codes "'/>")) ∙ ap mark_text (sym c.in-Broken.is)) c.put_shape-in-Broken.ensures
