@@ -42,10 +42,27 @@ const LONGEST_PAUSE: u32 = 6;
 /// With what a node runs: its settings, the options of its command, where others are reached, and the key of its group, if its datagrams are sealed.
 #[derive(Clone, Copy)]
 pub(crate) struct NodeRun<'a, 'b> {
-    pub(crate) settings: &'a Settings,
-    pub(crate) options: &'a MemberOptions<'b>,
-    pub(crate) hosts: &'a Hosts,
-    pub(crate) key: Option<&'a [u8]>,
+    settings: &'a Settings,
+    options: &'a MemberOptions<'b>,
+    hosts: &'a Hosts,
+    key: Option<&'a [u8]>,
+}
+
+impl<'a, 'b> NodeRun<'a, 'b> {
+    /// With these.
+    pub(crate) fn new(
+        settings: &'a Settings,
+        options: &'a MemberOptions<'b>,
+        hosts: &'a Hosts,
+        key: Option<&'a [u8]>,
+    ) -> NodeRun<'a, 'b> {
+        NodeRun {
+            settings,
+            options,
+            hosts,
+            key,
+        }
+    }
 }
 
 // How the options say that a member runs.

@@ -164,12 +164,8 @@ fn run_plan<R: Files + Net + RandomSource + Clock + Print + Eprint + AllocGlobal
         Ok(key) => key,
         Err(status) => return status,
     };
-    let run = NodeRun {
-        settings,
-        options,
-        hosts,
-        key: key.as_ref().map(|key| key.as_slice()),
-    };
+    let key = key.as_ref().map(|key| key.as_slice());
+    let run = NodeRun::new(settings, options, hosts, key);
     let Some(path) = options.say else {
         return run_from(rt, run, plan, &mut NoLines);
     };
