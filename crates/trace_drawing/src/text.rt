@@ -1,6 +1,6 @@
 //! Texts that are written part by part.
 
-ghost use Rattle.std.specs.Prelude.{◌≡◌, ◌∷◌, [], false, true, flat_map, IfOk};
+ghost use Rattle.std.specs.Prelude.{◌≡◌, ◌∷◌, [], false, true, flat_map, IfOk, OnErr};
 ghost use Rattle.std.specs.Fmt.{decimal};
 ghost use Rattle.address.specs.Ids.{text_of_address};
 ghost use Rattle.vsync_text.specs.TraceText.{hex_of, line_of};
@@ -46,7 +46,7 @@ impl Text {
 
     /// It lacks a part, as if memory were refused to it.
     pub fn refuse(&mut self)
-        ensures { self.new.is_short ≡ true }
+        ensures { self.new ≡ record self.old { is_short = true } }
     {
         self.is_short = true;
     }
@@ -137,9 +137,10 @@ impl Text {
         }
     }
 
-    /// All of it; an error if memory was refused to a part.
+    /// All of it; an error if memory was refused to a part, and only then. Takes no memory.
     pub fn whole(self) -> Result<Vec<u8>, AllocError>
-        ensures { IfOk result (λ bytes. (self.is_short ≡ false) × (bytes.items ≡ self.items)) }
+        ensures ok { IfOk result (λ bytes. (self.is_short ≡ false) × (bytes.items ≡ self.items)) }
+        ensures err { OnErr result (self.is_short ≡ true) }
     {
         let Text { bytes, is_short } = self;
         if is_short {

@@ -49,7 +49,7 @@ pub(crate) struct NodeRun<'a, 'b> {
 }
 
 impl<'a, 'b> NodeRun<'a, 'b> {
-    /// With these.
+    /// What a node runs with, all of which is there as long as it is.
     pub(crate) fn new(
         settings: &'a Settings,
         options: &'a MemberOptions<'b>,
