@@ -4,7 +4,7 @@ use Rattle.std.specs.List.{concat}
 use Rattle.state_transfer.specs.Meanings.{Meaning}
 use Rattle.trace_props.specs.Places.{EachPlace}
 use Rattle.trace_props.specs.Synchrony.{IsWellOrdered, IsVirtuallySynchronous}
-use Rattle.law_copies.specs.Replicas.{ReplicasAgree}
+use Rattle.law_processes.specs.Replicas.{ReplicasAgree}
 use Rattle.world_model.specs.Faithful.{IsFaithful}
 use Rattle.world_model.specs.declared.WorldEvent.{WorldEvent}
 use Rattle.world_step.specs.Worlds.{WorldModel, no_world, IsLonger, Runs as WorldRuns}

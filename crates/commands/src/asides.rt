@@ -5,7 +5,7 @@ ghost use Rattle.std.specs.Option.{option_copied};
 ghost use Rattle.std.specs.List.{cons_option};
 ghost use Rattle.trace_props.specs.Places.{EachPlace};
 ghost use Rattle.trace_props.specs.Synchrony.{IsWellOrdered, IsVirtuallySynchronous};
-ghost use Rattle.law_copies.specs.Replicas.{ReplicasAgree};
+ghost use Rattle.law_processes.specs.Replicas.{ReplicasAgree};
 ghost use Rattle.world_model.specs.Faithful.{IsFaithful};
 ghost use Rattle.world_model.specs.Packets.{destination_of};
 ghost use Rattle.world_step.specs.Worlds.{shown, no_world, WorldStep};

@@ -32,7 +32,7 @@ use Rattle.membership.specs.Changes.{StaysAs, Begins, FinishesAndProposes, Begin
 use Rattle.membership.proofs.ProposalsLead as proposals
 use Rattle.membership.proofs.KeepMemberState as lives
 use Rattle.membership.proofs.KeepNotes as notes
-use Rattle.member_views.specs.Views.{is_suspectable, has_member, has_promised}
+use Rattle.member_rules.specs.Views.{is_suspectable, has_member, has_promised}
 use Rattle.member.specs.declared.input.Input.TheVariants.{Suspect}
 use Rattle.member.specs.Members.{MemberModel, core_of}
 use Rattle.member.specs.Doing.{DoesAt}

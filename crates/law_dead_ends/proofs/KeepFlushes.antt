@@ -38,10 +38,10 @@ use Rattle.membership.proofs.ProposalsLead.{IsProposal}
 use Rattle.membership.proofs.KeepMemberState as lives
 use Rattle.membership.proofs.KeepNotes as notes
 use Rattle.state_chunks.specs.HeldChunks.{given_in}
-use Rattle.member_messages.specs.Heard.{takes_forward, takes_nak, takes_ack, takes_order, takes_status}
-use Rattle.member_messages.specs.Messages.{IsSameBeside}
-use Rattle.member_views.specs.Views.{Asks, AnnouncesView, Redirects, SaysAgain, has_promised, OnJoin, Admits, OnRedirect, OnSuspect, OnFlush, OnBehind, OnReport, OnMerge, Meets, outdated, joined, merged, is_suspectable, leads_now, is_proposing, expects, is_in, is_less, has_member}
-use Rattle.member_views.proofs.KeepMemberState as noted
+use Rattle.member_rules.specs.Heard.{takes_forward, takes_nak, takes_ack, takes_order, takes_status}
+use Rattle.member_rules.specs.Messages.{IsSameBeside}
+use Rattle.member_rules.specs.Views.{Asks, AnnouncesView, Redirects, SaysAgain, has_promised, OnJoin, Admits, OnRedirect, OnSuspect, OnFlush, OnBehind, OnReport, OnMerge, Meets, outdated, joined, merged, is_suspectable, leads_now, is_proposing, expects, is_in, is_less, has_member}
+use Rattle.member_rules.proofs.KeepMemberState as noted
 use Rattle.member.specs.Hearing.{FollowsRule}
 use Rattle.member.specs.Doing.{DoesBy}
 use Rattle.member.specs.declared.input.Input.{Input}

@@ -11,7 +11,7 @@ use Rattle.step_output.specs.declared.output.Output.{Output}
 use Rattle.membership.specs.declared.member_state.MemberState.{MemberState}
 use Rattle.membership.specs.MemberStates.{view_in}
 use Rattle.member.specs.declared.input.Input.TheVariants.{Suspect}
-use Rattle.member_views.specs.Views.{is_suspectable}
+use Rattle.member_rules.specs.Views.{is_suspectable}
 use Rattle.member.specs.Members.{MemberModel}
 use Rattle.member.specs.Handling.{Handled}
 use Rattle.law_processes.specs.Deployments.{Deployment, IsPlayed}

@@ -1,3 +1,7 @@
+pub mod StatesAreMade
+pub mod CountsArePassed
+pub mod CoordinatorsCount
+pub mod ClausesOfCopies
 pub mod PostsAreSpelled
 pub mod CallsBringPosts
 pub mod KeepBySteps

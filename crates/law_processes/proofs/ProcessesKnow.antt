@@ -11,7 +11,7 @@ use Rattle.trace_props.specs.Places.{EachPlace}
 use Rattle.trace_props.specs.Synchrony.{IsVirtuallySynchronous}
 use Rattle.trace_props.specs.State.{state_of}
 use Rattle.trace_props.proofs.RulesAlongLists.{EachPlace-whole}
-use Rattle.law_copies.specs.Replicas.{ReplicasAgree, HasDelivered}
+use Rattle.law_processes.specs.Replicas.{ReplicasAgree, HasDelivered}
 use Rattle.law_acts.specs.Cores.{Core, id_of}
 use Rattle.law_agreement.specs.Known.{Knows}
 use Rattle.law_agreement.proofs.KeepBySteps as steps

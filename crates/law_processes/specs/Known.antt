@@ -5,7 +5,7 @@ use Rattle.address.specs.Ids.{Address, ViewId}
 use Rattle.address.specs.declared.refusal.Refusal.TheVariants.{Closed}
 use Rattle.state_transfer.specs.Meanings.{Meaning}
 use Rattle.trace_props.specs.Places.{EachPlace}
-use Rattle.law_copies.specs.Replicas.{ReplicasAgree}
+use Rattle.law_processes.specs.Replicas.{ReplicasAgree}
 use Rattle.law_acts.specs.Cores.{Core, id_of}
 use Rattle.law_agreement.specs.Known.{Knows}
 use Rattle.member.specs.declared.error.Error.TheVariants.{Refused}

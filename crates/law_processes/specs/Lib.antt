@@ -1,3 +1,4 @@
+pub mod Replicas
 pub mod Deployments
 pub mod Processes
 pub mod Known

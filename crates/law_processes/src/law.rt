@@ -3,7 +3,7 @@ ghost use Rattle.law_processes.specs.Carried.{CoordinatorsKeepTheirs, DeliverSho
 ghost use Rattle.law_processes.specs.Known.{CopiesAgree, MembersKnow, NeverClosed, ProcessesAgree};
 ghost use Rattle.law_processes.specs.Law.{AreSynchronous, MergedAreSynchronous, TellAll};
 
-use law_copies::replicas_agree;
+use crate::replicas_agree;
 use state_transfer::Receiver;
 
 /// The law of deployments: whatever processes do by the contract of their members, in whatever order, what happened keeps all eight rules at every place, as long as

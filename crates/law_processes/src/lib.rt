@@ -1,7 +1,9 @@
-//! Deployments: processes that each run one member of a group, over a network that hands over only what was put out. Definitions, and a function that does
-//! nothing: its clause is the law that what happened is virtually synchronous.
+//! Deployments: processes that each run one member of a group, over a network that hands over only what was put out; and the copies of a state that they keep.
+//! Definitions, and functions that do nothing: their clauses are the laws that what happened is virtually synchronous, and that replicas agree.
 #![tactic(auto)]
 
 mod law;
+mod replicas;
 
 pub use law::deployments_are_synchronous;
+pub use replicas::replicas_agree;

@@ -12,7 +12,7 @@ use Rattle.trace_props.specs.declared.event.Event.TheVariants.{Started, Crashed}
 use Rattle.trace_props.specs.Observed.{has_started}
 use Rattle.trace_props.specs.Places.{EachPlace}
 use Rattle.trace_props.specs.Synchrony.{IsVirtuallySynchronous}
-use Rattle.law_copies.specs.Replicas.{ReplicasAgree}
+use Rattle.law_processes.specs.Replicas.{ReplicasAgree}
 use Rattle.trace_props.proofs.ObservedGrow.{has_started-now, has_started-stays}
 use Rattle.trace_props.proofs.RulesAlongLists.{slice_get-push, slice_get-before, slice_get-last}
 use Rattle.member.specs.Members.{MemberModel}

@@ -6,7 +6,7 @@ use Rattle.address.specs.Ids.{Address}
 use Rattle.state_transfer.specs.Meanings.{Meaning}
 use Rattle.trace_props.specs.declared.event.Event.{Event}
 use Rattle.trace_props.proofs.RulesAlongLists.{EachPlace-whole}
-use Rattle.law_copies.specs.Replicas.{ReplicasAgree}
+use Rattle.law_processes.specs.Replicas.{ReplicasAgree}
 use Rattle.law_acts.specs.Cores.{Core, idle}
 use Rattle.law_agreement.specs.Known.{Knows}
 use Rattle.member.specs.Members.{MemberModel, core_of}

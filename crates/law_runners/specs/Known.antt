@@ -3,7 +3,7 @@ use Rattle.std.specs.Prelude.{◌≡◌, ℕ, List, Some}
 use Rattle.address.specs.Ids.{Address, ViewId}
 use Rattle.state_transfer.specs.Meanings.{Meaning}
 use Rattle.trace_props.specs.Places.{EachPlace}
-use Rattle.law_copies.specs.Replicas.{ReplicasAgree, HasDelivered}
+use Rattle.law_processes.specs.Replicas.{ReplicasAgree, HasDelivered}
 use Rattle.channel.specs.declared.stage.Stage.{Stage}
 use Rattle.channel.specs.Channels.{receiver_in}
 use Rattle.law_processes.specs.Deployments.{trace_of}

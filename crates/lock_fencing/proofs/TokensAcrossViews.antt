@@ -23,8 +23,8 @@ use Rattle.trace_props.proofs.ObservedGrow.{current_view-push}
 use Rattle.trace_props.proofs.DeliveredGrow.{is_delivery_to-true, said_by-true}
 use Rattle.trace_props.proofs.InstallsOfRisingViews.{by_pushes, IsUpTo, IsUpTo-below}
 use Rattle.trace_props.proofs.RuleOfEntry.{state_of-push, entry_state-push}
-use Rattle.law_copies.specs.Replicas as copies
-use Rattle.law_copies.proofs.StatesAreMade.{Grounds, state-made}
+use Rattle.law_processes.specs.Replicas as copies
+use Rattle.law_processes.proofs.StatesAreMade.{Grounds, state-made}
 use Rattle.keyed_state.specs.declared.token.Token.{Token}
 use Rattle.lock_table.specs.declared.command.Command.{Command}
 use Rattle.keyed_state.specs.Tokens.{IsViewId, least_token}

@@ -19,8 +19,8 @@ use Rattle.trace_props.specs.Synchrony.{KeepsRules, IsVirtuallySynchronous}
 use Rattle.trace_props.proofs.RulesAlongLists.{EachPlace-whole, take-next, slice_get-before, slice_get-last, IsBeginningOf-at}
 use Rattle.trace_props.proofs.DeliveredGrow.{is_delivery_to, is_delivery_to-at, delivered_in-hit}
 use Rattle.std.proofs.lemmas.List.Elements.{filter_map-append}
-use Rattle.law_copies.specs.Replicas as copies
-use Rattle.law_copies.proofs.StatesAreMade.{state-made, entry-later}
+use Rattle.law_processes.specs.Replicas as copies
+use Rattle.law_processes.proofs.StatesAreMade.{state-made, entry-later}
 use Rattle.keyed_state.specs.Entries.{key_cmp}
 use Rattle.keyed_state.specs.EntryLaws.{flipped}
 use Rattle.keyed_state.specs.declared.token.Token.{Token}

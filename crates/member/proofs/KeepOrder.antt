@@ -14,8 +14,8 @@ use Rattle.traffic.specs.ViewStates.{fresh_coordinator, fresh_follower, fresh_in
 use Rattle.traffic.proofs.NewViewTraffic.{fresh-is-coordinator, fresh-settled-in, fresh-rested, fresh-view}
 use Rattle.membership.specs.declared.member_state.MemberState.{MemberState}
 use Rattle.membership.specs.MemberStates.{IsMemberState, view_in}
-use Rattle.member_messages.specs.Ordered.{IsOrderly, IsOrdered}
-use Rattle.member_views.proofs.KeepSteady.{Steady, Same, Fresh}
+use Rattle.member_rules.specs.Ordered.{IsOrderly, IsOrdered}
+use Rattle.member_rules.proofs.KeepSteady.{Steady, Same, Fresh}
 use Rattle.step_output.specs.Steps.{who}
 
 fresh-by : (b : Bool) (me : Address) (v : View) → same_address me v.id.creator ≡ b → stands_in me v.members ≡ true

@@ -26,16 +26,16 @@ use Rattle.membership.specs.declared.member_state.MemberState.{MemberState}
 use Rattle.membership.specs.MemberStates.{core_of as core_at, view_in, view_core_in, is_connected, IsMemberState}
 use Rattle.membership.specs.Changes.{StaysAs, TakesSuspicion}
 use Rattle.membership.specs.Doing.{Did}
-use Rattle.member_messages.specs.Ordered.{IsOrderly, IsOrdered}
-use Rattle.member_messages.specs.Messages.{ByKind, SendsNext, SendsFirst, has_room, DeliversNext, DeliversAtOnce, Sends}
-use Rattle.member_views.specs.Firsts.{lone_install}
+use Rattle.member_rules.specs.Ordered.{IsOrderly, IsOrdered}
+use Rattle.member_rules.specs.Messages.{ByKind, SendsNext, SendsFirst, has_room, DeliversNext, DeliversAtOnce, Sends}
+use Rattle.member_rules.specs.Firsts.{lone_install}
 use Rattle.member.specs.Running.{IsRunning, IsAlive}
 use Rattle.member.proofs.KeepOrder.{steady-ordered}
-use Rattle.member_views.proofs.KeepSteady.{Steady}
-use Rattle.member_views.specs.Ignoring.{is_hint_ignored}
-use Rattle.member_views.specs.Views.{Creates, Asks, OnSuspect, AnnouncesView, Leaves, is_suspectable, has_member, has_promised}
-use Rattle.member_views.proofs.ActsOfRules.{create-did, ask-did, hint-did, suspect-did, leave-acted}
-use Rattle.member_views.proofs.KeepMemberState.{outside}
+use Rattle.member_rules.proofs.KeepSteady.{Steady}
+use Rattle.member_rules.specs.Ignoring.{is_hint_ignored}
+use Rattle.member_rules.specs.Views.{Creates, Asks, OnSuspect, AnnouncesView, Leaves, is_suspectable, has_member, has_promised}
+use Rattle.member_rules.proofs.ActsOfRules.{create-did, ask-did, hint-did, suspect-did, leave-acted}
+use Rattle.member_rules.proofs.KeepMemberState.{outside}
 use Rattle.member.specs.declared.error.Error.{Error}
 use Rattle.member.specs.declared.error.Error.TheVariants.{Refused}
 use Rattle.member.specs.declared.input.Input.{Input}

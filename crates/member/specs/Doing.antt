@@ -10,9 +10,9 @@ use Rattle.step_output.specs.Outputs.{Grows, Puts}
 use Rattle.membership.specs.declared.member_state.MemberState.{MemberState}
 use Rattle.membership.specs.MemberStates.{is_connected}
 use Rattle.membership.specs.Changes.{StaysAs}
-use Rattle.member_messages.specs.Messages.{Sends, TicksInView}
-use Rattle.member_views.specs.Views.{Creates, Asks, OnSuspect, AnnouncesView, Leaves, is_suspectable, asks_again, flushes_again}
-use Rattle.member_views.specs.Ignoring.{is_hint_ignored}
+use Rattle.member_rules.specs.Messages.{Sends, TicksInView}
+use Rattle.member_rules.specs.Views.{Creates, Asks, OnSuspect, AnnouncesView, Leaves, is_suspectable, asks_again, flushes_again}
+use Rattle.member_rules.specs.Ignoring.{is_hint_ignored}
 use Rattle.member.specs.Hearing.{FollowsRule, ignores}
 use Rattle.member.specs.declared.input.Input.{Input}
 use Rattle.member.specs.declared.input.Input.TheVariants.{Create, Join, Send, Datagram, Tick, Suspect, MergeHint, Leave}

@@ -15,11 +15,11 @@ use Rattle.wire_values.specs.Kinds.{install_said}
 use Rattle.membership.specs.MemberStates.{would_hold}
 use Rattle.membership.specs.Changes.{TakesInstall, TakesChunk, would_enter}
 use Rattle.state_chunks.specs.HeldChunks.{given_in}
-use Rattle.member_messages.specs.Heard.{takes_forward, takes_nak, takes_ack, takes_order, takes_status}
-use Rattle.member_messages.specs.Ordered.{HearsBy}
-use Rattle.member_messages.specs.Messages.{OnForward, OnAck, OnNak, OnOrder, OnStatus}
-use Rattle.member_views.specs.Views.{OnJoin, OnRedirect, OnSuspect, OnFlush, OnBehind, OnReport, OnMerge, is_suspectable, is_proposing}
-use Rattle.member_views.specs.Ignoring.{is_misdirected, is_flush_ignored, is_report_ignored, is_merge_ignored}
+use Rattle.member_rules.specs.Heard.{takes_forward, takes_nak, takes_ack, takes_order, takes_status}
+use Rattle.member_rules.specs.Ordered.{HearsBy}
+use Rattle.member_rules.specs.Messages.{OnForward, OnAck, OnNak, OnOrder, OnStatus}
+use Rattle.member_rules.specs.Views.{OnJoin, OnRedirect, OnSuspect, OnFlush, OnBehind, OnReport, OnMerge, is_suspectable, is_proposing}
+use Rattle.member_rules.specs.Ignoring.{is_misdirected, is_flush_ignored, is_report_ignored, is_merge_ignored}
 use Rattle.step_output.specs.Steps.{Who}
 use Rattle.membership.specs.InSteps.{InStep}
 

@@ -16,8 +16,8 @@ use Rattle.membership.specs.declared.member_state.MemberState.{MemberState}
 use Rattle.membership.specs.MemberStates.{core_of as core_at}
 pub use Rattle.wire_values.specs.Kinds.{install_said}
 pub use Rattle.member.specs.Hearing.{entry_of, is_unreadable_by}
-pub use Rattle.member_views.specs.Firsts.{lone_install}
-pub use Rattle.member_messages.specs.Refusals.{send_refusal}
+pub use Rattle.member_rules.specs.Firsts.{lone_install}
+pub use Rattle.member_rules.specs.Refusals.{send_refusal}
 use Rattle.member.specs.declared.error.Error.{Error}
 use Rattle.member.specs.declared.error.Error.TheVariants.{Refused, Wire}
 use Rattle.member.specs.declared.input.Input.{Input}

@@ -3,7 +3,7 @@ use Rattle.std.specs.Prelude.{Option}
 use Rattle.std.specs.Option.{ForSome}
 use Rattle.membership.specs.declared.member_state.MemberState.{MemberState}
 use Rattle.membership.specs.MemberStates.{IsMemberState}
-use Rattle.member_messages.specs.Ordered.{IsOrdered}
+use Rattle.member_rules.specs.Ordered.{IsOrdered}
 use Rattle.step_output.specs.Steps.{Who}
 
 -- what its acts need holds of it, and its messages are in order

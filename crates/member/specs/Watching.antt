@@ -8,7 +8,7 @@ use Rattle.flush.specs.Flushes.{FlushModel}
 use Rattle.law_acts.specs.Acts.{others_of}
 use Rattle.membership.specs.declared.member_state.MemberState.{MemberState}
 use Rattle.membership.specs.MemberStates.{view_in, leads_in}
-use Rattle.member_views.specs.Views.{listed_in}
+use Rattle.member_rules.specs.Views.{listed_in}
 use Rattle.member.specs.Members.{MemberModel}
 
 -- who proposed what it promised, while it is blocked without a flush of its own and does not suspect that one

@@ -17,8 +17,7 @@ ghost use Rattle.step_output.specs.Steps.{who_of};
 ghost use Rattle.membership.specs.InSteps.{in_step};
 
 use crate::rules::hear;
-use member_messages::tick_in_view;
-use member_views::{ask_again, flush_again};
+use member_rules::{ask_again, flush_again, tick_in_view};
 use membership::{MemberState, Stop};
 use state_transfer::Receiver;
 use std::alloc::AllocError;

@@ -6,14 +6,16 @@ ghost use Rattle.law_acts.specs.Acts.{packet};
 ghost use Rattle.membership.specs.declared.stop.Stop.TheVariants as stop;
 ghost use Rattle.membership.specs.MemberStates.{IsMemberState, is_connected};
 ghost use Rattle.membership.specs.Changes.{StaysAs};
-ghost use Rattle.member_messages.specs.Ordered.{IsOrdered};
+ghost use Rattle.member_rules.specs.Ordered.{IsOrdered};
 ghost use Rattle.member.specs.Hearing.{Hears, ignores, is_unreadable_by};
 ghost use Rattle.step_output.specs.Steps.{who_of};
 ghost use Rattle.membership.specs.InSteps.{in_step};
 
 use address::Address;
-use member_messages::{on_ack, on_forward, on_nak, on_order, on_status};
-use member_views::{on_behind, on_flush, on_join, on_merge, on_redirect, on_report, on_suspect};
+use member_rules::{
+    on_ack, on_behind, on_flush, on_forward, on_join, on_merge, on_nak, on_order, on_redirect,
+    on_report, on_status, on_suspect,
+};
 use membership::{MemberState, Stop};
 use state_transfer::Receiver;
 use step_output::{Identity, Output};

@@ -35,7 +35,7 @@ use Rattle.membership.specs.declared.member_state.MemberState.{MemberState}
 use Rattle.membership.specs.MemberStates.{core_of as core_at, view_in, is_connected, is_complete, begun_with, report_in}
 use Rattle.membership.specs.Changes.{StaysAs, Regroups, BeginsAndGoesOn, FinishesAndProposes}
 use Rattle.member.specs.Members.{MemberModel}
-use Rattle.member_views.specs.Views.{OnMerge, Meets, merged, view_for, leads_now, has_member, is_less}
+use Rattle.member_rules.specs.Views.{OnMerge, Meets, merged, view_for, leads_now, has_member, is_less}
 use Rattle.world_model.specs.declared.WorldEvent.TheVariants.{Deliver, MergeHint}
 use Rattle.world_model.specs.Packets.{world_group}
 use Rattle.world_step.specs.declared.node_state.NodeState.TheVariants.{Running}

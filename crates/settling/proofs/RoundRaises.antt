@@ -34,7 +34,7 @@ use Rattle.membership.specs.declared.member_state.MemberState.{MemberState}
 use Rattle.membership.specs.MemberStates.{core_of as core_at, view_in, is_connected, is_complete, begun_with, report_in, anew_proposal, anew_past, IsFlushing}
 use Rattle.membership.specs.Changes.{StaysAs, FinishesAndProposes}
 use Rattle.member.specs.Members.{MemberModel}
-use Rattle.member_views.specs.Views.{OnFlush, OnBehind}
+use Rattle.member_rules.specs.Views.{OnFlush, OnBehind}
 use Rattle.world_model.specs.declared.WorldEvent.TheVariants.{Deliver, Tick}
 use Rattle.world_model.specs.Packets.{world_group, packet_numbered}
 use Rattle.world_step.specs.declared.node_state.NodeState.{NodeState}

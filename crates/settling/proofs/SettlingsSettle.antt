@@ -32,7 +32,7 @@ use Rattle.traffic.specs.declared.view_state.ViewState.{ViewState}
 use Rattle.membership.specs.declared.member_state.MemberState.{MemberState}
 use Rattle.membership.specs.MemberStates.{core_of as core_at, is_connected, is_complete, IsFlushing}
 use Rattle.membership.specs.Installs.{finish_packets, instruction_to}
-use Rattle.member_views.specs.Views.{proposes_again}
+use Rattle.member_rules.specs.Views.{proposes_again}
 use Rattle.member.specs.Members.{MemberModel}
 use Rattle.world_model.specs.declared.WorldEvent.{WorldEvent}
 use Rattle.world_model.specs.declared.WorldEvent.TheVariants.{Deliver, Tick}

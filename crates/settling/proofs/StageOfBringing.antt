@@ -34,7 +34,7 @@ use Rattle.membership.specs.declared.member_state.MemberState.{MemberState}
 use Rattle.membership.specs.declared.sent_install.SentInstall.{SentInstall}
 use Rattle.membership.specs.MemberStates.{view_in, is_connected, report_in, is_chunked, is_sent_to, sent_install, awaits, would_hold, core_of as core_at}
 use Rattle.membership.specs.Changes.{StaysAs, InstallsAgain, TakesChunk, TakesInstall, Enters, chunks_before, state_packets as kept_packets}
-use Rattle.member_views.specs.Views.{OnReport, SaysAgain, proposes_again, reports_again, flushes_again, asks_again, expects, is_in}
+use Rattle.member_rules.specs.Views.{OnReport, SaysAgain, proposes_again, reports_again, flushes_again, asks_again, expects, is_in}
 use Rattle.member.specs.Doing.{Ticks}
 use Rattle.state_chunks.specs.HeldChunks.{chunk_count, is_new, is_there, has_all, given_in}
 use Rattle.world_model.specs.declared.WorldEvent.TheVariants.{Deliver, Tick}

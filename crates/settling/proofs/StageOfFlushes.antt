@@ -23,7 +23,7 @@ use Rattle.step_output.specs.Steps.{who}
 use Rattle.membership.specs.InSteps.{in_step}
 use Rattle.membership.specs.declared.member_state.MemberState.{MemberState}
 use Rattle.membership.specs.MemberStates.{report_in, blocked_by}
-use Rattle.member_views.specs.Views.{OnFlush, flushes_again, proposes_again, reports_again}
+use Rattle.member_rules.specs.Views.{OnFlush, flushes_again, proposes_again, reports_again}
 use Rattle.member.specs.Doing.{Ticks}
 use Rattle.world_model.specs.declared.WorldEvent.TheVariants.{Deliver}
 use Rattle.world_model.specs.Packets.{world_group}

@@ -35,7 +35,7 @@ use Rattle.membership.specs.declared.member_state.MemberState.{MemberState}
 use Rattle.membership.specs.MemberStates.{core_of as core_at, view_in, view_core_in, is_complete}
 use Rattle.membership.specs.Installs.{finish_packets, finished_given}
 use Rattle.membership.specs.Changes.{StaysAs, Begins, GoesOn}
-use Rattle.member_views.specs.Views.{OnReport}
+use Rattle.member_rules.specs.Views.{OnReport}
 use Rattle.world_model.specs.declared.WorldEvent.TheVariants.{Deliver}
 use Rattle.world_model.specs.Packets.{world_group}
 use Rattle.world_step.specs.NodeStates.{bytes_of}

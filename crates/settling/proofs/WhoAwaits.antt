@@ -32,7 +32,7 @@ use Rattle.step_output.specs.Steps.{who}
 use Rattle.membership.specs.declared.member_state.MemberState.{MemberState}
 use Rattle.membership.specs.MemberStates.{core_of as core_at, is_expected, view_in, labelled, sent_installs_in, is_sent_to, install_packet, sent_install, IsKept, IsMemberState, IsFlushing}
 use Rattle.membership.proofs.InstallsReadBack.{IsAgain, again-in, kept-are}
-use Rattle.member_views.specs.Views.{expects}
+use Rattle.member_rules.specs.Views.{expects}
 use Rattle.world_model.specs.Packets.{world_group}
 use Rattle.world_step.proofs.MembersAsSystem.{system_of}
 use Rattle.world_step.specs.Worlds.{WorldModel}

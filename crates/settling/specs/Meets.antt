@@ -9,7 +9,7 @@ use Rattle.next_view.specs.ViewNotes.{NotesModel}
 use Rattle.membership.specs.declared.member_state.MemberState.{MemberState}
 use Rattle.membership.specs.MemberStates.{view_in}
 use Rattle.member.specs.Members.{MemberModel}
-use Rattle.member_views.specs.Views.{is_less}
+use Rattle.member_rules.specs.Views.{is_less}
 use Rattle.world_model.specs.declared.WorldEvent.TheVariants.{MergeHint, Deliver}
 use Rattle.world_step.specs.declared.node_state.NodeState.TheVariants.{Running}
 use Rattle.world_step.specs.Worlds.{WorldModel, IsReached}

@@ -20,7 +20,7 @@ use Rattle.traffic.specs.ViewStates.{view_of}
 use Rattle.traffic.specs.Takes.{progress_of}
 use Rattle.membership.specs.declared.member_state.MemberState.{MemberState}
 use Rattle.membership.specs.MemberStates.{core_of as core_at}
-use Rattle.member_messages.specs.Ordered.{IsOrderly}
+use Rattle.member_rules.specs.Ordered.{IsOrderly}
 use Rattle.member.specs.Members.{MemberModel}
 use Rattle.world_model.specs.declared.WorldEvent.TheVariants.{Deliver, Tick}
 use Rattle.world_model.specs.Histories.{last_of, is_connected}

@@ -30,8 +30,8 @@ use Rattle.traffic.specs.Followers.{collected_to, held_too}
 use Rattle.traffic.specs.Takes.{Asks, AsksUpTo, progress_of, orders_held}
 use Rattle.membership.specs.declared.member_state.MemberState.{MemberState}
 use Rattle.membership.specs.MemberStates.{core_of as core_at, view_core_in}
-use Rattle.member_messages.specs.Heard.{is_near}
-use Rattle.member_messages.specs.Ordered.{IsOrderly}
+use Rattle.member_rules.specs.Heard.{is_near}
+use Rattle.member_rules.specs.Ordered.{IsOrderly}
 use Rattle.world_model.specs.declared.WorldEvent.TheVariants.{Deliver}
 use Rattle.world_model.specs.Packets.{world_group, packet_numbered}
 use Rattle.world_step.specs.NodeStates.{bytes_of}

@@ -21,8 +21,8 @@ use Rattle.traffic.specs.declared.view_state.ViewState.TheVariants as kinds
 use Rattle.traffic.specs.Takes.{TakesOrder, TakesStatus, AsksUpTo, progress_of, orders_held}
 use Rattle.traffic.specs.Followers.{collected_to}
 use Rattle.membership.specs.declared.member_state.MemberState.{MemberState}
-use Rattle.member_messages.specs.Heard.{takes_nak, takes_order, takes_status, is_near}
-use Rattle.member_messages.specs.Messages.{ByKind, AtFollower, OnNak, OnOrder, OnStatus, TicksInView}
+use Rattle.member_rules.specs.Heard.{takes_nak, takes_order, takes_status, is_near}
+use Rattle.member_rules.specs.Messages.{ByKind, AtFollower, OnNak, OnOrder, OnStatus, TicksInView}
 use Rattle.member.specs.Doing.{Ticks}
 use Rattle.world_model.specs.declared.WorldEvent.TheVariants.{Tick}
 use Rattle.world_model.specs.Packets.{world_group}

@@ -6,7 +6,7 @@ ghost use Rattle.std.specs.Ordering.{nat_cmp};
 ghost use Rattle.std.specs.BTreeMap.{get};
 ghost use Rattle.trace_props.specs.Places.{EachPlace};
 ghost use Rattle.trace_props.specs.Synchrony.{IsWellOrdered, IsVirtuallySynchronous};
-ghost use Rattle.law_copies.specs.Replicas.{ReplicasAgree};
+ghost use Rattle.law_processes.specs.Replicas.{ReplicasAgree};
 ghost use Rattle.world_model.specs.Faithful.{IsFaithful};
 ghost use Rattle.world_model.specs.declared.WorldEvent.TheVariants.{Deliver};
 ghost use Rattle.law_processes.specs.Deployments.{IsPlayed};

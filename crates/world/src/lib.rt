@@ -6,7 +6,7 @@ ghost use Rattle.std.specs.BTreeMap.{get};
 ghost use Rattle.trace_props.specs.Places.{EachPlace};
 ghost use Rattle.trace_props.specs.Synchrony.{IsWellOrdered, IsVirtuallySynchronous};
 ghost use Rattle.trace_props.specs.State.{state_of};
-ghost use Rattle.law_copies.specs.Replicas.{ReplicasAgree};
+ghost use Rattle.law_processes.specs.Replicas.{ReplicasAgree};
 ghost use Rattle.std.specs.Option.{ForSome, option_copied, option_map};
 ghost use Rattle.world_model.specs.Histories.{running};
 ghost use Rattle.world_step.specs.Worlds.{shown, no_world, IsLonger, WorldStep, Runs};

@@ -5,7 +5,7 @@ ghost use Rattle.std.specs.Prelude.{◌≡◌, ◌+◌, ◌≤◌, ◌⊎◌, le
 ghost use Rattle.std.specs.Option.{ForSome, IsSomeAnd};
 ghost use Rattle.trace_props.specs.Places.{EachPlace};
 ghost use Rattle.trace_props.specs.Synchrony.{IsWellOrdered, IsVirtuallySynchronous};
-ghost use Rattle.law_copies.specs.Replicas.{ReplicasAgree};
+ghost use Rattle.law_processes.specs.Replicas.{ReplicasAgree};
 ghost use Rattle.world_model.specs.Faithful.{IsFaithful};
 ghost use Rattle.world_model.specs.Packets.{world_group};
 ghost use Rattle.law_processes.specs.Deployments.{IsPlayed};

@@ -19,7 +19,7 @@ use Rattle.step_output.specs.Steps.{who}
 use Rattle.membership.specs.InSteps.{in_step}
 use Rattle.membership.specs.declared.member_state.MemberState.{MemberState}
 use Rattle.membership.specs.MemberStates.{core_of as core_at, is_connected, IsMemberState}
-use Rattle.member_views.specs.Views.{AnnouncesView}
+use Rattle.member_rules.specs.Views.{AnnouncesView}
 use Rattle.member.specs.declared.input.Input.{Input}
 use Rattle.member.specs.declared.input.Input.TheVariants as input
 use Rattle.member.specs.Members.{MemberModel, core_of, came_at, refusal_of, is_unreadable}

@@ -1,6 +1,6 @@
 use Rattle.std.proofs.Common.{sym, ap, ◌∙◌}
 use Rattle.membership.specs.declared.member_state.MemberState.{MemberState}
-use Rattle.member_views.proofs.KeepSteady.{Fresh}
+use Rattle.member_rules.proofs.KeepSteady.{Fresh}
 use Rattle.member.proofs.StepsPromise.{from-some, steady-runs, connected-handled, create-handled}
 use Rattle.member.proofs.handling.create_group.Goals as goal
 

@@ -1,6 +1,6 @@
 use Rattle.std.proofs.Common.{sym, ap, ◌∙◌}
 use Rattle.membership.specs.declared.member_state.MemberState.{MemberState}
-use Rattle.member_views.proofs.KeepSteady.{Same}
+use Rattle.member_rules.proofs.KeepSteady.{Same}
 use Rattle.member.proofs.StepsPromise.{from-some, steady-runs, viewed-handled, join-handled}
 use Rattle.member.proofs.handling.join_group.Goals as goal
 use Rattle.address.proofs.Plain.{is-none}

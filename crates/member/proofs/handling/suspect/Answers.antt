@@ -1,8 +1,8 @@
 use Rattle.std.proofs.Common.{not, refl}
 use Rattle.member.specs.declared.input.Input.TheVariants.{Suspect}
-use Rattle.member_views.specs.Views.{is_suspectable}
-use Rattle.member_views.proofs.KeepSteady.{suspect-steady}
-use Rattle.member_views.proofs.ViewsAreCalm.{suspect-calm}
+use Rattle.member_rules.specs.Views.{is_suspectable}
+use Rattle.member_rules.proofs.KeepSteady.{suspect-steady}
+use Rattle.member_rules.proofs.ViewsAreCalm.{suspect-calm}
 use Rattle.member.proofs.StepsPromise.{from-some, still, steady-runs, suspect-handled, memory-handled, unless}
 use Rattle.member.proofs.handling.suspect.Goals as goal
 use Rattle.std.proofs.lemmas.Bool.{not-true}

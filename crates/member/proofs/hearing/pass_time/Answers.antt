@@ -1,7 +1,7 @@
 use Rattle.std.proofs.Common.{sym, ap, not, ◌∙◌}
 use Rattle.std.proofs.lemmas.Result.{on_ok_weaker}
-use Rattle.member_views.proofs.ActsOfRules.{ask-again-did, flush-again-did}
-use Rattle.member_messages.proofs.MembersAreOpen.{nothing-did}
+use Rattle.member_rules.proofs.ActsOfRules.{ask-again-did, flush-again-did}
+use Rattle.member_rules.proofs.MembersAreOpen.{nothing-did}
 use Rattle.member.proofs.hearing.pass_time.Goals as goal
 use Rattle.address.proofs.Plain.{is-none}
 use Rattle.step_output.specs.Steps.{who_of}

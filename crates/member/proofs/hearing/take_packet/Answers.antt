@@ -2,7 +2,7 @@ use Rattle.std.proofs.Common.{sym, ◌∙◌}
 use Rattle.std.proofs.lemmas.Result.{MatchResult-weaker}
 use Rattle.member.proofs.StepsPromise.{stays-connected}
 use Rattle.member.proofs.DatagramsStep.{handed, take-did, take-ignored}
-use Rattle.member_messages.proofs.MembersAreOpen.{nothing-did}
+use Rattle.member_rules.proofs.MembersAreOpen.{nothing-did}
 use Rattle.member.proofs.hearing.take_packet.Goals as goal
 
 pub returns-then-is_handed-clause-did : goal.returns-then-is_handed-clause-did

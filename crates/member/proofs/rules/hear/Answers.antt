@@ -6,9 +6,9 @@ use Rattle.wire_values.specs.declared.packet.Body.{Body}
 use Rattle.membership.proofs.ActsOfChanges.{takes-install-did, takes-chunk-did}
 use Rattle.member.specs.Hearing.{Hears, ignores}
 use Rattle.member.proofs.KeepOrder.{steady-ordered, items-few}
-use Rattle.member_views.proofs.KeepSteady as steady
-use Rattle.member_views.proofs.ActsOfRules as acts
-use Rattle.member_views.proofs.ViewsAreCalm as calm
+use Rattle.member_rules.proofs.KeepSteady as steady
+use Rattle.member_rules.proofs.ActsOfRules as acts
+use Rattle.member_rules.proofs.ViewsAreCalm as calm
 use Rattle.member.proofs.rules.hear.Goals as goal
 use Rattle.std.proofs.lemmas.Bool.{not-true}
 use Rattle.step_output.specs.Steps.{Who, who_of}

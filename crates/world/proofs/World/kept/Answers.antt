@@ -3,7 +3,7 @@ use Rattle.std.specs.Option.{IsSomeAnd}
 use Rattle.trace_props.specs.Places.{EachPlace}
 use Rattle.trace_props.specs.Synchrony.{IsVirtuallySynchronous}
 use Rattle.address.specs.Ids.{Address}
-use Rattle.law_copies.specs.Replicas.{ReplicasAgree}
+use Rattle.law_processes.specs.Replicas.{ReplicasAgree}
 use Rattle.member.specs.Members.{MemberModel, core_of}
 use Rattle.law_processes.specs.Deployments.{IsPlayed}
 use Rattle.law_agreement.specs.Known.{Knows}

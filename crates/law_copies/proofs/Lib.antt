@@ -1,4 +1,0 @@
-pub mod StatesAreMade
-pub mod CountsArePassed
-pub mod CoordinatorsCount
-pub mod ClausesOfCopies

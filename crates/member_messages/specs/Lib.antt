@@ -1,4 +1,0 @@
-pub mod Ordered
-pub mod Refusals
-pub mod Heard
-pub mod Messages

@@ -1,0 +1,188 @@
+-- In a change of view a member keeps what it keeps of its view, or begins a view anew.
+use Rattle.std.proofs.Common.{◌≡◌, ℕ, Bool, true, false, Option, Some, None, ap, ◌∙◌, is_some, ◌&&◌, not, List, ◌++◌, ◌∷◌, []}
+use Rattle.std.specs.Prelude.{MatchBool, MatchOption}
+use Rattle.std.specs.Option.{option_map}
+use Rattle.address.specs.Ids.{Address, ViewId, same_address}
+use Rattle.view.specs.Members.{View}
+use Rattle.wire_values.specs.Values as wire
+use Rattle.state_transfer.specs.Meanings.{Meaning}
+use Rattle.flush.specs.Flushes.{FlushModel}
+use Rattle.view_install.specs.declared.promise.OfferAnswer.{OfferAnswer}
+use Rattle.view_install.specs.declared.promise.OfferAnswer.TheVariants.{Accept, Behind, Ignore}
+use Rattle.view_install.specs.Promises.{offered}
+use Rattle.law_acts.specs.Acts.{proposed}
+use Rattle.law_acts.specs.Decisions.{due_proposal}
+use Rattle.step_output.specs.declared.output.Output.{Output}
+use Rattle.traffic.specs.declared.view_state.ViewState.{ViewState}
+use Rattle.traffic.specs.ViewStates.{fresh_in}
+use Rattle.membership.specs.declared.member_state.MemberState.{MemberState}
+use Rattle.next_view.specs.ViewNotes.{having_heard, suspecting}
+use Rattle.membership.specs.MemberStates.{core_of, is_complete, recording, anew_proposal, would_hold}
+use Rattle.membership.specs.Changes.{StaysAs, TakesBy, TakesFlush, Begins, BeginsAndGoesOn, FinishesAndProposes, GoesOn, Regroups, TakesReport, TakesBehind, TakesSuspicion, TakesInstall, TakesChunk, would_enter, Enters}
+use Rattle.state_chunks.specs.HeldChunks.{given_in}
+use Rattle.member_rules.specs.Views.{OnJoin, OnRedirect, OnSuspect, OnFlush, OnBehind, OnReport, OnMerge, Asks, Redirects, SaysAgain, Admits, Meets, AnnouncesView, outdated, joined, merged, leads_now, has_member, is_less, is_suspectable, is_proposing, expects, is_in}
+use Rattle.step_output.specs.Steps.{Who}
+use Rattle.membership.specs.InSteps.{InStep, in_step}
+
+pub data Steady {S : Type 0} (me : Address) (old new : MemberState S) : Type 0 where
+  Same : new.view_state ≡ old.view_state → Steady me old new
+  Fresh : (w : View) → new.view_state ≡ Some (fresh_in me w) → Steady me old new
+
+module _ {S : Type 0} (who : Who) where
+  pub steady-then : (a b c : MemberState S) → Steady who.address a b → Steady who.address b c → Steady who.address a c
+  steady-then a b c (Same x) (Same y) = Same (y ∙ x)
+  steady-then a b c (Fresh w x) (Same y) = Fresh w (y ∙ x)
+  steady-then a b c x (Fresh w y) = Fresh w y
+
+  stays : (old new : InStep S) → StaysAs old new → Steady who.address old.member new.member
+  stays old new x = Same (ap (λ (l : MemberState S). l.view_state) x.0)
+
+  module _ (meaning : Meaning S) where
+    begins : (w : View) (old new : InStep S) → Begins who w old new → Steady who.address old.member new.member
+    begins w old new x = Same (ap (λ (l : MemberState S). l.view_state) x.member_state)
+
+    begins-by : (o : Option View) (old new : InStep S) → MatchOption o (StaysAs old new) (λ w. Begins who w old new) → Steady who.address old.member new.member
+    begins-by None old new x = stays old new x
+    begins-by (Some w) old new x = begins w old new x
+
+    finishes-at : (view_state : Option ViewState) (f : FlushModel) (old new : InStep S) → MatchOption view_state ⊥ (λ t. FinishesAndProposes meaning who f t old new) → Steady who.address old.member new.member
+    finishes-at None f old new x = absurd x
+    finishes-at (Some t) f old new x =
+        steady-then old.member x.mid.member new.member (Fresh (proposed f) (ap (λ (l : MemberState S). l.view_state) x.finishes.member_state))
+        (begins-by (due_proposal (core_of who.address x.mid.member) x.mid.member.notes) x.mid new x.proposes)
+
+    finishes-when : (b : Bool) (f : FlushModel) (old new : InStep S)
+        → MatchBool b (MatchOption old.member.view_state ⊥ (λ t. FinishesAndProposes meaning who f t old new)) (StaysAs old new) → Steady who.address old.member new.member
+    finishes-when true f old new x = finishes-at old.member.view_state f old new x
+    finishes-when false f old new x = stays old new x
+
+    finishes-by : (o : Option FlushModel) (old new : InStep S)
+        → MatchOption o (StaysAs old new)
+        (λ f. MatchBool (is_complete f) (MatchOption old.member.view_state ⊥ (λ t. FinishesAndProposes meaning who f t old new)) (StaysAs old new)) → Steady who.address old.member new.member
+    finishes-by None old new x = stays old new x
+    finishes-by (Some f) old new x = finishes-when (is_complete f) f old new x
+
+    goes-on : (old new : InStep S) → GoesOn meaning who old new → Steady who.address old.member new.member
+    goes-on old new x = finishes-by old.member.flush old new x
+
+    goes-on-by : (o : Option View) (old new : InStep S) → MatchOption o (StaysAs old new) (λ w. BeginsAndGoesOn meaning who w old new) → Steady who.address old.member new.member
+    goes-on-by None old new x = stays old new x
+    goes-on-by (Some w) old new x = steady-then old.member x.mid.member new.member (begins w old x.mid x.begins) (goes-on x.mid new x.goes_on)
+
+    pub regroups : (old new : InStep S) → Regroups meaning who old new → Steady who.address old.member new.member
+    regroups old new x = goes-on-by (due_proposal (core_of who.address old.member) old.member.notes) old new x
+
+    -- from a life that keeps the same of its view
+    from : (old mid new : MemberState S) → mid.view_state ≡ old.view_state → Steady who.address mid new → Steady who.address old new
+    from old mid new e x = steady-then old mid new (Same e) x
+
+    takes-by : (a : OfferAnswer) (w : View) (old new : InStep S) → TakesBy who a w old new → Steady who.address old.member new.member
+    takes-by Accept w old new x = Same (ap (λ (l : MemberState S). l.view_state) x.member_state)
+    takes-by (Behind counter) w old new x = Same (ap (λ (l : MemberState S). l.view_state) x.0)
+    takes-by Ignore w old new x = stays old new x
+
+    behind : (counter : ℕ) (old new : InStep S) → TakesBehind meaning who counter old new → Steady who.address old.member new.member
+    behind counter old new x =
+        let heard = record (old.member) { notes = having_heard counter old.member.notes } in from old.member heard new.member (λ i. old.member.view_state)
+        (goes-on-by (anew_proposal who.address heard) (in_step heard old.out) new x)
+
+    entry-by : (b : Bool) (A : Type 0) (i : wire.Install) (given : Option (List ℕ)) (old new : InStep S)
+        → MatchBool b (A × Enters meaning who old.member.view_state i given old new) (StaysAs old new) → Steady who.address old.member new.member
+    entry-by true A i given old new x = Fresh i.view (ap (λ (l : MemberState S). l.view_state) x.1.member_state)
+    entry-by false A i given old new x = stays old new x
+
+    chunk-by : (b : Bool) (chunks : List wire.Chunk) (old new : InStep S) → MatchBool b ((new.member ≡ record (old.member) { chunks = chunks }) × (new.out ≡ old.out)) (StaysAs old new)
+        → Steady who.address old.member new.member
+    chunk-by true chunks old new x = Same (ap (λ (l : MemberState S). l.view_state) x.0)
+    chunk-by false chunks old new x = stays old new x
+
+    -- ---- by the packet that came, or the input
+
+    pub install-steady : (q : Address) (i : wire.Install) (old new : InStep S) → TakesInstall meaning who q i old new → Steady who.address old.member new.member
+    install-steady q i old new x = entry-by (would_enter who.address old.member q i) _ i (given_in i.state old.member.chunks) old new x
+
+    pub chunk-steady : (q : Address) (w : ViewId) (chunk : wire.Chunk) (old new : InStep S) → TakesChunk q w chunk old new → Steady who.address old.member new.member
+    chunk-steady q w chunk old new x = chunk-by (would_hold q w chunk old.member) (old.member.chunks ++ chunk ∷ []) old new x
+
+    announces : (p : Address) (old new : InStep S) → AnnouncesView who p old new → Steady who.address old.member new.member
+    announces p old new x = Same (ap (λ (l : MemberState S). l.view_state) x.member_state)
+
+    admits-by : (b : Bool) (q : Address) (old l new : MemberState S) (out later : Output) → l.view_state ≡ old.view_state
+        → MatchBool b (Regroups meaning who (in_step (joined who.address q l) out) (in_step new later)) (Redirects who q (in_step l out) (in_step new later)) → Steady who.address old new
+    admits-by true q old l new out later e x = from old (joined who.address q l) new e (regroups (in_step (joined who.address q l) out) (in_step new later) x)
+    admits-by false q old l new out later e x = Same (ap (λ (z : MemberState S). z.view_state) x.member_state ∙ e)
+
+    join-by : (b : Bool) (q : Address) (old new : InStep S)
+        → MatchBool b (Admits meaning who q (in_step (outdated who.address q old.member) old.out) new) (StaysAs old new) → Steady who.address old.member new.member
+    join-by true q old new x = admits-by (leads_now who.address (outdated who.address q old.member)) q old.member (outdated who.address q old.member) new.member old.out new.out (λ i. old.member.view_state) x
+    join-by false q old new x = stays old new x
+
+    pub join-steady : (q : Address) (old new : InStep S) → OnJoin meaning who q old new → Steady who.address old.member new.member
+    join-steady q old new x = join-by (is_some old.member.view_state) q old new x
+
+    redirect-in : (b : Bool) (c : Address) (old new : InStep S) → MatchBool b (AnnouncesView who c old new) (Asks who c old new) → Steady who.address old.member new.member
+    redirect-in true c old new x = announces c old new x
+    redirect-in false c old new x = Same (ap (λ (l : MemberState S). l.view_state) x.member_state)
+
+    redirect-by : (b : Bool) (c : Address) (old new : InStep S)
+        → MatchBool b (StaysAs old new) (MatchBool (is_some old.member.view_state) (AnnouncesView who c old new) (Asks who c old new)) → Steady who.address old.member new.member
+    redirect-by true c old new x = stays old new x
+    redirect-by false c old new x = redirect-in (is_some old.member.view_state) c old new x
+
+    pub redirect-steady : (c : Address) (old new : InStep S) → OnRedirect who c old new → Steady who.address old.member new.member
+    redirect-steady c old new x = redirect-by (same_address c who.address) c old new x
+
+    suspect-by : (b : Bool) (p : Address) (old new : InStep S) → MatchBool b (TakesSuspicion meaning who p old new) (StaysAs old new) → Steady who.address old.member new.member
+    suspect-by true p old new x =
+        let noted = record (old.member) { notes = suspecting p old.member.notes } in from old.member noted new.member (λ i. old.member.view_state) (regroups (in_step noted old.out) new x)
+    suspect-by false p old new x = stays old new x
+
+    pub suspect-steady : (p : Address) (old new : InStep S) → OnSuspect meaning who p old new → Steady who.address old.member new.member
+    suspect-steady p old new x = suspect-by (is_suspectable who.address p old.member) p old new x
+
+    flush-by : (b : Bool) (w : View) (old new : InStep S) → MatchBool b (TakesFlush who w old new) (StaysAs old new) → Steady who.address old.member new.member
+    flush-by true w old new x = takes-by (offered w old.member.promise) w old new x
+    flush-by false w old new x = stays old new x
+
+    pub flush-steady : (q : Address) (w : View) (old new : InStep S) → OnFlush who q w old new → Steady who.address old.member new.member
+    flush-steady q w old new x = flush-by (same_address w.id.creator q) w old new x
+
+    behind-by : (b : Bool) (counter : ℕ) (old new : InStep S) → MatchBool b (TakesBehind meaning who counter old new) (StaysAs old new) → Steady who.address old.member new.member
+    behind-by true counter old new x = behind counter old new x
+    behind-by false counter old new x = stays old new x
+
+    pub behind-steady : (w : ViewId) (counter : ℕ) (old new : InStep S) → OnBehind meaning who w counter old new → Steady who.address old.member new.member
+    behind-steady w counter old new x = behind-by (is_proposing w old.member) counter old new x
+
+    again-by : (b : Bool) (q : Address) (old new : InStep S)
+        → MatchBool b (SaysAgain who q old new) (StaysAs old new) → Steady who.address old.member new.member
+    again-by true q old new x = Same (ap (λ (l : MemberState S). l.view_state) x.member_state)
+    again-by false q old new x = stays old new x
+
+    report-by : (b d : Bool) (q : Address) (w : ViewId) (r : wire.Report) (old new : InStep S)
+        → MatchBool b (TakesReport meaning who q w r old new) (MatchBool d (SaysAgain who q old new) (StaysAs old new)) → Steady who.address old.member new.member
+    report-by true d q w r old new x =
+        let recorded = record (old.member) { flush = option_map (recording q w r) old.member.flush } in from old.member recorded new.member (λ i. old.member.view_state) (goes-on (in_step recorded old.out) new x)
+    report-by false d q w r old new x = again-by d q old new x
+
+    pub report-steady : (q : Address) (w : ViewId) (r : wire.Report) (old new : InStep S) → OnReport meaning who q w r old new → Steady who.address old.member new.member
+    report-steady q w r old new x = report-by (expects q w old.member) (is_in w old.member) q w r old new x
+
+    meets-by : (b : Bool) (q : Address) (u : View) (old new : InStep S)
+        → MatchBool b (AnnouncesView who q old new) (Regroups meaning who (in_step (merged who.address u old.member) old.out) new) → Steady who.address old.member new.member
+    meets-by true q u old new x = announces q old new x
+    meets-by false q u old new x = from old.member (merged who.address u old.member) new.member (λ i. old.member.view_state) (regroups (in_step (merged who.address u old.member) old.out) new x)
+
+    merge-in : (b : Bool) (q : Address) (u : View) (old new : InStep S)
+        → MatchBool b (Meets meaning who q u old new) (Redirects who q old new) → Steady who.address old.member new.member
+    merge-in true q u old new x = meets-by (is_less q who.address) q u old new x
+    merge-in false q u old new x = Same (ap (λ (l : MemberState S). l.view_state) x.member_state)
+
+    merge-by : (b : Bool) (q : Address) (u : View) (old new : InStep S)
+        → MatchBool b (MatchBool (leads_now who.address old.member) (Meets meaning who q u old new) (Redirects who q old new)) (StaysAs old new)
+        → Steady who.address old.member new.member
+    merge-by true q u old new x = merge-in (leads_now who.address old.member) q u old new x
+    merge-by false q u old new x = stays old new x
+
+    pub merge-steady : (q : Address) (u : View) (old new : InStep S) → OnMerge meaning who q u old new → Steady who.address old.member new.member
+    merge-steady q u old new x = merge-by (is_some old.member.view_state && not (has_member q old.member)) q u old new x

@@ -1,0 +1,9 @@
+pub mod MembersAreOpen
+pub mod PacketsHeard
+pub mod MessagesAreCalm
+pub mod OwnMessagesGo
+pub mod NumbersNotHeld
+pub mod KeepMemberState
+pub mod KeepSteady
+pub mod ViewsAreCalm
+pub mod ActsOfRules

@@ -1,0 +1,33 @@
+use Rattle.std.proofs.Common.{Some, sym, rules}
+use Rattle.wire_values.specs.declared.packet.Body.TheVariants as bodies
+use Rattle.law_acts.specs.Acts.{packet}
+use Rattle.member_rules.proofs.MembersAreOpen.{there-is, orderly-in, nothing-did}
+use Rattle.member_rules.proofs.PacketsHeard.{heard-in, heard-member_state, heard-did}
+use Rattle.member_rules.proofs.MessagesAreCalm.{ordering-calm}
+use Rattle.member_rules.proofs.ordering.on_forward.Goals as goal
+
+pub returns-then-not-takes_forward-clause-hears : goal.returns-then-not-takes_forward-clause-hears
+returns-then-not-takes_forward-clause-hears g c = record { member_state = c.requires.member_state; ordered = c.requires.ordered; does = search rules; did = nothing-did g.R.Receiver.meaning _ _ _ _ _; calm = search rules }
+
+pub forward-requires-clause-coordinator : goal.forward-requires-clause-coordinator
+forward-requires-clause-coordinator g c =
+    let there = there-is _ _ _ c.in-Some-Coordinator.is c.in-Some-Coordinator.field-0-is in
+    (orderly-in _ _ _ c.requires.ordered there).0
+
+pub forward-requires-clause-settled : goal.forward-requires-clause-settled
+forward-requires-clause-settled g c =
+    let there = there-is _ _ _ c.in-Some-Coordinator.is c.in-Some-Coordinator.field-0-is in
+    (orderly-in _ _ _ c.requires.ordered there).1
+
+pub returns-clause-hears : goal.returns-clause-hears
+returns-clause-hears g c =
+    let there = there-is _ _ _ c.in-Some-Coordinator.is c.in-Some-Coordinator.field-0-is in
+    let heard = heard-in _ _ _ _ _ there (sym c.if-not-takes_forward.ensures) in
+    let does = c.in_ok-forward-in-Some-Coordinator.ensures in
+    record {
+      member_state = heard-member_state _ _ _ _ _ _ _ _ c.requires.member_state heard there does.goes.view;
+      ordered = search rules;
+      does = search rules;
+      did = heard-did g.R.Receiver.meaning (λ i. Some (packet c.args.source.now (bodies.Forward i c.args.number c.args.payload.now) c.args.who.now.address)) _ _ _ _ _ _ _ _ _ _ c.requires.member_state heard there does.goes.view does.goes.goes;
+      calm = ordering-calm g.R.Receiver.meaning _ _ _ _ _ _ _ _ does.orders does.few;
+    }

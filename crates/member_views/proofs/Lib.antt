@@ -1,4 +1,0 @@
-pub mod KeepMemberState
-pub mod KeepSteady
-pub mod ViewsAreCalm
-pub mod ActsOfRules

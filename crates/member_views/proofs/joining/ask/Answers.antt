@@ -1,5 +1,0 @@
-use Rattle.member_views.proofs.KeepMemberState.{asked-member_state}
-use Rattle.member_views.proofs.joining.ask.Goals as goal
-
-pub returns-clause-member_state : goal.returns-clause-member_state
-returns-clause-member_state g c = asked-member_state _ _ c.args.member_state.now c.requires.member_state

@@ -1,4 +1,0 @@
-pub mod Firsts
-pub mod Views
-pub mod Ignoring
-pub mod Doing
