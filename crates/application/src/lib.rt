@@ -5,8 +5,8 @@
 ghost use Rattle.std.specs.Prelude.{◌≡◌, ◌++◌, ℕ, Bool, List, Option, Result, IfOk, OnOk, OnErr};
 ghost use Rattle.address.specs.Ids.{Address as AddressValue, ViewId as ViewIdValue};
 ghost use Rattle.view.specs.Members.{View as ViewValue};
-ghost use Rattle.script_reader.specs.declared.fault.Fault.{Fault as FaultValue};
-ghost use Rattle.script_reader.specs.Texts.{IsReadUnlessRefused};
+ghost use Rattle.vsync_text.specs.declared.fault.Fault.{Fault as FaultValue};
+ghost use Rattle.vsync_text.specs.Texts.{IsReadUnlessRefused};
 ghost use Rattle.vsync_text.specs.TraceText.{GoesOnFrom};
 
 mod followed;
@@ -16,10 +16,10 @@ mod waiting;
 use address::{Address, Bytes, ViewId};
 pub use followed::FollowedMember;
 pub use replica::Replica;
-use script_reader::{Payloads, Unheard};
 use state_transfer::Receiver;
 use std::alloc::{AllocError, Global};
 use view::View;
+use vsync_text::{Payloads, Unheard};
 pub use waiting::{Waiting, take_ticket};
 
 /// A receiver that the commands of `vsync` can run (docs/EMBEDDING.md, "A command of its own"): a `send` of a script says in words what its payload

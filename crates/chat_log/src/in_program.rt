@@ -4,12 +4,12 @@ use crate::chat_lines::put_chat;
 use crate::{ChatSize, LastLines};
 use address::{Address, Bytes, ViewId};
 use application::Application;
-use script_reader::{AsWritten, Payloads, Unheard};
 use std::alloc::{AllocError, Global};
 use view::View;
+use vsync_text::{AsWritten, Payloads, Unheard};
 
 impl<L: ChatSize> Payloads for LastLines<L> {
-    ghost use Rattle.script_reader.specs.Script.{as_written};
+    ghost use Rattle.vsync_text.specs.Script.{as_written};
 
     ghost payload_of = { as_written };
 
@@ -20,7 +20,7 @@ impl<L: ChatSize> Payloads for LastLines<L> {
 
 impl<L: ChatSize> Application for LastLines<L> {
     ghost use Rattle.std.specs.Prelude.{None, false};
-    ghost use Rattle.script_reader.specs.Script.{as_written};
+    ghost use Rattle.vsync_text.specs.Script.{as_written};
     ghost use Rattle.chat_log.specs.ChatText.{chat_line};
 
     ghost line_of = { chat_line };

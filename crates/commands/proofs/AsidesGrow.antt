@@ -6,7 +6,7 @@ use Rattle.state_transfer.specs.Meanings.{Meaning}
 use Rattle.world_model.specs.declared.WorldEvent.{WorldEvent}
 use Rattle.world_step.specs.Worlds.{WorldModel, no_world, WorldStep, Runs}
 use Rattle.world_step.specs.Worlds.Runs.{Still, Next}
-use Rattle.script_reader.specs.declared.script.Script.{Script}
+use Rattle.vsync_text.specs.declared.script.Script.{Script}
 use Rattle.trace_props.specs.declared.verdict.Verdict.TheVariants.{Holds}
 use Rattle.trace_drawing.specs.declared.aside.Aside.{Aside}
 use Rattle.commands.specs.Asides.{put_out_at, asides_between, line_at, HasAsides}

@@ -4,9 +4,9 @@ use Rattle.state_transfer.specs.Meanings.{Meaning}
 use Rattle.trace_props.specs.declared.event.Event.{Event}
 use Rattle.trace_props.specs.declared.verdict.Verdict.{Verdict}
 use Rattle.trace_props.specs.Verdicts.{IsVerdict}
-use Rattle.script_reader.specs.declared.fault.Fault.{Fault}
-use Rattle.script_reader.specs.Script.{fault_number}
-use Rattle.trace_reader.specs.Pieces.{Told}
+use Rattle.vsync_text.specs.declared.fault.Fault.{Fault}
+use Rattle.vsync_text.specs.Script.{fault_number}
+use Rattle.vsync_text.specs.Pieces.{Told}
 use Rattle.endings.specs.declared.status.Status.{Status}
 use Rattle.endings.specs.declared.status.Status.TheVariants.{Memory}
 use Rattle.endings.specs.Outcomes.{Ends, Written, IsFaultText, memory_line}

@@ -4,10 +4,10 @@ use Rattle.state_transfer.specs.Meanings.{Meaning}
 use Rattle.trace_props.specs.declared.event.Event.{Event}
 use Rattle.trace_props.specs.declared.verdict.Verdict.{Verdict}
 use Rattle.trace_drawing.specs.declared.aside.Aside.{Aside}
-use Rattle.trace_reader.specs.Traces.{trace_of}
-use Rattle.script_reader.specs.declared.script.Script.{Script}
-use Rattle.script_reader.specs.declared.fault.Fault.{Fault}
-use Rattle.script_reader.specs.Script.{script_of, fault_number}
+use Rattle.vsync_text.specs.Traces.{trace_of}
+use Rattle.vsync_text.specs.declared.script.Script.{Script}
+use Rattle.vsync_text.specs.declared.fault.Fault.{Fault}
+use Rattle.vsync_text.specs.Script.{script_of, fault_number}
 use Rattle.trace_drawing.specs.Picture.{picture_of}
 use Rattle.endings.specs.declared.status.Status.{Status}
 use Rattle.endings.specs.declared.status.Status.TheVariants.{Done, Refused, Memory}

@@ -12,11 +12,11 @@ use Rattle.trace_props.specs.Recorded.{Recorded}
 use Rattle.trace_merge.specs.Merges.{IsOrderedMerge, lists_of, events_in}
 use Rattle.commands.specs.MemberTexts.{member_trace_of}
 use Rattle.trace_merge.specs.Outcomes.{AreUnordered}
-use Rattle.script_reader.specs.declared.fault.Fault.{Fault}
-use Rattle.script_reader.specs.declared.fault.Unread.{Unread}
-use Rattle.script_reader.specs.declared.fault.Unread.TheVariants as one
-use Rattle.script_reader.specs.Texts.{IsUnread}
-use Rattle.script_reader.specs.Script.{fault_number}
+use Rattle.vsync_text.specs.declared.fault.Fault.{Fault}
+use Rattle.vsync_text.specs.declared.fault.Unread.{Unread}
+use Rattle.vsync_text.specs.declared.fault.Unread.TheVariants as one
+use Rattle.vsync_text.specs.Texts.{IsUnread}
+use Rattle.vsync_text.specs.Script.{fault_number}
 use Rattle.endings.specs.declared.status.Status.{Status}
 use Rattle.endings.specs.declared.status.Status.TheVariants.{Memory}
 use Rattle.endings.specs.Outcomes.{Ends, Written, memory_line}

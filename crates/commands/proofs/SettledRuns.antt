@@ -7,7 +7,7 @@ use Rattle.trace_props.proofs.RulesAlongLists.{IsBeginningOf-same, IsBeginningOf
 use Rattle.world_model.specs.declared.WorldEvent.{WorldEvent}
 use Rattle.world_model.specs.Histories.{History}
 use Rattle.world_step.specs.Worlds.{WorldModel, no_world, IsLonger}
-use Rattle.script_reader.specs.declared.script.Script.{Script}
+use Rattle.vsync_text.specs.declared.script.Script.{Script}
 use Rattle.vsync_text.specs.Runs.{lines_of_run}
 use Rattle.endings.specs.declared.status.Status.{Status}
 use Rattle.endings.specs.declared.status.Status.TheVariants.{Memory}

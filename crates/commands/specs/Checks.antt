@@ -8,9 +8,9 @@ use Rattle.trace_props.specs.declared.verdict.Rule.TheVariants.{WellPlaced, Risi
 use Rattle.trace_props.specs.declared.verdict.Verdict.{Verdict}
 use Rattle.trace_props.specs.declared.verdict.Verdict.TheVariants.{Holds, Breaks}
 use Rattle.trace_props.specs.Verdicts.{IsVerdict}
-use Rattle.script_reader.specs.declared.fault.Fault.{Fault}
-use Rattle.script_reader.specs.Script.{fault_number}
-use Rattle.trace_reader.specs.Traces.{trace_of}
+use Rattle.vsync_text.specs.declared.fault.Fault.{Fault}
+use Rattle.vsync_text.specs.Script.{fault_number}
+use Rattle.vsync_text.specs.Traces.{trace_of}
 use Rattle.endings.specs.declared.status.Status.{Status}
 use Rattle.endings.specs.declared.status.Status.TheVariants.{Done, Broken, Memory}
 use Rattle.endings.specs.Outcomes.{IsFaultText, IsAnswer, memory_line}

@@ -7,10 +7,10 @@ use Rattle.trace_props.specs.declared.verdict.Verdict.TheVariants.{Holds}
 use Rattle.trace_props.specs.Verdicts.{IsVerdict}
 use Rattle.trace_drawing.specs.declared.aside.Aside.{Aside}
 use Rattle.trace_drawing.specs.Picture.{picture_of}
-use Rattle.script_reader.specs.declared.script.Script.{Script}
-use Rattle.script_reader.specs.declared.fault.Fault.{Fault}
-use Rattle.script_reader.specs.Script.{script_of, fault_number}
-use Rattle.trace_reader.specs.Traces.{trace_of}
+use Rattle.vsync_text.specs.declared.script.Script.{Script}
+use Rattle.vsync_text.specs.declared.fault.Fault.{Fault}
+use Rattle.vsync_text.specs.Script.{script_of, fault_number}
+use Rattle.vsync_text.specs.Traces.{trace_of}
 use Rattle.world_step.specs.Worlds.{WorldModel}
 use Rattle.endings.specs.declared.status.Status.{Status}
 use Rattle.endings.specs.declared.status.Status.TheVariants.{Done, Refused, Memory}

@@ -2,10 +2,10 @@
 use Rattle.std.specs.Prelude.{ℕ, Bool, false, ◌&&◌, ◌||◌, List, [], ◌∷◌, ◌++◌, Option, None, Some, Result, codes, is_some, flat_map, if◌then◌else◌}
 use Rattle.std.specs.Str.{bytes_eq}
 use Rattle.trace_props.specs.declared.event.Event.{Event}
-use Rattle.script_reader.specs.Lines.{lines_of, field_of, behind_field}
-use Rattle.script_reader.specs.AddressText.{address_of_text}
-use Rattle.script_reader.specs.Texts.{FaultAt}
-use Rattle.trace_reader.specs.Traces.{trace_of}
+use Rattle.vsync_text.specs.Lines.{lines_of, field_of, behind_field}
+use Rattle.vsync_text.specs.AddressText.{address_of_text}
+use Rattle.vsync_text.specs.Texts.{FaultAt}
+use Rattle.vsync_text.specs.Traces.{trace_of}
 
 -- the words with which the lines of states begin: of the chats, of the map, of the table of locks
 abbrev pub is_state_word : List ℕ → Bool

@@ -10,10 +10,10 @@ use Rattle.trace_props.specs.declared.verdict.Verdict.TheVariants.{Holds, Breaks
 use Rattle.trace_props.specs.Verdicts.{IsVerdict}
 use Rattle.trace_merge.specs.Merges.{IsOrderedMerge}
 use Rattle.trace_merge.specs.Outcomes.{AreUnordered}
-use Rattle.script_reader.specs.declared.fault.Fault.{Fault}
-use Rattle.script_reader.specs.declared.fault.Unread.{Unread}
-use Rattle.script_reader.specs.declared.fault.Unread.TheVariants as one
-use Rattle.script_reader.specs.Script.{fault_number}
+use Rattle.vsync_text.specs.declared.fault.Fault.{Fault}
+use Rattle.vsync_text.specs.declared.fault.Unread.{Unread}
+use Rattle.vsync_text.specs.declared.fault.Unread.TheVariants as one
+use Rattle.vsync_text.specs.Script.{fault_number}
 use Rattle.vsync_text.specs.TraceText.{line_of}
 use Rattle.commands.specs.declared.processes.UnreadIn.{UnreadIn}
 use Rattle.commands.specs.declared.processes.UnreadIn.TheVariants as unread

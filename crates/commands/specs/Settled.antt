@@ -9,8 +9,8 @@ use Rattle.world_model.specs.Faithful.{IsFaithful}
 use Rattle.world_model.specs.declared.WorldEvent.{WorldEvent}
 use Rattle.world_step.specs.Worlds.{WorldModel, no_world, IsLonger, Runs as WorldRuns}
 use Rattle.world.specs.Settled.{SettlesAt}
-use Rattle.script_reader.specs.declared.script.Script.{Script}
-use Rattle.script_reader.specs.Script.{as_written}
+use Rattle.vsync_text.specs.declared.script.Script.{Script}
+use Rattle.vsync_text.specs.Script.{as_written}
 use Rattle.vsync_text.specs.Runs.{lines_of_run, text_of_run}
 use Rattle.address.specs.declared.limits.TheConstants.{GREATEST_NODE}
 use Rattle.endings.specs.declared.status.Status.{Status}

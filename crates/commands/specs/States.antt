@@ -7,8 +7,8 @@ use Rattle.state_transfer.specs.Meanings.{Meaning}
 use Rattle.trace_props.specs.declared.event.Event.{Event}
 use Rattle.trace_props.specs.State.{state_of}
 use Rattle.world_model.specs.Histories.{running}
-use Rattle.script_reader.specs.declared.script.Script.{Script}
-use Rattle.script_reader.specs.declared.fault.Fault.{Fault}
+use Rattle.vsync_text.specs.declared.script.Script.{Script}
+use Rattle.vsync_text.specs.declared.fault.Fault.{Fault}
 use Rattle.endings.specs.declared.status.Status.{Status}
 use Rattle.endings.specs.Outcomes.{IsScriptText, IsAnswer}
 use Rattle.script_runs.specs.Outcomes.{IsEndText}

@@ -8,7 +8,7 @@ use std::alloc::Global;
 use std::io::{Read, Write};
 use trace_checker::check;
 use trace_props::{Rule, Trace, Verdict};
-use trace_reader::{Untold, read_trace_from};
+use vsync_text::{Untold, read_trace_from};
 
 /// The code under which a broken rule is printed (docs/GUARANTEES.md, "What check prints").
 pub fn code_of(rule: Rule) -> &'static str

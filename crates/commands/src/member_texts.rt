@@ -1,14 +1,13 @@
 //! The text of a process: what happened to its member, with the line of the member's state in it.
 
 ghost use Rattle.std.specs.Prelude.{◌≡◌, Ok, IfOk, MatchResult};
-ghost use Rattle.script_reader.specs.Texts.{IsUnread};
+ghost use Rattle.vsync_text.specs.Texts.{IsUnread};
 ghost use Rattle.std.specs.Option.{option_copied};
 ghost use Rattle.commands.specs.MemberTexts.{is_state_word, names_member, is_state_line, told_of_trace, member_trace_of};
 
-use script_reader::{Unread, address_in, first_field, first_line};
 use std::alloc::{AllocError, Global};
 use trace_props::Trace;
-use trace_reader::read_trace;
+use vsync_text::{Unread, address_in, first_field, first_line, read_trace};
 
 // Whether the line of a state begins with this word.
 fn is_state_word(word: &[u8]) -> bool

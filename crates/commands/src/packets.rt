@@ -4,12 +4,11 @@ ghost use Rattle.endings.specs.Outcomes.{Written, IsLinesText};
 ghost use Rattle.commands.specs.Packets.{IsPacketText, RunsPackets};
 
 use endings::{Status, end_in_memory, end_with_lines};
-use script_reader::{AsWritten, Script};
 use script_runs::script_from;
 use state_transfer::Receiver;
 use std::alloc::Global;
 use std::io::{Read, Write};
-use vsync_text::append_packets;
+use vsync_text::{AsWritten, Script, append_packets};
 use world::World;
 
 /// Writes the packets of a world.

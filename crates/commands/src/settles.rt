@@ -8,11 +8,11 @@ ghost use Rattle.commands.specs.Settled.{KeepsRules, RunsAndSettles, RunsInPart,
 
 use address::Node;
 use endings::{Status, end_in_memory};
-use script_reader::{AsWritten, Script};
 use script_runs::{print_run, script_from};
 use state_transfer::Receiver;
 use std::alloc::{AllocError, Global};
 use std::io::{Read, Write};
+use vsync_text::{AsWritten, Script};
 use world::World;
 use world_model::WorldEvent;
 

@@ -8,10 +8,10 @@ ghost use Rattle.commands.specs.States.{state_line_at, state_lines_of, IsStatesT
 use address::Node;
 use application::{Application, append_line};
 use endings::{Status, end_in_memory, end_with_lines};
-use script_reader::Script;
 use script_runs::script_from;
 use std::alloc::{AllocError, Global};
 use std::io::{Read, Write};
+use vsync_text::Script;
 use world::World;
 
 /// Appends the line of the member that runs at the node of a number, if one does.

@@ -2,11 +2,12 @@
 
 use address::{Address, Node, ViewId};
 use lock_table::LockTable;
-use script_reader::{Fault, Unheard, Unread, address_field, is_skipped};
 use trace_drawing::lay_out;
 use trace_merge::verdicts_are_the_same;
-use trace_reader::{read_trace, reads_what_is_written};
-use vsync_text::{Part, append_packet, put_parts};
+use vsync_text::{
+    Fault, Part, Unheard, Unread, address_field, append_packet, is_skipped, put_parts, read_trace,
+    reads_what_is_written,
+};
 
 #[test]
 fn a_fault_is_told_with_its_line(rt: HostRuntime) {

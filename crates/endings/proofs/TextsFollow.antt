@@ -7,9 +7,9 @@ use Rattle.std.proofs.Math.Seq.{take-append-add, take-append_seam}
 use Rattle.std.specs.Io.KnownBytes.{Appends, Keeps}
 use Rattle.endings.specs.declared.status.Status.{Status}
 use Rattle.endings.specs.declared.status.Status.TheVariants.{Done, Memory, Outside}
-use Rattle.script_reader.specs.declared.script.Script.{Script}
-use Rattle.script_reader.specs.declared.fault.Fault.{Fault}
-use Rattle.script_reader.specs.Script.{script_by, fault_number}
+use Rattle.vsync_text.specs.declared.script.Script.{Script}
+use Rattle.vsync_text.specs.declared.fault.Fault.{Fault}
+use Rattle.vsync_text.specs.Script.{script_by, fault_number}
 use Rattle.endings.specs.Outcomes.{Ends, IsLinesText, IsFaultText, IsUnreadText, IsScriptText, IsAnswer, Written, ReadsScript, memory_line}
 use Rattle.endings.specs.Outcomes.IsUnreadText.{Faulty, Unread}
 use Rattle.endings.specs.Outcomes.IsScriptText.{Runs, Unrun}

@@ -3,9 +3,9 @@ use Rattle.std.specs.Prelude.{◌≡◌, ℕ, List, ◌∷◌, ◌++◌, [], Opt
 use Rattle.std.specs.List.{concat}
 use Rattle.std.specs.Fmt.{decimal}
 use Rattle.std.specs.Io.KnownBytes.{Appends}
-use Rattle.script_reader.specs.declared.script.Script.{Script}
-use Rattle.script_reader.specs.declared.fault.Fault.{Fault}
-use Rattle.script_reader.specs.Script.{script_by, fault_number}
+use Rattle.vsync_text.specs.declared.script.Script.{Script}
+use Rattle.vsync_text.specs.declared.fault.Fault.{Fault}
+use Rattle.vsync_text.specs.Script.{script_by, fault_number}
 use Rattle.endings.specs.declared.status.Status.{Status}
 use Rattle.endings.specs.declared.status.Status.TheVariants.{Done, Broken, Usage, Refused, Memory, Outside}
 

@@ -3,13 +3,12 @@
 ghost use Rattle.std.specs.Prelude.{IfOk, IfSome, OnOk, OnErr, ◌≡◌, ℕ, List, take, true};
 ghost use Rattle.std.specs.List.{concat};
 ghost use Rattle.endings.specs.Outcomes.{Ends, Written, IsLinesText, IsFaultText, memory_line};
-ghost use Rattle.script_reader.specs.Script.{fault_number};
+ghost use Rattle.vsync_text.specs.Script.{fault_number};
 
 use crate::Status;
-use script_reader::Fault;
 use std::alloc::{AllocError, Global};
 use std::io::{ErrorKind, Read, Write};
-use vsync_text::put_all;
+use vsync_text::{Fault, put_all};
 
 /// Why an input was not read whole.
 #[derive(Clone, Copy, Debug)]

@@ -3,10 +3,10 @@ use Rattle.std.specs.Prelude.{ℕ, ◌∷◌, ◌++◌, List, Option, Some, None
 use Rattle.std.specs.Fmt.{decimal}
 use Rattle.address.specs.Ids.{text_of_view_id}
 use Rattle.address.specs.declared.limits.TheConstants.{GREATEST_NUMBER}
-use Rattle.script_reader.specs.Lines.{before_byte, behind_byte}
-use Rattle.script_reader.specs.Numbers.{number_in}
-use Rattle.trace_reader.specs.Forms.{◌>>=◌}
-use Rattle.trace_reader.specs.Spelling.{view_id_of_text}
+use Rattle.vsync_text.specs.Lines.{before_byte, behind_byte}
+use Rattle.vsync_text.specs.Numbers.{number_in}
+use Rattle.vsync_text.specs.Forms.{◌>>=◌}
+use Rattle.vsync_text.specs.Spelling.{view_id_of_text}
 use Rattle.keyed_state.specs.declared.token.Token.{Token}
 
 -- a token: `VIEW/COUNT`

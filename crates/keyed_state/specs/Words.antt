@@ -1,6 +1,6 @@
 -- Keys as fields of a line.
 use Rattle.std.specs.Prelude.{ℕ, List, Option, None, Some, length, nat_le, ◌&&◌, if◌then◌else◌}
-use Rattle.script_reader.specs.Fields.{Read, spelled_at}
+use Rattle.vsync_text.specs.Fields.{Read, spelled_at}
 use Rattle.keyed_state.specs.declared.entries.TheConstants.{KEY}
 
 -- the key that a field is: 1 to 64 bytes

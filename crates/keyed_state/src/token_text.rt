@@ -7,10 +7,8 @@ ghost use Rattle.keyed_state.specs.TokenText.{text_of_token, token_of_text};
 
 use crate::{Token, known_view_id};
 use address::limits::GREATEST_NUMBER;
-use script_reader::{number_in, split_at_first};
 use std::alloc::AllocError;
-use trace_reader::view_id_in;
-use vsync_text::{put_number, put_view_id};
+use vsync_text::{number_in, put_number, put_view_id, split_at_first, view_id_in};
 
 /// Appends a token behind one byte: `VIEW/COUNT`, such as `3@1.1/2`. Where memory is refused, what stood before is kept, and a part may have been appended.
 #[tactic(auto, using(vsync_text::proofs::KeepFront::goes_on))]

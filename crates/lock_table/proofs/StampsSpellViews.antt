@@ -10,10 +10,10 @@ use Rattle.byteorder.specs.Endian.{big_bytes}
 use Rattle.big_endian.proofs.Bytes.{wide1}
 use Rattle.big_endian.specs.Reading.{number_at}
 use Rattle.big_endian.proofs.PartLaws.{IsWithin, number_part}
-use Rattle.script_reader.specs.declared.fault.Fault.{Fault}
-use Rattle.script_reader.specs.declared.fault.Fault.TheVariants.{BadNumber}
-use Rattle.script_reader.specs.Lines.{field_of, behind_field}
-use Rattle.script_reader.specs.Fields.{made, and_rest, spelled_at, field_at, end_at, last}
+use Rattle.vsync_text.specs.declared.fault.Fault.{Fault}
+use Rattle.vsync_text.specs.declared.fault.Fault.TheVariants.{BadNumber}
+use Rattle.vsync_text.specs.Lines.{field_of, behind_field}
+use Rattle.vsync_text.specs.Fields.{made, and_rest, spelled_at, field_at, end_at, last}
 use Rattle.keyed_state.specs.declared.entries.TheConstants.{KEY}
 use Rattle.keyed_state.specs.Keys.{IsKey}
 use Rattle.keyed_state.specs.Words.{key_of_text, key_field}

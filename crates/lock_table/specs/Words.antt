@@ -3,11 +3,11 @@ use Rattle.std.specs.Prelude.{ℕ, List, Option, Result, Ok, Err, codes, if◌th
 use Rattle.std.specs.Str.{bytes_eq}
 use Rattle.address.specs.Ids.{ViewId}
 use Rattle.view.specs.Members.{View}
-use Rattle.script_reader.specs.declared.fault.Fault.{Fault}
-use Rattle.script_reader.specs.declared.fault.Fault.TheVariants.{BadNumber}
-use Rattle.script_reader.specs.Lines.{field_of, behind_field}
-use Rattle.script_reader.specs.Fields.{Read, ◌>>=◌, made, spelled_at, last}
-use Rattle.trace_reader.specs.Spelling.{view_id_of_text, view_of_text}
+use Rattle.vsync_text.specs.declared.fault.Fault.{Fault}
+use Rattle.vsync_text.specs.declared.fault.Fault.TheVariants.{BadNumber}
+use Rattle.vsync_text.specs.Lines.{field_of, behind_field}
+use Rattle.vsync_text.specs.Fields.{Read, ◌>>=◌, made, spelled_at, last}
+use Rattle.vsync_text.specs.Spelling.{view_id_of_text, view_of_text}
 use Rattle.keyed_state.specs.Words.{key_field}
 use Rattle.lock_table.specs.declared.command.Command.{Command}
 use Rattle.lock_table.specs.declared.command.Command.TheVariants.{Acquire, Release, Roll}

@@ -10,9 +10,9 @@ use crate::words::{command_said, command_said_in};
 use crate::{Command, LONGEST_COMMAND, LockTable};
 use address::{Address, Bytes, ViewId};
 use application::Application;
-use script_reader::{Payloads, Unheard};
 use std::alloc::{AllocError, Global};
 use view::View;
+use vsync_text::{Payloads, Unheard};
 
 // The spelling of a command.
 fn spelled(alloc: Global, command: &Command<'_>) -> Result<Bytes, AllocError>

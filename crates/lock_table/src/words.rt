@@ -2,8 +2,8 @@
 
 ghost use Rattle.std.specs.Prelude.{◌≡◌, Ok, Err, MatchResult};
 ghost use Rattle.std.specs.Option.{option_copied};
-ghost use Rattle.script_reader.specs.Texts.{IsReadUnlessRefused};
-ghost use Rattle.script_reader.specs.Fields.{made, last};
+ghost use Rattle.vsync_text.specs.Texts.{IsReadUnlessRefused};
+ghost use Rattle.vsync_text.specs.Fields.{made, last};
 ghost use Rattle.keyed_state.specs.Words.{key_field};
 ghost use Rattle.lock_table.specs.declared.command.Command.TheVariants.{Acquire, Release};
 ghost use Rattle.lock_table.specs.Words.{view_id_field, named, members_field, acquire_said, release_said, roll_said, command_said, command_said_in};
@@ -11,13 +11,12 @@ ghost use Rattle.lock_table.specs.Words.{view_id_field, named, members_field, ac
 use crate::Command;
 use address::ViewId;
 use keyed_state::{KeyBytes, last_key};
-use script_reader::{Fault, Unheard, first_field};
 use std::alloc::Global;
-use trace_reader::{view_id_in, view_in};
 use view::View;
+use vsync_text::{Fault, Unheard, first_field, view_id_in, view_in};
 
 // The next field as a view id, and what is left behind it.
-#[tactic(auto, unfolding(script_reader::specs::Fields::spelled_at, script_reader::specs::Fields::field_at))]
+#[tactic(auto, unfolding(vsync_text::specs::Fields::spelled_at, vsync_text::specs::Fields::field_at))]
 fn view_id_field(rest: Option<&[u8]>) -> Result<(ViewId, Option<&[u8]>), Fault>
     ensures { MatchResult result
         (λ read. view_id_field (option_copied rest.entry) ≡ Ok (read.0, option_copied read.1))
@@ -47,7 +46,7 @@ fn named(rest: Option<&[u8]>) -> Result<(ViewId, KeyBytes<'_>), Fault>
 }
 
 // The members of the view of an id, with which a command ends.
-#[tactic(auto, unfolding(script_reader::specs::Fields::spelled_at, script_reader::specs::Fields::field_at, script_reader::specs::Fields::last, script_reader::specs::Fields::end_at))]
+#[tactic(auto, unfolding(vsync_text::specs::Fields::spelled_at, vsync_text::specs::Fields::field_at, vsync_text::specs::Fields::last, vsync_text::specs::Fields::end_at))]
 fn last_members(alloc: Global, id: ViewId, rest: Option<&[u8]>) -> Result<View, Unheard>
     ensures { IsReadUnlessRefused (λ x. x) result (last (members_field id (option_copied rest.entry))) }
 {

@@ -1,3 +1,5 @@
+pub mod FirstLines
+pub mod LinesKept
 pub mod LinesAndEvents
 pub mod ProcessesTurn
 pub mod RunTextsEnd

@@ -4,14 +4,14 @@ use Rattle.std.specs.Result.{IsErr}
 use Rattle.std.proofs.lemmas.Option.{same_Some}
 use Rattle.address.specs.Ids.{ViewId}
 use Rattle.view.specs.Members.{View}
-use Rattle.script_reader.specs.Lines.{before_byte}
+use Rattle.vsync_text.specs.Lines.{before_byte}
 use Rattle.channel.specs.declared.stage.Stage.{Stage}
 use Rattle.channel.specs.Channels.{view_in}
-use Rattle.node_lines.specs.Outboxes.{OutboxModel, is_whole}
-use Rattle.node_lines.specs.Unsaid.{UnsaidModel, noted}
+use Rattle.node_turns.specs.Outboxes.{OutboxModel, is_whole}
+use Rattle.node_turns.specs.Unsaid.{UnsaidModel, noted}
 use Rattle.trace_props.specs.declared.event.Event.{Event}
-use Rattle.node_lines.specs.Came.{Fills, IsEarlier, IsLineOf, IsText, Keeps, KeepsUnsaid, Owes}
-use Rattle.node_lines.proofs.LinesKept.{owes-back, owes-filled, owes-line, owes-noted, text-later}
+use Rattle.node_turns.specs.Came.{Fills, IsEarlier, IsLineOf, IsText, Keeps, KeepsUnsaid, Owes}
+use Rattle.node_turns.proofs.LinesKept.{owes-back, owes-filled, owes-line, owes-noted, text-later}
 use Rattle.node_turns.specs.declared.ends.Cut.{Cut as Why}
 use Rattle.node_turns.specs.Said.{AreSame, IsId, MaySay}
 

@@ -1,3 +1,6 @@
+pub mod Outboxes
+pub mod Unsaid
+pub mod Came
 pub mod Machines
 pub mod Ends
 pub mod Tallies

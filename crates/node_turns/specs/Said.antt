@@ -3,9 +3,9 @@ use Rattle.std.specs.Prelude.{◌≡◌, ◌⊎◌, ◌≤◌, ℕ, Bool, true, 
 use Rattle.address.specs.Ids.{ViewId, IsAddress}
 use Rattle.address.specs.declared.limits.TheConstants.{GREATEST_NUMBER}
 use Rattle.view.specs.Members.{View}
-use Rattle.node_lines.specs.Outboxes.{OutboxModel}
-use Rattle.node_lines.specs.Unsaid.{UnsaidModel}
-use Rattle.node_lines.specs.Came.{IsText}
+use Rattle.node_turns.specs.Outboxes.{OutboxModel}
+use Rattle.node_turns.specs.Unsaid.{UnsaidModel}
+use Rattle.node_turns.specs.Came.{IsText}
 use Rattle.channel.specs.declared.stage.Stage.{Stage}
 use Rattle.channel.specs.Channels.{view_in}
 use Rattle.node_turns.specs.declared.calls.Call.{Call}

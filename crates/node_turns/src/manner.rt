@@ -2,8 +2,8 @@ ghost use Rattle.std.specs.Prelude.{◌≡◌};
 ghost use Rattle.node_turns.specs.Tallies.{nothing_happened};
 
 use address::{Address, ViewId};
-use script_reader::Fault;
 use std::time::Duration;
+use vsync_text::Fault;
 
 /// How a node that runs by itself goes about it.
 #[derive(Clone, Copy)]
@@ -29,7 +29,7 @@ pub struct NodeManner {
 pub enum LineTrouble {
     /// The lines could not be read any more.
     NoLines,
-    /// What was to be sent once says no payload: this is wrong with it (`script_reader::Fault`).
+    /// What was to be sent once says no payload: this is wrong with it (`vsync_text::Fault`).
     NoPayload(Fault),
 }
 
@@ -38,7 +38,7 @@ pub enum LineTrouble {
 pub enum Notice {
     /// A line is not sent, since it is longer than `PAYLOAD` bytes (`limits`).
     LongLine,
-    /// A line is not sent, since it says no payload: this is wrong with it (`script_reader::Fault`).
+    /// A line is not sent, since it says no payload: this is wrong with it (`vsync_text::Fault`).
     BadLine(Fault),
     /// Lines wait, for its view has so many members, and that is too few.
     TooFew(usize),

@@ -2,10 +2,10 @@
 use Rattle.std.specs.Prelude.{ℕ, List, Option, None, Some, Result, Ok, Err, length, codes, nat_le, if◌then◌else◌}
 use Rattle.std.specs.Str.{bytes_eq}
 use Rattle.address.specs.Ids.{ViewId}
-use Rattle.script_reader.specs.declared.fault.Fault.{Fault}
-use Rattle.script_reader.specs.declared.fault.Fault.TheVariants.{BadNumber, MissingField}
-use Rattle.script_reader.specs.Lines.{field_of, behind_field}
-use Rattle.script_reader.specs.Fields.{Read, ◌>>=◌, made, spelled_at, last, end_at}
+use Rattle.vsync_text.specs.declared.fault.Fault.{Fault}
+use Rattle.vsync_text.specs.declared.fault.Fault.TheVariants.{BadNumber, MissingField}
+use Rattle.vsync_text.specs.Lines.{field_of, behind_field}
+use Rattle.vsync_text.specs.Fields.{Read, ◌>>=◌, made, spelled_at, last, end_at}
 use Rattle.keyed_state.specs.Words.{key_field}
 use Rattle.keyed_state.specs.declared.token.Token.{Token}
 use Rattle.keyed_state.specs.Tokens.{least_token}

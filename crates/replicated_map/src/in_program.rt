@@ -9,9 +9,9 @@ use crate::{Command, ReplicatedMap};
 use address::{Address, Bytes, ViewId};
 use application::Application;
 use keyed_state::Token;
-use script_reader::{Payloads, Unheard};
 use std::alloc::{AllocError, Global};
 use view::View;
+use vsync_text::{Payloads, Unheard};
 
 // The spelling of a command.
 fn spelled(alloc: Global, command: &Command<'_>) -> Result<Bytes, AllocError>

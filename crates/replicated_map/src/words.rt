@@ -2,14 +2,14 @@
 
 ghost use Rattle.std.specs.Prelude.{◌≡◌, Ok, Err, MatchResult};
 ghost use Rattle.std.specs.Option.{option_copied};
-ghost use Rattle.script_reader.specs.Fields.{last};
+ghost use Rattle.vsync_text.specs.Fields.{last};
 ghost use Rattle.keyed_state.specs.TokenText.{token_of_text};
 ghost use Rattle.replicated_map.specs.Words.{expected_of, expected_field, version_field, last_value, put_said, remove_said, replaced, replace_said, clear_said, version_replaced, replace_at_said, remove_at_said, command_said};
 
 use crate::{Command, ValueBytes, Version};
 use address::ViewId;
 use keyed_state::{KeyBytes, key_field, last_key, token_in};
-use script_reader::{Fault, first_field};
+use vsync_text::{Fault, first_field};
 
 // The expected value that a field says: `-` says that there is none.
 fn expected_in(field: &[u8]) -> Option<Option<ValueBytes<'_>>>
@@ -23,7 +23,7 @@ fn expected_in(field: &[u8]) -> Option<Option<ValueBytes<'_>>>
 }
 
 // The next field as an expected value, and what is left behind it.
-#[tactic(auto, unfolding(script_reader::specs::Fields::spelled_at, script_reader::specs::Fields::field_at))]
+#[tactic(auto, unfolding(vsync_text::specs::Fields::spelled_at, vsync_text::specs::Fields::field_at))]
 fn expected_field(rest: Option<&[u8]>) -> Result<(Option<ValueBytes<'_>>, Option<&[u8]>), Fault>
     ensures { MatchResult result
         (λ read. expected_field (option_copied rest.entry) ≡ Ok (read.0, option_copied read.1))
@@ -51,7 +51,7 @@ fn version_in(field: &[u8]) -> Option<Version>
 }
 
 // The next field as a version, and what is left behind it.
-#[tactic(auto, unfolding(script_reader::specs::Fields::spelled_at, script_reader::specs::Fields::field_at))]
+#[tactic(auto, unfolding(vsync_text::specs::Fields::spelled_at, vsync_text::specs::Fields::field_at))]
 fn version_field(rest: Option<&[u8]>) -> Result<(Version, Option<&[u8]>), Fault>
     ensures { MatchResult result
         (λ read. version_field (option_copied rest.entry) ≡ Ok (read.0, option_copied read.1))
@@ -68,7 +68,7 @@ fn version_field(rest: Option<&[u8]>) -> Result<(Version, Option<&[u8]>), Fault>
 }
 
 // The version with which a command ends.
-#[tactic(auto, unfolding(script_reader::specs::Fields::last, script_reader::specs::Fields::end_at))]
+#[tactic(auto, unfolding(vsync_text::specs::Fields::last, vsync_text::specs::Fields::end_at))]
 fn last_version(rest: Option<&[u8]>) -> Result<Version, Fault>
     ensures { MatchResult result
         (λ version. last (version_field (option_copied rest.entry)) ≡ Ok version)
@@ -152,7 +152,7 @@ fn replace_said(view: ViewId, rest: Option<&[u8]>) -> Result<Command<'_>, Fault>
 }
 
 // The command `clear`.
-#[tactic(auto, unfolding(script_reader::specs::Fields::end_at))]
+#[tactic(auto, unfolding(vsync_text::specs::Fields::end_at))]
 fn clear_said(rest: Option<&[u8]>) -> Result<Command<'_>, Fault>
     ensures { MatchResult result (λ c. clear_said (option_copied rest.entry) ≡ Ok c) (λ f. clear_said (option_copied rest.entry) ≡ Err f) }
 {

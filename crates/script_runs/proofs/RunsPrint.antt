@@ -10,7 +10,7 @@ use Rattle.world_model.specs.declared.Reply.{Reply}
 use Rattle.world_step.specs.Worlds.{WorldModel, no_world, Runs as WorldRuns}
 use Rattle.world_model.specs.Faithful.{IsFaithful}
 use Rattle.world_model.specs.Histories.{History}
-use Rattle.script_reader.specs.declared.script.Script.{Script}
+use Rattle.vsync_text.specs.declared.script.Script.{Script}
 use Rattle.vsync_text.specs.Runs.{lines_of_run}
 use Rattle.endings.specs.declared.status.Status.{Status}
 use Rattle.endings.specs.declared.status.Status.TheVariants.{Memory}

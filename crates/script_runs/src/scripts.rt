@@ -3,11 +3,10 @@ ghost use Rattle.endings.specs.Outcomes.{Written, IsLinesText, ReadsScript};
 ghost use Rattle.script_runs.specs.Outcomes.{IsRunText, RunsScript};
 
 use endings::{Status, Unreadable, end_in_fault, end_in_memory, end_with, read_all};
-use script_reader::{AsWritten, Payloads, Script, Unread, read_script_by};
 use state_transfer::Receiver;
 use std::alloc::Global;
 use std::io::{Read, Write};
-use vsync_text::{Printed, write_run};
+use vsync_text::{AsWritten, Payloads, Printed, Script, Unread, read_script_by, write_run};
 use world::World;
 
 /// Reads a script, its texts as payloads of `P`; or ends the command, where it is none or is not read.

@@ -14,8 +14,8 @@ use Rattle.world_model.specs.declared.WorldEvent.{WorldEvent}
 use Rattle.world_model.specs.declared.Target.TheVariants.{Member}
 use Rattle.world_model.specs.Histories.{target_of}
 use Rattle.world_model.specs.declared.WorldEvent.TheVariants as event
-use Rattle.script_reader.specs.declared.udp_script.UdpEvent.{UdpEvent}
-use Rattle.script_reader.specs.declared.udp_script.UdpLine.{UdpLine}
+use Rattle.vsync_text.specs.declared.udp_script.UdpEvent.{UdpEvent}
+use Rattle.vsync_text.specs.declared.udp_script.UdpLine.{UdpLine}
 use Rattle.member.specs.declared.error.Error.{Error}
 use Rattle.channel.specs.declared.stage.Stage.{Stage}
 use Rattle.channel.specs.declared.stage.Stage.TheVariants.{Apart, Connected, Ended}

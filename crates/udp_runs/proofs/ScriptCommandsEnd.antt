@@ -9,10 +9,10 @@ use Rattle.law_runners.specs.Systems.{Gone}
 use Rattle.node_turns.specs.declared.ends.Cut.TheVariants as cut
 use Rattle.udp_runs.specs.Playing.{RunsLines}
 use Rattle.node_turns.specs.Texts.{texts_of}
-use Rattle.script_reader.specs.declared.fault.Fault.{Fault}
-use Rattle.script_reader.specs.declared.udp_script.UdpLine.{UdpLine}
-use Rattle.script_reader.specs.Script.{fault_number}
-use Rattle.script_reader.specs.UdpScript.{udp_script_of}
+use Rattle.vsync_text.specs.declared.fault.Fault.{Fault}
+use Rattle.vsync_text.specs.declared.udp_script.UdpLine.{UdpLine}
+use Rattle.vsync_text.specs.Script.{fault_number}
+use Rattle.vsync_text.specs.UdpScript.{udp_script_of}
 use Rattle.udp_net.specs.declared.error.BindError.{BindError}
 use Rattle.endings.specs.declared.status.Status.{Status}
 use Rattle.endings.specs.declared.status.Status.TheVariants.{Memory}

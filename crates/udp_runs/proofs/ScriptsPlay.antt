@@ -6,7 +6,7 @@ use Rattle.std.proofs.lemmas.List.{append-nil, append_assoc, take_all}
 use Rattle.std.proofs.lemmas.Option.{none-some, same_Some}
 use Rattle.address.specs.Ids.{Address}
 use Rattle.state_transfer.specs.Meanings.{Meaning}
-use Rattle.script_reader.specs.declared.udp_script.UdpLine.{UdpLine}
+use Rattle.vsync_text.specs.declared.udp_script.UdpLine.{UdpLine}
 use Rattle.udp_net.specs.declared.node_ports.NodePort.{NodePort}
 use Rattle.udp_net.specs.Logs.{Log, NetEvent}
 use Rattle.udp_member.specs.Turns.{Driven}

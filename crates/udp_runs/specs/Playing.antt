@@ -4,7 +4,7 @@ use Rattle.std.specs.List.{concat}
 use Rattle.std.specs.Io.KnownBytes.{Appends}
 use Rattle.address.specs.Ids.{Address}
 use Rattle.state_transfer.specs.Meanings.{Meaning}
-use Rattle.script_reader.specs.declared.udp_script.UdpLine.{UdpLine}
+use Rattle.vsync_text.specs.declared.udp_script.UdpLine.{UdpLine}
 use Rattle.udp_net.specs.declared.node_ports.NodePort.{NodePort}
 use Rattle.udp_net.specs.Logs.{Log, NetEvent}
 use Rattle.udp_member.specs.Turns.{Driven}

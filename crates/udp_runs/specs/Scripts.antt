@@ -5,10 +5,10 @@ use Rattle.std.specs.Io.KnownBytes.{Appends}
 use Rattle.address.specs.Ids.{Address}
 use Rattle.state_transfer.specs.Meanings.{Meaning}
 use Rattle.world_model.specs.declared.WorldEvent.TheVariants.{Start}
-use Rattle.script_reader.specs.declared.fault.Fault.{Fault}
-use Rattle.script_reader.specs.declared.udp_script.UdpLine.{UdpLine}
-use Rattle.script_reader.specs.Script.{fault_number}
-use Rattle.script_reader.specs.UdpScript.{udp_script_of}
+use Rattle.vsync_text.specs.declared.fault.Fault.{Fault}
+use Rattle.vsync_text.specs.declared.udp_script.UdpLine.{UdpLine}
+use Rattle.vsync_text.specs.Script.{fault_number}
+use Rattle.vsync_text.specs.UdpScript.{udp_script_of}
 use Rattle.udp_net.specs.declared.node_ports.NodePort.{NodePort}
 use Rattle.udp_net.specs.Logs.{Log, NetEvent}
 use Rattle.udp_net.specs.declared.error.BindError.{BindError}

@@ -14,9 +14,10 @@ mod sending;
 mod watch;
 
 pub use loopback::Loopback;
-pub use node_lines::{Lines, LinesError, NoLines};
 pub use node_net::NodeNet;
-pub use node_turns::{LineTrouble, NodeMachine, NodeManner, NodeStatus, Notice, Tally};
+pub use node_turns::{
+    LineTrouble, Lines, LinesError, NoLines, NodeMachine, NodeManner, NodeStatus, Notice, Tally,
+};
 pub use one_node::run_member;
 pub use script::run_udp;
-pub use script_reader::MemberPlan;
+pub use vsync_text::MemberPlan;

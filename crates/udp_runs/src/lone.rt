@@ -4,8 +4,8 @@ ghost use Rattle.std.specs.Prelude.{◌≡◌, ℕ, Bool, List, [], Option, OnOk
 ghost use Rattle.std.specs.Option.{option_copied};
 ghost use Rattle.node_turns.specs.Telling.{BeginsBy, PlaysAlone, Quietly, TellsEnd, TellsFrom, TellsOn, ThenOffers, Waits, WritesTurn, first_call};
 ghost use Rattle.node_turns.specs.Said.{AreSame, MaySay};
-ghost use Rattle.node_lines.specs.Came.{IsEarlier, Keeps, Owes};
-ghost use Rattle.node_lines.specs.Outboxes.{nothing_waits};
+ghost use Rattle.node_turns.specs.Came.{IsEarlier, Keeps, Owes};
+ghost use Rattle.node_turns.specs.Outboxes.{nothing_waits};
 
 use crate::watch::Watch;
 use address::limits::Refusal;
@@ -13,14 +13,13 @@ use address::{Address, ViewId};
 use application::Application;
 use channel::Error;
 use node_finding::{Finder, milliseconds};
-use node_lines::{Lines, Outbox};
-use node_turns::{Call, Cut, NodeMachine, NodeManner, Tally, Teller};
-use script_reader::MemberPlan;
+use node_turns::{Call, Cut, Lines, NodeMachine, NodeManner, Outbox, Tally, Teller};
 use std::alloc::Global;
 use std::io::Write;
 use std::time::Duration;
 use udp_member::{RECEIVES, Runner};
 use udp_net::{Net, Settings};
+use vsync_text::MemberPlan;
 
 /// How often a node listens between two of its rounds, at most: with as many datagrams each time as a round takes, so that others cannot keep it from its rounds.
 const LISTENS: u32 = 4_096;

@@ -18,10 +18,9 @@ use address::limits::Refusal;
 use address::{Address, Node};
 use application::Application;
 use node_turns::{Asked, Call, NodeMachine, Stop, asked_by};
-use script_reader::{UdpEvent, UdpLine};
 use std::alloc::{AllocError, Global};
 use udp_net::{BindError, Net, NodePort, Settings};
-use vsync_text::append_refusal;
+use vsync_text::{UdpEvent, UdpLine, append_refusal};
 
 /// The nodes of the settings, by number.
 #[derive(Drop)]

@@ -13,15 +13,13 @@ use address::Address;
 use application::Application;
 use endings::Status;
 use law_runners::runners_are_synchronous;
-use node_lines::Lines;
-use node_turns::{Cut, NodeMachine, NodeManner, end, end_without_net, member_at, settle};
-use script_reader::MemberPlan;
+use node_turns::{Cut, Lines, NodeMachine, NodeManner, end, end_without_net, member_at, settle};
 use std::alloc::Global;
 use std::io::Write;
 use trace_props::Event;
 use udp_member::Runner;
 use udp_net::{BindError, Settings};
-use vsync_text::append_event;
+use vsync_text::{MemberPlan, append_event};
 
 // It does nothing: its clause is what the type of an address says of it.
 fn is_real(address: Address)

@@ -19,10 +19,10 @@ use application::Application;
 use endings::{Status, Unreadable, end_in_fault, end_in_memory, read_all};
 use law_runners::runners_are_synchronous;
 use node_turns::{Cut, NodeMachine, Stop, end, end_without_net, settle};
-use script_reader::{UdpLine, Unread, read_udp_script};
 use std::alloc::Global;
 use std::io::{Read, Write};
 use udp_net::{Net, Settings};
+use vsync_text::{UdpLine, Unread, read_udp_script};
 
 // The lines of a script; or the status with which the command ended, where it is none or is not read.
 fn lines_from<I: Read, W: Write>(

@@ -6,15 +6,14 @@ ghost use Rattle.view.specs.Members.{View as ViewValue};
 ghost use Rattle.channel.specs.Channels.{view_in};
 ghost use Rattle.node_turns.specs.Telling.{Quietly};
 ghost use Rattle.node_turns.specs.Said.{AreSame, IsId, MaySay};
-ghost use Rattle.node_lines.specs.Came.{Fills, IsEarlier, IsLineOf, IsSentOf, IsText, Keeps, Owes};
+ghost use Rattle.node_turns.specs.Came.{Fills, IsEarlier, IsLineOf, IsSentOf, IsText, Keeps, Owes};
 
 use crate::lone::{LoneNode, unless_memory};
 use address::{Bytes, ViewId};
 use application::Application;
-use node_lines::{Lines, LinesError, OutboxError, Sent};
-use node_turns::{Cut, LineTrouble, Notice, send};
-use script_reader::{Fault, Unheard};
+use node_turns::{Cut, LineTrouble, Lines, LinesError, Notice, OutboxError, Sent, send};
 use udp_net::Net;
+use vsync_text::{Fault, Unheard};
 
 /// How many lines a node sends at once, at most.
 const SENDS: u32 = 1_024;

@@ -8,7 +8,7 @@ use state_transfer::Receiver;
 use std::alloc::Global;
 use trace_checker::check;
 use trace_props::Verdict;
-use trace_reader::read_trace;
+use vsync_text::read_trace;
 
 /// Four that part into two pairs, send on each side, and merge.
 pub const MERGE: &[u8] =

@@ -5,8 +5,8 @@ ghost use Rattle.vsync.specs.declared.hosts.PeersError.TheVariants as peers;
 
 use address::Node;
 use address::limits::GREATEST_NODE;
-use script_reader::number_in;
 use std::alloc::{AllocError, Global};
+use vsync_text::number_in;
 
 /// What is wrong with a value of `--peer`, or why there are no peers.
 #[derive(Clone, Copy)]

@@ -5,12 +5,12 @@ ghost use Rattle.std.specs.Prelude.{◌≡◌, ◌≤◌, ◌<◌, IfOk, IfSome}
 use address::Address;
 use address::limits::GREATEST_INCARNATION;
 use endings::{Unreadable, read_all};
-use script_reader::number_in;
 use std::alloc::Global;
 use std::fs::{self, OpenFile};
 use std::io::{self, ErrorKind, Write};
 use std::rt::Files;
 use std::time::Clock;
+use vsync_text::number_in;
 
 /// Why a node has no next incarnation.
 #[derive(Clone, Copy, Debug, PartialEq, Eq, thiserror::Error)]

@@ -8,12 +8,12 @@ use Rattle.view.specs.View.{error_number as view_number}
 use Rattle.view.specs.declared.ViewError.{ViewError}
 use Rattle.wire_values.specs.Reading.{error_number as packet_number}
 use Rattle.wire_values.specs.declared.error.WireError.{WireError}
-use Rattle.script_reader.specs.Script.{fault_number}
-use Rattle.script_reader.specs.declared.fault.Fault.{Fault}
+use Rattle.vsync_text.specs.Script.{fault_number}
+use Rattle.vsync_text.specs.declared.fault.Fault.{Fault}
 use Rattle.address.specs.declared.refusal.Refusal.TheVariants as refusal
 use Rattle.wire_values.specs.declared.error.WireError.TheVariants as packet
 use Rattle.view.specs.declared.ViewError.TheVariants as view
-use Rattle.script_reader.specs.declared.fault.Fault.TheVariants as line
+use Rattle.vsync_text.specs.declared.fault.Fault.TheVariants as line
 use Rattle.vsync_words.specs.declared.topic.Topic.TheVariants.{Refusal as OfRefusal, Packet, View, Line}
 use Rattle.vsync_words.specs.Topics.{code_of}
 

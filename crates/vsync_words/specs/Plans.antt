@@ -3,8 +3,8 @@ use Rattle.std.specs.Prelude.{◌≡◌, ℕ, List, Option, None, Some, Result, 
 use Rattle.std.specs.Borrow.{Bor}
 use Rattle.address.specs.Ids.{Address}
 use Rattle.address.specs.declared.limits.TheConstants.{PAYLOAD}
-use Rattle.script_reader.specs.AddressText.{address_of_text}
-use Rattle.script_reader.specs.declared.member_plan.MemberPlan.{MemberPlan}
+use Rattle.vsync_text.specs.AddressText.{address_of_text}
+use Rattle.vsync_text.specs.declared.member_plan.MemberPlan.{MemberPlan}
 use Rattle.vsync_words.specs.Kept.{flags_keep_two}
 use Rattle.vsync_words.specs.declared.udp_words.MemberWords.{MemberWords}
 use Rattle.vsync_words.specs.declared.udp_words.MemberMistake.{MemberMistake}

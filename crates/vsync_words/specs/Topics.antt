@@ -3,7 +3,7 @@ use Rattle.std.specs.Prelude.{ℕ, List, codes}
 use Rattle.address.specs.declared.refusal.Refusal.TheVariants as refusal
 use Rattle.wire_values.specs.declared.error.WireError.TheVariants as packet
 use Rattle.view.specs.declared.ViewError.TheVariants as view
-use Rattle.script_reader.specs.declared.fault.Fault.TheVariants as line
+use Rattle.vsync_text.specs.declared.fault.Fault.TheVariants as line
 use Rattle.trace_props.specs.declared.verdict.Rule.TheVariants as rule
 use Rattle.vsync_words.specs.declared.topic.Topic.{Topic}
 use Rattle.vsync_words.specs.declared.topic.Topic.TheVariants.{Refusal as OfRefusal, Packet, View, Line, Settings, Socket, Receive, Rule as OfRule, Unordered}

@@ -8,7 +8,7 @@ use Rattle.clap.specs.Kinds.{or_else}
 use Rattle.clap.specs.Words.{IsUnsignedIn, Kinds, Row, Text, all_of, fault_of, first_of, kind_of, one_of, subcommand_of}
 use Rattle.clap.specs.declared.error.Error.{Error}
 use Rattle.clap.specs.declared.error.kind.ErrorKind.TheVariants.{OutOfMemory, UnknownArgument}
-use Rattle.script_reader.specs.declared.udp_script.TheConstants.{ROUNDS}
+use Rattle.vsync_text.specs.declared.udp_script.TheConstants.{ROUNDS}
 use Rattle.address.specs.declared.limits.TheConstants.{GREATEST_INCARNATION, GREATEST_NODE}
 use Rattle.vsync_words.specs.declared.check_words.ProcessesWords.{ProcessesWords}
 use Rattle.vsync_words.specs.declared.udp_words.UdpWords.{UdpWords}

@@ -9,8 +9,8 @@ use crate::kept_words::{KeptFlags, kept_flags, stands};
 use crate::udp_words::CONFIG;
 use address::limits::{GREATEST_INCARNATION, GREATEST_NODE, MEMBERS};
 use clap::ArgMatches;
-use script_reader::ROUNDS;
 use std::alloc::{AllocError, Global};
+use vsync_text::ROUNDS;
 
 /// The longest time between two rounds, in milliseconds.
 pub const MOST_TICK: u64 = 1_000;

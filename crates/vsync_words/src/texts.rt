@@ -106,7 +106,7 @@ pub(crate) const NOT_FIRST: &str = "\
 Cause: a program made a view of a list that is not in order of rank.\n\
 To do: list the creator first; it is the coordinator of the view.\n";
 
-// ---- Lines of a script or of a trace (`script_reader::Fault`).
+// ---- Lines of a script or of a trace (`vsync_text::Fault`).
 
 pub(crate) const UNKNOWN_WORD: &str = "\
 40, unknown word: the line begins with no word that is known there.\n\

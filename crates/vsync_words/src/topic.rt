@@ -5,9 +5,9 @@ ghost use Rattle.vsync_words.specs.Topics.{code_of, explanation_of};
 
 use crate::texts;
 use address::limits::Refusal;
-use script_reader::Fault;
 use trace_props::Rule;
 use view::ViewError;
+use vsync_text::Fault;
 use wire_values::WireError;
 
 /// What `vsync explain` explains. Each topic has a code: a number that calls answer and commands print, or a word that `vsync check` prints.

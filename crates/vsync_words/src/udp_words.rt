@@ -2,7 +2,7 @@
 
 ghost use Rattle.std.specs.Prelude.{◌≡◌, codes, IfSome, MatchResult, Ok, Err};
 ghost use Rattle.clap.specs.Words.{found_of, one_of, rows_of};
-ghost use Rattle.script_reader.specs.declared.udp_script.TheConstants.{ROUNDS};
+ghost use Rattle.vsync_text.specs.declared.udp_script.TheConstants.{ROUNDS};
 ghost use Rattle.vsync_words.specs.Words.{AreUdpWords, AreMemberWords, IsNumberIn};
 ghost use Rattle.vsync_words.specs.Plans.{contact_of, payload_of, text_of, IsMistaken, IsPlan};
 ghost use Rattle.address.specs.declared.limits.TheConstants.{GREATEST_NODE, GREATEST_INCARNATION};
@@ -13,9 +13,9 @@ use crate::text_words::SCRIPT;
 use address::limits::{GREATEST_INCARNATION, GREATEST_NODE, PAYLOAD};
 use address::{Address, Node};
 use clap::ArgMatches;
-use script_reader::{MemberPlan, ROUNDS, address_in};
 use std::alloc::Global;
 use thiserror::Error;
+use vsync_text::{MemberPlan, ROUNDS, address_in};
 
 /// The words of `udp CONFIG SCRIPT`.
 #[derive(Clone, Copy)]
@@ -32,7 +32,7 @@ pub struct MemberWords<'a> {
     pub config: &'a str,
     /// The address of NODE and INCARNATION.
     pub address: Address,
-    /// How many rounds it runs, 0 to `ROUNDS` (`script_reader`).
+    /// How many rounds it runs, 0 to `ROUNDS` (`vsync_text`).
     pub rounds: u64,
     /// ADDR, if it stands there.
     pub contact: Option<&'a str>,

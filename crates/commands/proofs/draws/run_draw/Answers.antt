@@ -1,5 +1,5 @@
 use Rattle.std.proofs.Common.{◌≡◌, ◌∙◌, ap, sym, Err}
-use Rattle.script_reader.specs.Script.{script_of}
+use Rattle.vsync_text.specs.Script.{script_of}
 use Rattle.endings.specs.Outcomes.IsAnswer.{ReaderFails, Answers}
 use Rattle.commands.specs.Draws.{IsDrawnScript, TellsScript}
 use Rattle.commands.proofs.DrawingsEnd.{drawn-run, faulty-as, unread-as, unread-answer}

@@ -1,5 +1,5 @@
 use Rattle.std.proofs.Common.{◌≡◌, ◌∙◌, ap, sym, Err}
-use Rattle.trace_reader.specs.Traces.{trace_of}
+use Rattle.vsync_text.specs.Traces.{trace_of}
 use Rattle.endings.specs.Outcomes.IsAnswer.{ReaderFails, Answers}
 use Rattle.commands.specs.Draws.{IsDrawnTrace, TellsTrace}
 use Rattle.commands.proofs.DrawingsEnd.{drawn-judged, faulty-as, unread-as, unread-answer}

@@ -1,4 +1,4 @@
-use Rattle.script_reader.specs.Script.{as_written}
+use Rattle.vsync_text.specs.Script.{as_written}
 use Rattle.commands.specs.Packets.{IsPacketText}
 use Rattle.endings.proofs.TextsFollow.{ran-text, unrun-text}
 use Rattle.commands.proofs.packets.run_packets.Goals as goal

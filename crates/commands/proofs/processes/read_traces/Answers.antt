@@ -3,7 +3,7 @@ use Rattle.std.specs.Bool.{if◌then◌else◌}
 use Rattle.std.specs.Result.{is_ok}
 use Rattle.trace_props.specs.Recorded.{Recorded}
 use Rattle.trace_merge.specs.Merges.{lists_of}
-use Rattle.script_reader.specs.Texts.{IsUnread}
+use Rattle.vsync_text.specs.Texts.{IsUnread}
 use Rattle.commands.specs.MemberTexts.{member_trace_of}
 use Rattle.commands.specs.Processes.{texts_of, AreTracesOf, IsUnreadIn}
 use Rattle.commands.proofs.ProcessesWrite.{one-more-read, is-unread}

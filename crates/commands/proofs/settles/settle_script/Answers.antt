@@ -1,4 +1,4 @@
-use Rattle.script_reader.specs.Script.{as_written}
+use Rattle.vsync_text.specs.Script.{as_written}
 use Rattle.commands.specs.Settled.{IsSettledText}
 use Rattle.endings.proofs.TextsFollow.{ran-text, unrun-text}
 use Rattle.commands.proofs.settles.settle_script.Goals as goal

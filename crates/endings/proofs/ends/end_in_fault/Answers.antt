@@ -1,5 +1,5 @@
 use Rattle.std.proofs.Common.{◌≡◌, ◌∙◌, ap, sym, subst, List, ℕ}
-use Rattle.script_reader.specs.Script.{fault_number}
+use Rattle.vsync_text.specs.Script.{fault_number}
 use Rattle.endings.specs.declared.status.Status.TheVariants.{Refused, Memory}
 use Rattle.endings.specs.Outcomes.{IsFaultText, memory_line, fault_line}
 use Rattle.endings.specs.Outcomes.IsFaultText.{Printed, Unprinted}

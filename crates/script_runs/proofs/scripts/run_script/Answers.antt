@@ -1,4 +1,4 @@
-use Rattle.script_reader.specs.Script.{as_written}
+use Rattle.vsync_text.specs.Script.{as_written}
 use Rattle.script_runs.specs.Outcomes.{IsRunText}
 use Rattle.endings.proofs.TextsFollow.{ran-text, unrun-text}
 use Rattle.script_runs.proofs.scripts.run_script.Goals as goal

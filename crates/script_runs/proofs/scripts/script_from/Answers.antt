@@ -1,5 +1,5 @@
 use Rattle.std.proofs.Common.{◌∙◌, ap, sym}
-use Rattle.script_reader.specs.Script.{script_by}
+use Rattle.vsync_text.specs.Script.{script_by}
 use Rattle.endings.specs.Outcomes.IsAnswer.{ReaderFails}
 use Rattle.endings.proofs.TextsFollow.{unread-text, fault-text}
 use Rattle.script_runs.proofs.scripts.script_from.Goals as goal

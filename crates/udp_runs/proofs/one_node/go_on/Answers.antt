@@ -1,5 +1,5 @@
 use Rattle.udp_runs.proofs.MemberCommandsEnd.{goes-alone, goes-none, silent-first}
-use Rattle.node_lines.proofs.LinesKept.{earlier-refl, owes-new}
+use Rattle.node_turns.proofs.LinesKept.{earlier-refl, owes-new}
 use Rattle.udp_runs.proofs.one_node.go_on.Goals as goal
 
 pub returns-in-Err : goal.returns-in-Err

@@ -1,5 +1,5 @@
 use Rattle.std.proofs.Common.{◌∙◌, ap, sym}
-use Rattle.script_reader.specs.UdpScript.{udp_script_of}
+use Rattle.vsync_text.specs.UdpScript.{udp_script_of}
 use Rattle.endings.specs.Outcomes.IsAnswer.{ReaderFails}
 use Rattle.udp_runs.proofs.ScriptCommandsEnd.{fault-text, unread-text}
 use Rattle.udp_runs.proofs.script.lines_from.Goals as goal

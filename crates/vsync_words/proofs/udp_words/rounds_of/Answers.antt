@@ -1,7 +1,7 @@
 use Rattle.std.proofs.Common.{arith, codes, rules}
 use Rattle.std.specs.Str.Parse.{ExplainsUnsignedError, HasUnsignedDigitsIfOk, ParsesUnsigned}
 use Rattle.clap.specs.Words.{found_of}
-use Rattle.script_reader.specs.declared.udp_script.TheConstants.{ROUNDS}
+use Rattle.vsync_text.specs.declared.udp_script.TheConstants.{ROUNDS}
 use Rattle.vsync_words.proofs.Numbers.{number_is}
 use Rattle.vsync_words.proofs.udp_words.rounds_of.Goals as goal
 

@@ -1,5 +1,5 @@
 use Rattle.std.proofs.Common.{◌≡◌, false, length}
-use Rattle.node_lines.specs.Came.{KeepsUnsaid}
+use Rattle.node_turns.specs.Came.{KeepsUnsaid}
 use Rattle.node_turns.proofs.LinesAndEvents.{Took}
 use Rattle.node_turns.proofs.telling.Teller.append_all.Given as goal
 

@@ -1,5 +1,5 @@
 use Rattle.node_turns.proofs.NodesTell.{tells-turn, tells-waits}
-use Rattle.node_lines.specs.Came.{Owes}
+use Rattle.node_turns.specs.Came.{Owes}
 use Rattle.node_turns.proofs.LinesOwed.{on-map, on-went, same-keeps}
 use Rattle.udp_runs.proofs.lone.LoneNode.listen_for.Goals as goal
 

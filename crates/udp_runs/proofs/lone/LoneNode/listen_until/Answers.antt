@@ -1,5 +1,5 @@
 use Rattle.std.proofs.Common.{refl, ◌∙◌}
-use Rattle.node_lines.proofs.LinesKept.{earlier-refl, earlier-trans}
+use Rattle.node_turns.proofs.LinesKept.{earlier-refl, earlier-trans}
 use Rattle.node_turns.proofs.NodesTell.{tells-none, tells-then}
 use Rattle.udp_runs.proofs.lone.LoneNode.listen_until.Goals as goal
 

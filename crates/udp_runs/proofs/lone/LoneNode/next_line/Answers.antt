@@ -1,7 +1,7 @@
 use Rattle.std.proofs.Common.{◌∙◌, sym, subst}
-use Rattle.node_lines.specs.Outboxes.{OutboxModel}
-use Rattle.node_lines.specs.Came.{Owes}
-use Rattle.node_lines.proofs.LinesKept.{owes-without-long}
+use Rattle.node_turns.specs.Outboxes.{OutboxModel}
+use Rattle.node_turns.specs.Came.{Owes}
+use Rattle.node_turns.proofs.LinesKept.{owes-without-long}
 use Rattle.node_turns.proofs.LinesOwed.{on-any, no-ok, line-of}
 use Rattle.udp_runs.proofs.lone.LoneNode.next_line.Goals as goal
 

@@ -1,5 +1,5 @@
 use Rattle.std.proofs.Common.{refl}
-use Rattle.node_lines.proofs.LinesKept.{earlier-refl}
+use Rattle.node_turns.proofs.LinesKept.{earlier-refl}
 use Rattle.node_turns.proofs.NodesTell.{from-then, told-all, alone-cut, alone-shown, alone-whole}
 use Rattle.udp_runs.proofs.lone.LoneNode.play.Goals as goal
 

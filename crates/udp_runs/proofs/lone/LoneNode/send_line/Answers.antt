@@ -1,8 +1,8 @@
 use Rattle.std.proofs.Common.{inr, subst, sym, ◌∙◌}
-use Rattle.node_lines.specs.Came.{IsLineOf, Owes}
+use Rattle.node_turns.specs.Came.{IsLineOf, Owes}
 use Rattle.node_turns.proofs.NodesTell.{quiet-as}
-use Rattle.node_lines.specs.Outboxes.{OutboxModel}
-use Rattle.node_lines.proofs.LinesKept.{owes-without}
+use Rattle.node_turns.specs.Outboxes.{OutboxModel}
+use Rattle.node_turns.proofs.LinesKept.{owes-without}
 use Rattle.udp_runs.proofs.lone.LoneNode.send_line.Goals as goal
 
 pub returns-in_err-line-clause-drives : goal.returns-in_err-line-clause-drives

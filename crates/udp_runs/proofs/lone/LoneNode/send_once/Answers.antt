@@ -1,6 +1,6 @@
 use Rattle.std.proofs.Common.{inl}
 use Rattle.node_turns.proofs.NodesTell.{quiet-as}
-use Rattle.node_lines.proofs.LinesKept.{earlier-refl}
+use Rattle.node_turns.proofs.LinesKept.{earlier-refl}
 use Rattle.udp_runs.proofs.lone.LoneNode.send_once.Goals as goal
 
 pub returns-in_default-clause-drives : goal.returns-in_default-clause-drives

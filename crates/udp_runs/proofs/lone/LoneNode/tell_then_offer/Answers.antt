@@ -1,4 +1,4 @@
-use Rattle.node_lines.specs.Came.{Keeps, KeepsUnsaid}
+use Rattle.node_turns.specs.Came.{Keeps, KeepsUnsaid}
 use Rattle.node_turns.proofs.LinesOwed.{on-map}
 use Rattle.udp_runs.proofs.lone.LoneNode.tell_then_offer.Goals as goal
 

@@ -1,5 +1,5 @@
 use Rattle.std.proofs.Common.{refl, ◌∙◌}
-use Rattle.node_lines.proofs.LinesKept.{earlier-refl, earlier-trans}
+use Rattle.node_turns.proofs.LinesKept.{earlier-refl, earlier-trans}
 use Rattle.node_turns.proofs.NodesTell.{tells-none, tells-then, told-all}
 use Rattle.node_turns.proofs.LinesOwed.{same-keeps}
 use Rattle.udp_runs.proofs.lone.LoneNode.turns.Goals as goal

@@ -1,5 +1,5 @@
 use Rattle.std.proofs.Common.{refl, ap, ◌∙◌}
-use Rattle.script_reader.specs.declared.udp_script.UdpEvent.TheVariants as says
+use Rattle.vsync_text.specs.declared.udp_script.UdpEvent.TheVariants as says
 use Rattle.world_model.specs.declared.WorldEvent.TheVariants as event
 use Rattle.udp_runs.specs.Carrying.{DoesLine, Goes, Passes, line_of_event}
 use Rattle.udp_runs.proofs.CallsAmongOthers.{as-line, goes-as, goes-as-line, goes-like, goes-none, okay}

@@ -1,3 +1,0 @@
-pub mod Outboxes
-pub mod Unsaid
-pub mod Came

@@ -1,2 +1,0 @@
-pub mod TextsRead
-pub mod ScriptsRead

@@ -1,0 +1,215 @@
+//! A line of a trace as an event.
+
+ghost use Rattle.std.specs.Prelude.{◌≡◌, ◌≤◌, length, None, Some, Ok, IfOk, IfSome};
+ghost use Rattle.address.specs.declared.limits.TheConstants.{PAYLOAD};
+ghost use Rattle.trace_props.specs.Recorded.{IsShort};
+ghost use Rattle.vsync_text.specs.Texts.{IsReadUnlessRefused};
+ghost use Rattle.vsync_text.specs.Fields.{spelled_at, last};
+ghost use Rattle.vsync_text.specs.AddressText.{address_of_text};
+ghost use Rattle.vsync_text.specs.Spelling.{AreShort};
+ghost use Rattle.vsync_text.specs.LineFields.{sending_at, delivery_at, view_at, install_at, stable_at};
+ghost use Rattle.vsync_text.specs.Traces.{word_of, event_of, said_in_line};
+
+use crate::line_fields::Fields;
+use crate::{Fault, Unheard, first_field};
+use address::Address;
+use address::limits::TRACE_LINE;
+use std::alloc::Global;
+use trace_props::{BoxedInstall, Delivery, Event, Install, Message, Numbered, Sending};
+use view::View;
+
+/// A word with which a line of a trace begins.
+#[derive(Clone, Copy, Drop)]
+pub(crate) enum Word {
+    Started,
+    Sent,
+    Delivered,
+    Blocked,
+    Installed,
+    Left,
+    Crashed,
+}
+
+fn word_of(name: &[u8]) -> Option<Word>
+    ensures { result ≡ word_of name.now }
+{
+    if name == b"started".as_slice() {
+        Some(Word::Started)
+    } else if name == b"sent".as_slice() {
+        Some(Word::Sent)
+    } else if name == b"delivered".as_slice() {
+        Some(Word::Delivered)
+    } else if name == b"blocked".as_slice() {
+        Some(Word::Blocked)
+    } else if name == b"installed".as_slice() {
+        Some(Word::Installed)
+    } else if name == b"left".as_slice() {
+        Some(Word::Left)
+    } else if name == b"crashed".as_slice() {
+        Some(Word::Crashed)
+    } else {
+        None
+    }
+}
+
+/// `P V N X`.
+#[tactic(auto, unfolding(crate::specs::Fields::sending_at))]
+fn sending(alloc: Global, fields: &mut Fields<'_>) -> Result<Sending, Unheard>
+    ensures gives { IsReadUnlessRefused (λ x. (x, fields.new)) result (sending_at fields.old) }
+    ensures short { IfOk result (λ x. length x.message.payload ≤ PAYLOAD) }
+{
+    let member = fields.address()?;
+    let view = fields.view_id()?;
+    let number = fields.number()?;
+    let payload = fields.payload(alloc)?;
+    Ok(Sending {
+        member,
+        view,
+        message: Numbered { number, payload },
+    })
+}
+
+/// `P V Q N X`.
+#[tactic(auto, unfolding(crate::specs::Fields::delivery_at))]
+fn delivery(alloc: Global, fields: &mut Fields<'_>) -> Result<Delivery, Unheard>
+    ensures gives { IsReadUnlessRefused (λ x. (x, fields.new)) result (delivery_at fields.old) }
+    ensures short { IfOk result (λ x. length x.message.payload ≤ PAYLOAD) }
+{
+    let member = fields.address()?;
+    let view = fields.view_id()?;
+    let sender = fields.address()?;
+    let number = fields.number()?;
+    let payload = fields.payload(alloc)?;
+    Ok(Delivery {
+        member,
+        view,
+        message: Message {
+            sender,
+            number,
+            payload,
+        },
+    })
+}
+
+/// `W MEMBERS`.
+#[tactic(auto, unfolding(crate::specs::Fields::view_at))]
+fn view(alloc: Global, fields: &mut Fields<'_>) -> Result<View, Unheard>
+    ensures { IsReadUnlessRefused (λ x. (x, fields.new)) result (view_at fields.old) }
+{
+    let id = fields.view_id()?;
+    fields.view(alloc, id)
+}
+
+/// `P PREV W MEMBERS TOGETHER BACK STATE`.
+#[tactic(auto, unfolding(crate::specs::Fields::install_at))]
+fn install(alloc: Global, fields: &mut Fields<'_>) -> Result<Install, Unheard>
+    ensures gives { IsReadUnlessRefused (λ x. (x, fields.new)) result (install_at fields.old) }
+    ensures short { IfOk result (λ x. AreShort x.handed_back) }
+{
+    let member = fields.address()?;
+    let previous = fields.previous()?;
+    let view = view(alloc, fields)?;
+    let together = fields.together(alloc)?;
+    let handed_back = fields.handed_back(alloc)?;
+    let given = fields.given(alloc)?;
+    Ok(Install {
+        member,
+        previous,
+        view,
+        together,
+        handed_back,
+        given,
+    })
+}
+
+/// The address that is all that is left of a line.
+#[tactic(auto, unfolding(crate::specs::Fields::last))]
+fn lone_address(mut fields: Fields<'_>) -> Result<Address, Unheard>
+    ensures { IsReadUnlessRefused (λ x. x) result (last (spelled_at address_of_text fields.entry)) }
+{
+    let address = fields.address()?;
+    fields.end()?;
+    Ok(address)
+}
+
+#[tactic(auto, unfolding(crate::specs::Fields::last))]
+fn lone_sending(alloc: Global, mut fields: Fields<'_>) -> Result<Sending, Unheard>
+    ensures gives { IsReadUnlessRefused (λ x. x) result (last (sending_at fields.entry)) }
+    ensures short { IfOk result (λ x. length x.message.payload ≤ PAYLOAD) }
+{
+    let sending = sending(alloc, &mut fields)?;
+    fields.end()?;
+    Ok(sending)
+}
+
+#[tactic(auto, unfolding(crate::specs::Fields::last))]
+fn lone_delivery(alloc: Global, mut fields: Fields<'_>) -> Result<Delivery, Unheard>
+    ensures gives { IsReadUnlessRefused (λ x. x) result (last (delivery_at fields.entry)) }
+    ensures short { IfOk result (λ x. length x.message.payload ≤ PAYLOAD) }
+{
+    let delivery = delivery(alloc, &mut fields)?;
+    fields.end()?;
+    Ok(delivery)
+}
+
+#[tactic(auto, unfolding(crate::specs::Fields::last))]
+fn lone_install(alloc: Global, mut fields: Fields<'_>) -> Result<Install, Unheard>
+    ensures gives { IsReadUnlessRefused (λ x. x) result (last (install_at fields.entry)) }
+    ensures short { IfOk result (λ x. AreShort x.handed_back) }
+{
+    let install = install(alloc, &mut fields)?;
+    fields.end()?;
+    Ok(install)
+}
+
+/// The event of a word and of what is left behind it.
+#[tactic(auto, unfolding(crate::specs::Traces::event_of))]
+fn event_of(alloc: Global, word: Word, fields: Fields<'_>) -> Result<Event, Unheard>
+    ensures gives { IsReadUnlessRefused (λ x. x) result (event_of word fields.entry) }
+    ensures short { IfOk result IsShort }
+{
+    match word {
+        Word::Started => Ok(Event::Started(lone_address(fields)?)),
+        Word::Sent => Ok(Event::Sent(lone_sending(alloc, fields)?)),
+        Word::Delivered => Ok(Event::Delivered(lone_delivery(alloc, fields)?)),
+        Word::Blocked => Ok(Event::Blocked(lone_address(fields)?)),
+        Word::Installed => Ok(Event::Installed(BoxedInstall::new(
+            alloc,
+            lone_install(alloc, fields)?,
+        )?)),
+        Word::Left => Ok(Event::Left(lone_address(fields)?)),
+        Word::Crashed => Ok(Event::Crashed(lone_address(fields)?)),
+    }
+}
+
+/// The count of `P V N`, which is all that is left of a line.
+#[tactic(auto, unfolding(crate::specs::Fields::last, crate::specs::Fields::stable_at))]
+fn lone_stable(mut fields: Fields<'_>) -> Result<u64, Unheard>
+    ensures { IsReadUnlessRefused (λ x. x) result (last (stable_at fields.entry)) }
+{
+    fields.address()?;
+    fields.view_id()?;
+    let count = fields.number()?;
+    fields.end()?;
+    Ok(count)
+}
+
+/// What a line says that is not skipped: an event; nothing, where it says which messages are stable.
+#[tactic(auto, unfolding(crate::specs::Traces::said_in_line))]
+pub(crate) fn said_in_line(alloc: Global, line: &[u8]) -> Result<Option<Event>, Unheard>
+    ensures gives { IsReadUnlessRefused (λ x. x) result (said_in_line line.now) }
+    ensures short { IfOk result (λ said. IfSome said IsShort) }
+{
+    if line.len() > TRACE_LINE {
+        return Err(Unheard::Fault(Fault::LineTooLong));
+    }
+    let (name, rest) = first_field(line);
+    if name == b"stable".as_slice() {
+        lone_stable(Fields::new(rest))?;
+        return Ok(None);
+    }
+    match word_of(name) {
+        None => Err(Unheard::Fault(Fault::UnknownWord)),
+        Some(word) => Ok(Some(event_of(alloc, word, Fields::new(rest))?)),
+    }
+}

@@ -1,0 +1,123 @@
+ghost use Rattle.std.specs.Prelude.{◌≡◌, MatchResult};
+ghost use Rattle.std.specs.Option.{option_copied};
+ghost use Rattle.vsync_text.specs.Fields.{last};
+ghost use Rattle.vsync_text.specs.UdpScript.{rounds_field, node_event, numbered, udp_said, udp_script_of};
+ghost use Rattle.vsync_text.specs.Texts.{and_then, reading_by, HasRead, IsReadUnlessRefused, IsUnread};
+
+use crate::field::{first_field, first_line, rounds_field};
+use crate::script_line::{Word, event_of, is_skipped, word_of};
+use crate::{AsWritten, Fault, Unheard, Unread};
+use address::limits::SCRIPT_LINE;
+use std::alloc::{AllocError, Global};
+use world_model::WorldEvent;
+
+/// The most rounds that a line of a script, or a command, asks for.
+pub const ROUNDS: u64 = 1_000_000;
+
+/// What a line of a script for nodes over UDP says.
+pub enum UdpEvent {
+    /// An event of one node, neither `Deliver` nor `Tick`.
+    Node(WorldEvent),
+    /// So many rounds of each node that runs, 0 to `ROUNDS`.
+    Rounds(u64),
+}
+
+impl Drop for UdpEvent {
+    fn drop(self) {
+        match self {
+            UdpEvent::Node(_) => {}
+            UdpEvent::Rounds(_) => {}
+        }
+    }
+}
+
+/// A line of a script for nodes over UDP that says something.
+#[derive(Drop)]
+pub struct UdpLine {
+    /// Its number in the script, from 1.
+    pub number: u64,
+    /// What it says.
+    pub event: UdpEvent,
+}
+
+/// The number of rounds with which a line ends.
+#[tactic(auto, unfolding(crate::specs::Fields::last, crate::specs::Fields::end_at))]
+fn lone_rounds(rest: Option<&[u8]>) -> Result<u64, Unheard>
+    ensures { IsReadUnlessRefused (λ x. x) result (last (rounds_field (option_copied rest.entry))) }
+{
+    match rounds_field(rest) {
+        Ok((number, None)) => Ok(number),
+        Ok((_, Some(_))) => Err(Unheard::Fault(Fault::BadNumber)),
+        Err(fault) => Err(Unheard::Fault(fault)),
+    }
+}
+
+/// The event of a node that a line's first word and the rest of it spell: none of a delivery and a tick, which are the net's and the rounds' here.
+fn node_event(alloc: Global, name: &[u8], rest: Option<&[u8]>) -> Result<WorldEvent, Unheard>
+    ensures { IsReadUnlessRefused (λ x. x) result (node_event name.now (option_copied rest.entry)) }
+{
+    match word_of(name) {
+        None | Some(Word::Deliver) | Some(Word::Tick) => Err(Unheard::Fault(Fault::UnknownWord)),
+        Some(word) => event_of::<AsWritten>(alloc, word, rest),
+    }
+}
+
+/// What a line says that is not skipped.
+fn said(alloc: Global, line: &[u8]) -> Result<UdpEvent, Unheard>
+    ensures { IsReadUnlessRefused (λ x. x) result (udp_said line.now) }
+{
+    if line.len() > SCRIPT_LINE {
+        return Err(Unheard::Fault(Fault::LineTooLong));
+    }
+    let (name, rest) = first_field(line);
+    if name == b"rounds".as_slice() {
+        return Ok(UdpEvent::Rounds(lone_rounds(rest)?));
+    }
+    Ok(UdpEvent::Node(node_event(alloc, name, rest)?))
+}
+
+/// What a line says: nothing, or an event.
+fn read_udp_line(alloc: Global, line: &[u8]) -> Result<Option<UdpEvent>, Unheard>
+    ensures { IsReadUnlessRefused (λ x. x) result (reading_by udp_said line.now) }
+{
+    if is_skipped(line) {
+        return Ok(None);
+    }
+    Ok(Some(said(alloc, line)?))
+}
+
+/// Adds what a line of this number says.
+fn read_on(alloc: Global, lines: &mut Vec<UdpLine>, number: u64, line: &[u8]) -> Result<(), Unread>
+    ensures { HasRead (and_then numbered) lines.old.items number (reading_by udp_said line.now) result lines.new.items }
+{
+    match read_udp_line(alloc, line) {
+        Err(unheard) => Err(unheard.at(number)),
+        Ok(None) => Ok(()),
+        Ok(Some(event)) => match lines.push(UdpLine { number, event }) {
+            Err(_) => Err(Unread::Memory),
+            Ok(()) => Ok(()),
+        },
+    }
+}
+
+/// Reads a script for nodes over UDP, in one pass: as `read_script` does, but that `rounds K`, K a number from 0 to `ROUNDS`, is a line of it, and `deliver` and
+/// `tick` are no words of it. Answers the lines that say something, in order.
+///
+/// # Errors
+///
+/// Those of `read_script`.
+#[tactic(auto, using(crate::proofs::ScriptsRead::udp_script_is_going_on))]
+pub fn read_udp_script(alloc: Global, text: &[u8]) -> Result<Vec<UdpLine>, Unread>
+    ensures { MatchResult result (λ lines. udp_script_of text.now ≡ Ok lines.items) (IsUnread (udp_script_of text.now)) }
+{
+    let mut lines = Vec::new(alloc);
+    let mut rest = text;
+    let mut number: u64 = 0;
+    while !rest.is_empty() {
+        let (line, behind) = first_line(rest);
+        number += 1;
+        read_on(alloc, &mut lines, number, line)?;
+        rest = behind;
+    }
+    Ok(lines)
+}
