@@ -53,7 +53,7 @@ fn word_of(name: &[u8]) -> Option<Word>
 }
 
 /// `P V N X`.
-#[tactic(auto, unfolding(crate::specs::Fields::sending_at))]
+#[tactic(auto, unfolding(crate::specs::LineFields::sending_at))]
 fn sending(alloc: Global, fields: &mut Fields<'_>) -> Result<Sending, Unheard>
     ensures gives { IsReadUnlessRefused (λ x. (x, fields.new)) result (sending_at fields.old) }
     ensures short { IfOk result (λ x. length x.message.payload ≤ PAYLOAD) }
@@ -70,7 +70,7 @@ fn sending(alloc: Global, fields: &mut Fields<'_>) -> Result<Sending, Unheard>
 }
 
 /// `P V Q N X`.
-#[tactic(auto, unfolding(crate::specs::Fields::delivery_at))]
+#[tactic(auto, unfolding(crate::specs::LineFields::delivery_at))]
 fn delivery(alloc: Global, fields: &mut Fields<'_>) -> Result<Delivery, Unheard>
     ensures gives { IsReadUnlessRefused (λ x. (x, fields.new)) result (delivery_at fields.old) }
     ensures short { IfOk result (λ x. length x.message.payload ≤ PAYLOAD) }
@@ -92,7 +92,7 @@ fn delivery(alloc: Global, fields: &mut Fields<'_>) -> Result<Delivery, Unheard>
 }
 
 /// `W MEMBERS`.
-#[tactic(auto, unfolding(crate::specs::Fields::view_at))]
+#[tactic(auto, unfolding(crate::specs::LineFields::view_at))]
 fn view(alloc: Global, fields: &mut Fields<'_>) -> Result<View, Unheard>
     ensures { IsReadUnlessRefused (λ x. (x, fields.new)) result (view_at fields.old) }
 {
@@ -183,7 +183,7 @@ fn event_of(alloc: Global, word: Word, fields: Fields<'_>) -> Result<Event, Unhe
 }
 
 /// The count of `P V N`, which is all that is left of a line.
-#[tactic(auto, unfolding(crate::specs::Fields::last, crate::specs::Fields::stable_at))]
+#[tactic(auto, unfolding(crate::specs::Fields::last, crate::specs::LineFields::stable_at))]
 fn lone_stable(mut fields: Fields<'_>) -> Result<u64, Unheard>
     ensures { IsReadUnlessRefused (λ x. x) result (last (stable_at fields.entry)) }
 {
