@@ -101,7 +101,7 @@ fn view(alloc: Global, fields: &mut Fields<'_>) -> Result<View, Unheard>
 }
 
 /// `P PREV W MEMBERS TOGETHER BACK STATE`.
-#[tactic(auto, unfolding(crate::specs::Fields::install_at))]
+#[tactic(auto, unfolding(crate::specs::LineFields::install_at))]
 fn install(alloc: Global, fields: &mut Fields<'_>) -> Result<Install, Unheard>
     ensures gives { IsReadUnlessRefused (λ x. (x, fields.new)) result (install_at fields.old) }
     ensures short { IfOk result (λ x. AreShort x.handed_back) }
