@@ -7,13 +7,13 @@ ghost use Rattle.commands.specs.MemberTexts.{is_state_word, names_member, is_sta
 
 use std::alloc::{AllocError, Global};
 use trace_props::Trace;
-use vsync_text::{Unread, address_in, first_field, first_line, read_trace};
+use vsync_text::{Unread, address_in, first_field, first_line, is_word, read_trace};
 
 // Whether the line of a state begins with this word.
 fn is_state_word(word: &[u8]) -> bool
     ensures { result ≡ is_state_word word.now }
 {
-    word == b"chat".as_slice() || word == b"map".as_slice() || word == b"locks".as_slice()
+    is_word(word, b"chat") || is_word(word, b"map") || is_word(word, b"locks")
 }
 
 // Whether an address stands in front of what is left of a line, and more behind it.

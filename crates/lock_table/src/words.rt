@@ -13,7 +13,7 @@ use address::ViewId;
 use keyed_state::{KeyBytes, last_key};
 use std::alloc::Global;
 use view::View;
-use vsync_text::{Fault, Unheard, first_field, view_id_in, view_in};
+use vsync_text::{Fault, Unheard, first_field, is_word, view_id_in, view_in};
 
 // The next field as a view id, and what is left behind it.
 #[tactic(auto, unfolding(vsync_text::specs::Fields::spelled_at, vsync_text::specs::Fields::field_at))]
@@ -121,11 +121,11 @@ pub(crate) fn command_said(alloc: Global, text: &[u8]) -> Result<Command<'_>, Un
     ensures { IsReadUnlessRefused (λ x. x) result (command_said text.now) }
 {
     let (word, rest) = first_field(text);
-    if word == b"acquire".as_slice() {
+    if is_word(word, b"acquire") {
         acquire_said(rest)
-    } else if word == b"release".as_slice() {
+    } else if is_word(word, b"release") {
         release_said(rest)
-    } else if word == b"roll".as_slice() {
+    } else if is_word(word, b"roll") {
         roll_said(alloc, rest)
     } else {
         Err(Unheard::Fault(Fault::BadNumber))
@@ -137,9 +137,9 @@ pub(crate) fn command_said_in(view: ViewId, text: &[u8]) -> Result<Command<'_>, 
     ensures { IsReadUnlessRefused (λ x. x) result (command_said_in view text.now) }
 {
     let (word, rest) = first_field(text);
-    if word == b"acquire".as_slice() {
+    if is_word(word, b"acquire") {
         acquired_in(view, rest)
-    } else if word == b"release".as_slice() {
+    } else if is_word(word, b"release") {
         released_in(view, rest)
     } else {
         Err(Unheard::Fault(Fault::BadNumber))

@@ -9,13 +9,13 @@ ghost use Rattle.replicated_map.specs.Words.{expected_of, expected_field, versio
 use crate::{Command, ValueBytes, Version};
 use address::ViewId;
 use keyed_state::{KeyBytes, key_field, last_key, token_in};
-use vsync_text::{Fault, first_field};
+use vsync_text::{Fault, first_field, is_word};
 
 // The expected value that a field says: `-` says that there is none.
 fn expected_in(field: &[u8]) -> Option<Option<ValueBytes<'_>>>
     ensures { result ≡ expected_of field.now }
 {
-    if field == b"-".as_slice() {
+    if is_word(field, b"-") {
         return Some(None);
     }
     let value = ValueBytes::new(field)?;
@@ -212,17 +212,17 @@ pub(crate) fn command_said(view: ViewId, text: &[u8]) -> Result<Command<'_>, Fau
     ensures { MatchResult result (λ c. command_said view text.now ≡ Ok c) (λ f. command_said view text.now ≡ Err f) }
 {
     let (word, rest) = first_field(text);
-    if word == b"put".as_slice() {
+    if is_word(word, b"put") {
         put_said(view, rest)
-    } else if word == b"remove".as_slice() {
+    } else if is_word(word, b"remove") {
         remove_said(rest)
-    } else if word == b"replace".as_slice() {
+    } else if is_word(word, b"replace") {
         replace_said(view, rest)
-    } else if word == b"clear".as_slice() {
+    } else if is_word(word, b"clear") {
         clear_said(rest)
-    } else if word == b"replace_at".as_slice() {
+    } else if is_word(word, b"replace_at") {
         replace_at_said(view, rest)
-    } else if word == b"remove_at".as_slice() {
+    } else if is_word(word, b"remove_at") {
         remove_at_said(rest)
     } else {
         Err(Fault::BadNumber)

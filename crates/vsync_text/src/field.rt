@@ -2,6 +2,7 @@ ghost use Rattle.std.specs.Prelude.{◌≡◌, ◌<◌, ◌≤◌, ◌∷◌, No
 ghost use Rattle.std.specs.List.{list_all, position_or_len};
 ghost use Rattle.std.specs.Char.{is_ascii_digit};
 ghost use Rattle.std.specs.Option.{option_copied};
+ghost use Rattle.std.specs.Str.{bytes_eq};
 ghost use Rattle.vsync_text.specs.Lines.{lines_of, before_byte, behind_byte, field_of, behind_field};
 ghost use Rattle.vsync_text.specs.Numbers.{is_plain, has_plain_front, value_of, number_in};
 ghost use Rattle.vsync_text.specs.AddressText.{address_of_text};
@@ -12,6 +13,13 @@ use crate::Fault;
 use crate::udp_script::ROUNDS;
 use address::limits::{GREATEST_INCARNATION, GREATEST_NODE, GREATEST_NUMBER};
 use address::{Address, Node};
+
+/// Whether a text is this word.
+pub fn is_word(text: &[u8], word: &[u8]) -> bool
+    ensures { result ≡ bytes_eq text.now word.now }
+{
+    text == word
+}
 
 /// The index of the first byte of a text that is `byte`.
 fn index_of(byte: u8, text: &[u8]) -> Option<usize>

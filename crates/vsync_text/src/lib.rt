@@ -29,7 +29,9 @@ mod udp_script;
 pub use append::{put, put_address, put_addresses, put_decimal, put_hex, put_number, put_view_id};
 pub use buffered::put_all;
 pub use fault::{Fault, Unheard, Unread};
-pub use field::{address_field, address_in, first_field, first_line, number_in, split_at_first};
+pub use field::{
+    address_field, address_in, first_field, first_line, is_word, number_in, split_at_first,
+};
 pub use law::reads_what_is_written;
 pub use member_plan::MemberPlan;
 pub use packet_lines::{append_packet, append_packets};

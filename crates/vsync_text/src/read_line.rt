@@ -11,7 +11,7 @@ ghost use Rattle.vsync_text.specs.LineFields.{sending_at, delivery_at, view_at, 
 ghost use Rattle.vsync_text.specs.Traces.{word_of, event_of, said_in_line};
 
 use crate::line_fields::Fields;
-use crate::{Fault, Unheard, first_field};
+use crate::{Fault, Unheard, first_field, is_word};
 use address::Address;
 use address::limits::TRACE_LINE;
 use std::alloc::Global;
@@ -33,19 +33,19 @@ pub(crate) enum Word {
 fn word_of(name: &[u8]) -> Option<Word>
     ensures { result ≡ word_of name.now }
 {
-    if name == b"started".as_slice() {
+    if is_word(name, b"started") {
         Some(Word::Started)
-    } else if name == b"sent".as_slice() {
+    } else if is_word(name, b"sent") {
         Some(Word::Sent)
-    } else if name == b"delivered".as_slice() {
+    } else if is_word(name, b"delivered") {
         Some(Word::Delivered)
-    } else if name == b"blocked".as_slice() {
+    } else if is_word(name, b"blocked") {
         Some(Word::Blocked)
-    } else if name == b"installed".as_slice() {
+    } else if is_word(name, b"installed") {
         Some(Word::Installed)
-    } else if name == b"left".as_slice() {
+    } else if is_word(name, b"left") {
         Some(Word::Left)
-    } else if name == b"crashed".as_slice() {
+    } else if is_word(name, b"crashed") {
         Some(Word::Crashed)
     } else {
         None
@@ -204,7 +204,7 @@ pub(crate) fn said_in_line(alloc: Global, line: &[u8]) -> Result<Option<Event>, 
         return Err(Unheard::Fault(Fault::LineTooLong));
     }
     let (name, rest) = first_field(line);
-    if name == b"stable".as_slice() {
+    if is_word(name, b"stable") {
         lone_stable(Fields::new(rest))?;
         return Ok(None);
     }

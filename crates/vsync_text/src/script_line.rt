@@ -6,7 +6,7 @@ ghost use Rattle.vsync_text.specs.Script.{node_and_address, of_other, payload_in
 ghost use Rattle.vsync_text.specs.Texts.{is_skipped, reading_by, IsReadUnlessRefused};
 
 use crate::field::{address_field, first_field, node_field, packet_field};
-use crate::{Fault, Payloads, Unheard};
+use crate::{Fault, Payloads, Unheard, is_word};
 use address::limits::SCRIPT_LINE;
 use address::{Address, Bytes, Node};
 use std::alloc::Global;
@@ -30,25 +30,25 @@ pub(crate) enum Word {
 pub(crate) fn word_of(name: &[u8]) -> Option<Word>
     ensures { result ≡ word_of name.now }
 {
-    if name == b"start".as_slice() {
+    if is_word(name, b"start") {
         Some(Word::Start)
-    } else if name == b"create".as_slice() {
+    } else if is_word(name, b"create") {
         Some(Word::Create)
-    } else if name == b"join".as_slice() {
+    } else if is_word(name, b"join") {
         Some(Word::Join)
-    } else if name == b"send".as_slice() {
+    } else if is_word(name, b"send") {
         Some(Word::Send)
-    } else if name == b"deliver".as_slice() {
+    } else if is_word(name, b"deliver") {
         Some(Word::Deliver)
-    } else if name == b"tick".as_slice() {
+    } else if is_word(name, b"tick") {
         Some(Word::Tick)
-    } else if name == b"suspect".as_slice() {
+    } else if is_word(name, b"suspect") {
         Some(Word::Suspect)
-    } else if name == b"hint".as_slice() {
+    } else if is_word(name, b"hint") {
         Some(Word::Hint)
-    } else if name == b"leave".as_slice() {
+    } else if is_word(name, b"leave") {
         Some(Word::Leave)
-    } else if name == b"crash".as_slice() {
+    } else if is_word(name, b"crash") {
         Some(Word::Crash)
     } else {
         None

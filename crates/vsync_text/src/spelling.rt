@@ -6,7 +6,7 @@ ghost use Rattle.vsync_text.specs.Spelling.{number_of_text, view_id_of_text, pre
 
 use crate::forms::{addresses_in, next_part};
 use crate::hexadecimal::bytes_in;
-use crate::{address_in, number_in, split_at_first};
+use crate::{address_in, is_word, number_in, split_at_first};
 use address::limits::{GREATEST_NUMBER, PAYLOAD};
 use address::{Address, Bytes, ViewId};
 use std::alloc::{AllocError, Global};
@@ -38,7 +38,7 @@ pub fn view_id_in(field: &[u8]) -> Option<ViewId>
 pub(crate) fn previous_in(field: &[u8]) -> Option<Option<ViewId>>
     ensures { result ≡ previous_of_text field.now }
 {
-    if field == b"-".as_slice() {
+    if is_word(field, b"-") {
         return Some(None);
     }
     Some(Some(view_id_in(field)?))
@@ -71,7 +71,7 @@ pub(crate) fn payload_in(alloc: Global, field: &[u8]) -> Result<Option<Bytes>, A
     if field.is_empty() {
         return Ok(None);
     }
-    if field == b"-".as_slice() {
+    if is_word(field, b"-") {
         return Ok(Some(Bytes::from_vec(Vec::new(alloc))));
     }
     short_in(alloc, field)
@@ -160,7 +160,7 @@ pub(crate) fn handed_back_in(alloc: Global, field: &[u8]) -> Result<Option<Hande
     ensures read { IfOk result (λ read. read ≡ handed_back_of_text field.now) }
     ensures short { IfOk result (λ read. IfSome read AreShort) }
 {
-    if field == b"-".as_slice() {
+    if is_word(field, b"-") {
         return Ok(Some(HandedBack::nothing(alloc)));
     }
     messages_in(alloc, field)
@@ -188,7 +188,7 @@ fn state_in(alloc: Global, field: &[u8]) -> Result<Option<Bytes>, AllocError>
 pub(crate) fn given_in(alloc: Global, field: &[u8]) -> Result<Option<Option<Bytes>>, AllocError>
     ensures { IfOk result (λ read. read ≡ given_of_text field.now) }
 {
-    if field == b"-".as_slice() {
+    if is_word(field, b"-") {
         return Ok(Some(None));
     }
     match state_in(alloc, field)? {

@@ -6,7 +6,7 @@ ghost use Rattle.vsync_text.specs.Texts.{and_then, reading_by, HasRead, IsReadUn
 
 use crate::field::{first_field, first_line, rounds_field};
 use crate::script_line::{Word, event_of, is_skipped, word_of};
-use crate::{AsWritten, Fault, Unheard, Unread};
+use crate::{AsWritten, Fault, Unheard, Unread, is_word};
 use address::limits::SCRIPT_LINE;
 use std::alloc::{AllocError, Global};
 use world_model::WorldEvent;
@@ -70,7 +70,7 @@ fn said(alloc: Global, line: &[u8]) -> Result<UdpEvent, Unheard>
         return Err(Unheard::Fault(Fault::LineTooLong));
     }
     let (name, rest) = first_field(line);
-    if name == b"rounds".as_slice() {
+    if is_word(name, b"rounds") {
         return Ok(UdpEvent::Rounds(lone_rounds(rest)?));
     }
     Ok(UdpEvent::Node(node_event(alloc, name, rest)?))
