@@ -22,8 +22,9 @@ use replicated_map::ReplicatedMap;
 use std::alloc::{AllocError, Global};
 use std::mem::replace;
 use std::time::Duration;
-use trace_drawing::{Text, draw};
+use trace_drawing::draw;
 use trace_props::Verdict;
+use vsync_text::Text;
 
 /// How many requests of a connection are answered before others have their turn.
 const REQUESTS: u32 = 16;

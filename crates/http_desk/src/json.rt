@@ -8,8 +8,7 @@ use keyed_state::{Token, put_token_text};
 use lock_table::{Lock, LockTable};
 use replicated_map::ReplicatedMap;
 use std::alloc::AllocError;
-use trace_drawing::Text;
-use vsync_text::{Part, put};
+use vsync_text::{Part, Text, put};
 
 /// Appends bytes as a string of JSON: a byte that is no printable ASCII is written by its number.
 pub(crate) fn put_string(out: &mut Text, bytes: &[u8]) {

@@ -9,8 +9,7 @@ use bytes::Bytes;
 use http::Request;
 use keyed_state::KeyBytes;
 use std::alloc::{AllocError, Global};
-use trace_drawing::Text;
-use vsync_text::Part;
+use vsync_text::{Part, Text};
 
 // For how many seconds a request waits for a lock; `None` if it says no such number.
 fn wait_of(request: &Request<Bytes>) -> Option<u64> {

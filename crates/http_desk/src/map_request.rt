@@ -10,8 +10,7 @@ use http::{HeaderName, Request, header};
 use keyed_state::{KeyBytes, Token, token_in};
 use replicated_map::{Command, ValueBytes, Version};
 use std::alloc::{AllocError, Global};
-use trace_drawing::Text;
-use vsync_text::Part;
+use vsync_text::{Part, Text};
 
 // The value of a header; the first one if it is there more than once.
 fn header_of(request: &Request<Bytes>, name: HeaderName) -> Option<&[u8]> {

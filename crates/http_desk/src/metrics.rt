@@ -3,8 +3,7 @@
 use crate::kept::Keeps;
 use crate::standing::Standing;
 use std::alloc::{AllocError, Global};
-use trace_drawing::Text;
-use vsync_text::Part;
+use vsync_text::{Part, Text};
 
 // Metrics of a kind: for each its name and its number.
 fn put_metrics(out: &mut Text, kind: &'static [u8], metrics: &[(&'static [u8], u64)]) {

@@ -6,8 +6,7 @@ use crate::standing::Standing;
 use address::limits::VERSION;
 use std::alloc::{AllocError, Global};
 use std::time::Duration;
-use trace_drawing::Text;
-use vsync_text::Part;
+use vsync_text::{Part, Text};
 
 fn milliseconds(time: Duration) -> u64 {
     u64::try_from(time.as_millis()).unwrap_or(u64::MAX)

@@ -2,7 +2,7 @@ pub mod FirstAndLast
 pub mod KeepKnown
 pub mod RowsAndLines
 pub mod AsidesHaveLevels
-pub mod TextsAppend
+pub mod TextsDrawn
 pub mod PacketsWay
 pub mod LawOfRows
 pub mod LawOfAsides

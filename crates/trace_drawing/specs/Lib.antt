@@ -9,4 +9,3 @@ pub mod Asides
 pub mod Broken
 pub mod Picture
 pub mod Promises
-pub mod Written

@@ -1,17 +1,17 @@
 //! The marks of what stands between events.
 
 ghost use Rattle.std.specs.Prelude.{◌≡◌, flat_map};
-ghost use Rattle.trace_drawing.specs.Written.{Appends};
+ghost use Rattle.vsync_text.specs.Written.{Appends};
 ghost use Rattle.trace_drawing.specs.Packets.{row_in, KnowsWays};
 ghost use Rattle.trace_drawing.specs.Asides.{aside_group, asides_text};
 
 use crate::aside::{AsideKind, AsideRow};
 use crate::packets::{bytes_numbered, put_handed_group, put_packet_group};
 use crate::refusals::put_refused_group;
-use crate::text::Text;
 use crate::ways::Ways;
 use address::Bytes;
 use std::alloc::Global;
+use vsync_text::Text;
 
 /// How the marks of refusals and of packets look, and their words: in print and on a light ground, and on a dark one.
 pub const ASIDE_STYLE: &[u8] = b"<style>\

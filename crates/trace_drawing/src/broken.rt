@@ -1,15 +1,15 @@
 //! The mark of a broken rule: where it breaks, and which it is, in words.
 
 ghost use Rattle.std.specs.Prelude.{◌≡◌, ◌++◌, ◌∷◌, List, codes, slice_get};
-ghost use Rattle.trace_drawing.specs.Written.{Appends};
+ghost use Rattle.vsync_text.specs.Written.{Appends};
 ghost use Rattle.trace_drawing.specs.Broken.{words_of, broken_start, broken_words, broken_group, broken_in, broken_text, room_for};
 ghost use Rattle.std.specs.Option.{option_copied};
 
 use crate::marks::{Mark, place_of, x_of, y_of};
 use crate::row::Row;
 use crate::spelling::{put_mark, put_text_start};
-use crate::text::Text;
 use trace_props::{Event, Rule, Verdict};
+use vsync_text::Text;
 
 /// How the mark of a broken rule looks, and its words: in print and on a light ground, and on a dark one.
 pub const BROKEN_STYLE: &[u8] = b"<style>\

@@ -2,11 +2,11 @@
 
 ghost use Rattle.std.specs.Prelude.{◌≡◌, take};
 ghost use Rattle.std.specs.List.{list_all};
-ghost use Rattle.trace_drawing.specs.Written.{Appends};
+ghost use Rattle.vsync_text.specs.Written.{Appends};
 ghost use Rattle.trace_drawing.specs.Labels.{escaped_byte, escaped, is_printable, is_text, dots, label};
 ghost use Rattle.trace_drawing.specs.Promises.{is_plain};
 
-use crate::text::Text;
+use vsync_text::Text;
 
 /// The most letters that are shown of a payload that is text.
 pub const LETTERS: usize = 12;

@@ -16,7 +16,6 @@ mod picture;
 mod refusals;
 mod row;
 mod spelling;
-mod text;
 mod texts;
 mod ways;
 
@@ -29,4 +28,3 @@ pub use layout::{Layout, lay_out};
 pub use marks::{Mark, Place};
 pub use picture::draw;
 pub use row::{Line, MessageKey, Row};
-pub use text::Text;

@@ -2,7 +2,7 @@
 
 ghost use Rattle.std.specs.Prelude.{◌≡◌, ◌++◌, ◌+◌, List, codes, flat_map, option_to_list, false};
 ghost use Rattle.vsync_text.specs.PacketText.{kind_in};
-ghost use Rattle.trace_drawing.specs.Written.{Appends};
+ghost use Rattle.vsync_text.specs.Written.{Appends};
 ghost use Rattle.trace_drawing.specs.declared.aside.AsideRow.{AsideRow};
 ghost use Rattle.trace_drawing.specs.Spelling.{mark_text, start_behind};
 ghost use Rattle.trace_drawing.specs.Marks.{x_in, y_of};
@@ -11,9 +11,9 @@ ghost use Rattle.trace_drawing.specs.Packets.{bytes_numbered, packet_start, pack
 use crate::aside::AsideRow;
 use crate::marks::{Mark, Place, aside_place, x_in, y_of};
 use crate::spelling::{put_mark, put_over, put_some_mark, put_text_start};
-use crate::text::Text;
 use crate::ways::Ways;
 use address::Bytes;
+use vsync_text::Text;
 
 /// The bytes of the packet of a number, from 1; none where there is none.
 pub fn bytes_numbered(packets: &[Bytes], number: u64) -> &[u8]

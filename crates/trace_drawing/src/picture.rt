@@ -1,7 +1,7 @@
 //! The picture of a trace, as an SVG.
 
 ghost use Rattle.std.specs.Prelude.{◌≡◌, ◌++◌, length, flat_map, option_to_list, IfOk};
-ghost use Rattle.trace_drawing.specs.Written.{Appends};
+ghost use Rattle.vsync_text.specs.Written.{Appends};
 ghost use Rattle.trace_drawing.specs.Marks.{marks_of};
 ghost use Rattle.trace_drawing.specs.Spelling.{mark_text};
 ghost use Rattle.trace_drawing.specs.Picture.{colour_of, colour, group_start, event_start, event_group, event_groups, line_group, svg_start, head_text, picture_of};
@@ -17,11 +17,11 @@ use crate::marks::{
 };
 use crate::row::{Line, Row};
 use crate::spelling::{put_mark, put_number, put_over, put_some_mark};
-use crate::text::Text;
 use crate::texts::{put_line_title, put_name_above, put_row_number, put_texts};
 use address::Bytes;
 use std::alloc::{AllocError, Global};
 use trace_props::{Event, Verdict};
+use vsync_text::Text;
 
 /// How many colours members have. With more members they come again.
 pub const COLOURS: u32 = 12;

@@ -1,14 +1,14 @@
 //! The marks of what was refused.
 
 ghost use Rattle.std.specs.Prelude.{◌≡◌};
-ghost use Rattle.trace_drawing.specs.Written.{Appends};
+ghost use Rattle.vsync_text.specs.Written.{Appends};
 ghost use Rattle.trace_drawing.specs.Refused.{reason_of, refused_place, refused_title, refused_group};
 
 use crate::aside::AsideRow;
 use crate::marks::{x_in, y_of};
 use crate::spelling::put_number;
-use crate::text::Text;
 use address::limits::Refusal;
+use vsync_text::Text;
 
 // Why it was refused.
 fn reason_of(refusal: Refusal) -> &'static [u8]

@@ -2,12 +2,12 @@
 
 ghost use Rattle.std.specs.Prelude.{◌≡◌, ◌≤◌, ◌++◌, codes, length, drop, flat_map, option_to_list};
 ghost use Rattle.std.specs.Fmt.{decimal};
-ghost use Rattle.trace_drawing.specs.Written.{Appends};
+ghost use Rattle.vsync_text.specs.Written.{Appends};
 ghost use Rattle.trace_drawing.specs.Spelling.{point, path, bow, number_behind, start_behind, mark_text};
 
 use crate::marks::{Mark, Place};
-use crate::text::Text;
 use itoa::write_digits;
+use vsync_text::Text;
 
 /// Appends a number and what stands behind it. The digits are written over the end of the first 20 bytes, in front of what stands behind them, so that both are
 /// appended at once.

@@ -3,7 +3,7 @@
 ghost use Rattle.std.specs.Prelude.{◌≡◌, ◌+◌, codes};
 ghost use Rattle.std.specs.Option.{option_copied};
 ghost use Rattle.address.specs.Ids.{text_of_address, text_of_view_id};
-ghost use Rattle.trace_drawing.specs.Written.{Appends};
+ghost use Rattle.vsync_text.specs.Written.{Appends};
 ghost use Rattle.trace_drawing.specs.Labels.{label};
 ghost use Rattle.trace_drawing.specs.Marks.{x_of, y_of, place_of};
 ghost use Rattle.trace_drawing.specs.Spelling.{start_behind, text_behind, text_at};
@@ -13,9 +13,9 @@ use crate::labels::put_label;
 use crate::marks::{BLOCK, names_y, place_of, x_of, y_of};
 use crate::row::Row;
 use crate::spelling::{put_number, put_over, put_shape, put_text_start};
-use crate::text::Text;
 use address::{Address, Bytes, ViewId};
 use trace_props::{Event, Install, Numbered};
+use vsync_text::Text;
 
 // Appends an address.
 fn put_name(out: &mut Text, member: &Address)

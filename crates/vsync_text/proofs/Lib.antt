@@ -16,3 +16,4 @@ pub mod LinesBack
 pub mod TextsBack
 pub mod RunsBack
 pub mod AddressesDistinct
+pub mod TextsAppend

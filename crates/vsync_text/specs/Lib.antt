@@ -18,3 +18,4 @@ pub mod Traces
 pub mod Spellable
 pub mod Laws
 pub mod Pieces
+pub mod Written

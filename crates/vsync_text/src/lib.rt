@@ -23,6 +23,7 @@ mod run;
 mod script;
 mod script_line;
 mod spelling;
+mod text;
 mod trace_line;
 mod udp_script;
 
@@ -43,5 +44,6 @@ pub use run::{Printed, write_run};
 pub use script::{Script, read_script, read_script_by};
 pub use script_line::is_skipped;
 pub use spelling::{view_id_in, view_in};
+pub use text::Text;
 pub use trace_line::{append_event, append_refusal};
 pub use udp_script::{ROUNDS, UdpEvent, UdpLine, read_udp_script};

@@ -1,6 +1,6 @@
 use Rattle.std.proofs.Common.{refl}
 use Rattle.trace_drawing.specs.Asides.{aside_group}
-use Rattle.trace_drawing.proofs.TextsAppend.{appends-at}
+use Rattle.vsync_text.proofs.TextsAppend.{appends-at}
 use Rattle.trace_drawing.proofs.asides.put_aside_groups.Goals as goal
 
 -- one aside more

@@ -1,6 +1,6 @@
 use Rattle.std.proofs.Common.{take}
 use Rattle.std.specs.Prelude.{flat_map}
-use Rattle.trace_drawing.specs.Written.{Appends}
+use Rattle.vsync_text.specs.Written.{Appends}
 use Rattle.trace_drawing.specs.Packets.{row_in, KnowsWays}
 use Rattle.trace_drawing.specs.Asides.{aside_group}
 use Rattle.trace_drawing.proofs.asides.put_aside_groups.Given as goal

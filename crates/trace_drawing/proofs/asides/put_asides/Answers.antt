@@ -1,5 +1,6 @@
 use Rattle.std.proofs.Common.{◌∙◌, sym}
-use Rattle.trace_drawing.proofs.TextsAppend.{appends-two, asides-all, same-text}
+use Rattle.vsync_text.proofs.TextsAppend.{appends-two, same-text}
+use Rattle.trace_drawing.proofs.TextsDrawn.{asides-all}
 use Rattle.trace_drawing.proofs.asides.put_asides.Goals as goal
 
 -- the style and the groups

@@ -1,7 +1,7 @@
 use Rattle.std.proofs.Common.{ap}
 use Rattle.trace_drawing.specs.declared.marks.Mark.TheVariants as marks
 use Rattle.trace_drawing.specs.Spelling.{mark_text}
-use Rattle.trace_drawing.proofs.TextsAppend.{appends-four, same-text}
+use Rattle.vsync_text.proofs.TextsAppend.{appends-four, same-text}
 use Rattle.trace_drawing.proofs.broken.put_broken_group.Goals as goal
 
 -- the title, the mark, the words and the end

@@ -1,6 +1,6 @@
 use Rattle.std.proofs.Common.{◌∙◌, sym}
 use Rattle.trace_drawing.proofs.LawOfTexts.{escaped-plain}
-use Rattle.trace_drawing.proofs.TextsAppend.{same-text}
+use Rattle.vsync_text.proofs.TextsAppend.{same-text}
 use Rattle.trace_drawing.proofs.labels.put_text.Goals as goal
 
 -- no byte is to be escaped

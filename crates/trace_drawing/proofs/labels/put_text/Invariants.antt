@@ -1,5 +1,5 @@
 use Rattle.std.proofs.Common.{take}
-use Rattle.trace_drawing.specs.Written.{Appends}
+use Rattle.vsync_text.specs.Written.{Appends}
 use Rattle.trace_drawing.specs.Labels.{escaped}
 use Rattle.trace_drawing.proofs.labels.put_text.Given as goal
 

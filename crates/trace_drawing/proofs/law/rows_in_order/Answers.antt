@@ -1,4 +1,4 @@
-use Rattle.trace_drawing.proofs.TextsAppend.{rows-length}
+use Rattle.trace_drawing.proofs.TextsDrawn.{rows-length}
 use Rattle.trace_drawing.proofs.LawOfRows.{row-each, level-each, level-order}
 use Rattle.trace_drawing.proofs.law.rows_in_order.Goals as goal
 

@@ -1,7 +1,7 @@
 use Rattle.std.proofs.Common.{ap}
 use Rattle.std.specs.Prelude.{flat_map, option_to_list}
 use Rattle.trace_drawing.specs.Spelling.{mark_text}
-use Rattle.trace_drawing.proofs.TextsAppend.{appends-four, same-text}
+use Rattle.vsync_text.proofs.TextsAppend.{appends-four, same-text}
 use Rattle.trace_drawing.proofs.packets.put_handed_group.Goals as goal
 
 -- the title, the way, the number and the end

@@ -1,6 +1,6 @@
 use Rattle.std.proofs.Common.{◌++◌, ◌∷◌, [], ap, sym, codes, append_assoc}
 use Rattle.std.specs.Fmt.{decimal}
-use Rattle.trace_drawing.proofs.TextsAppend.{appends-two, same-text}
+use Rattle.vsync_text.proofs.TextsAppend.{appends-two, same-text}
 use Rattle.trace_drawing.proofs.packets.put_handed_start.Goals as goal
 
 -- the script's line between its marks

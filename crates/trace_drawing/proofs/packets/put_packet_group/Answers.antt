@@ -4,7 +4,7 @@ use Rattle.trace_drawing.specs.declared.marks.Mark.TheVariants as marks
 use Rattle.trace_drawing.specs.Spelling.{mark_text}
 use Rattle.trace_drawing.specs.Marks.{aside_place}
 use Rattle.trace_drawing.specs.Packets.{packet_name}
-use Rattle.trace_drawing.proofs.TextsAppend.{appends-four, same-text}
+use Rattle.vsync_text.proofs.TextsAppend.{appends-four, same-text}
 use Rattle.trace_drawing.proofs.packets.put_packet_group.Goals as goal
 
 -- the title, the marks, the name and the end

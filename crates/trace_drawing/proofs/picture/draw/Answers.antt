@@ -1,6 +1,6 @@
 use Rattle.std.proofs.Common.{◌∙◌, sym, ap, length}
 use Rattle.trace_drawing.specs.Layout.{level_of}
-use Rattle.trace_drawing.proofs.TextsAppend.{rows-length}
+use Rattle.trace_drawing.proofs.TextsDrawn.{rows-length}
 use Rattle.trace_drawing.proofs.picture.draw.Goals as goal
 
 -- there is a row for each event

@@ -1,6 +1,6 @@
 use Rattle.std.proofs.Common.{ap}
 use Rattle.trace_drawing.specs.Picture.{group_start, name_text}
-use Rattle.trace_drawing.proofs.TextsAppend.{appends-three, same-text}
+use Rattle.vsync_text.proofs.TextsAppend.{appends-three, same-text}
 use Rattle.trace_drawing.proofs.picture.put_event_start.Goals as goal
 
 -- the title, the name and the number

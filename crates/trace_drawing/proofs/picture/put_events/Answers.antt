@@ -1,5 +1,5 @@
 use Rattle.std.proofs.Common.{None, false, refl, arith}
-use Rattle.trace_drawing.proofs.TextsAppend.{groups-next}
+use Rattle.trace_drawing.proofs.TextsDrawn.{groups-next}
 use Rattle.trace_drawing.proofs.picture.put_events.Goals as goal
 
 -- one event more

@@ -2,7 +2,7 @@ use Rattle.std.proofs.Common.{◌∙◌, ◌++◌, ap}
 use Rattle.std.specs.Prelude.{flat_map, option_to_list}
 use Rattle.trace_drawing.specs.Spelling.{mark_text}
 use Rattle.trace_drawing.specs.Marks.{line_mark}
-use Rattle.trace_drawing.proofs.TextsAppend.{appends-three, same-text}
+use Rattle.vsync_text.proofs.TextsAppend.{appends-three, same-text}
 use Rattle.trace_drawing.proofs.picture.put_line.Goals as goal
 
 -- the title, the marks and the end

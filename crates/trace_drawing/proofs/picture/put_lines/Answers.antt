@@ -1,5 +1,5 @@
 use Rattle.trace_drawing.specs.Picture.{line_group}
-use Rattle.trace_drawing.proofs.TextsAppend.{appends-next}
+use Rattle.vsync_text.proofs.TextsAppend.{appends-next}
 use Rattle.trace_drawing.proofs.picture.put_lines.Goals as goal
 
 -- one line more

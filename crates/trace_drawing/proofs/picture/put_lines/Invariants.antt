@@ -1,6 +1,6 @@
 use Rattle.std.proofs.Common.{take}
 use Rattle.std.specs.Prelude.{flat_map}
-use Rattle.trace_drawing.specs.Written.{Appends}
+use Rattle.vsync_text.specs.Written.{Appends}
 use Rattle.trace_drawing.specs.Picture.{line_group}
 use Rattle.trace_drawing.proofs.picture.put_lines.Given as goal
 

@@ -1,4 +1,4 @@
-use Rattle.trace_drawing.proofs.TextsAppend.{appends-three}
+use Rattle.vsync_text.proofs.TextsAppend.{appends-three}
 use Rattle.trace_drawing.proofs.picture.put_svg_start.Goals as goal
 
 -- the width, the height and the end of the mark

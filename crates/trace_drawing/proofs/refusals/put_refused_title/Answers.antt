@@ -1,6 +1,6 @@
 use Rattle.std.proofs.Common.{ap}
 use Rattle.vsync_text.specs.Runs.{refusal_line}
-use Rattle.trace_drawing.proofs.TextsAppend.{appends-three, same-text}
+use Rattle.vsync_text.proofs.TextsAppend.{appends-three, same-text}
 use Rattle.trace_drawing.proofs.refusals.put_refused_title.Goals as goal
 
 -- the line that `world` prints, between its marks, and the ring

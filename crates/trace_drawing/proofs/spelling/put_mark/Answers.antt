@@ -1,6 +1,6 @@
 use Rattle.std.proofs.Common.{◌∙◌, ap, sym, codes, append_assoc}
 use Rattle.trace_drawing.specs.Spelling.{point, mark_text}
-use Rattle.trace_drawing.proofs.TextsAppend.{same-text}
+use Rattle.vsync_text.proofs.TextsAppend.{same-text}
 use Rattle.trace_drawing.proofs.spelling.put_mark.Goals as goal
 
 -- the frame around an event

@@ -1,7 +1,7 @@
 use Rattle.std.proofs.Common.{◌∙◌, ◌+◌, ◌++◌, sym, ap, codes}
 use Rattle.trace_drawing.specs.Marks.{x_of}
 use Rattle.trace_drawing.specs.Spelling.{start_behind}
-use Rattle.trace_drawing.proofs.TextsAppend.{back-drawn}
+use Rattle.trace_drawing.proofs.TextsDrawn.{back-drawn}
 use Rattle.trace_drawing.proofs.texts.put_back.Goals as goal
 
 -- the place, and how many

@@ -3,7 +3,7 @@ use Rattle.address.specs.Ids.{text_of_view_id}
 use Rattle.trace_drawing.specs.Marks.{x_of, y_of, place_of}
 use Rattle.trace_drawing.specs.Spelling.{text_at}
 use Rattle.trace_drawing.specs.Picture.{given_text, back_text}
-use Rattle.trace_drawing.proofs.TextsAppend.{appends-three, same-text}
+use Rattle.vsync_text.proofs.TextsAppend.{appends-three, same-text}
 use Rattle.trace_drawing.proofs.texts.put_install.Goals as goal
 
 -- the view's id, whether a state is given, and how many messages are handed back

@@ -7,16 +7,16 @@ ghost use Rattle.vsync_text.specs.TraceText.{hex_of, line_of};
 ghost use Rattle.vsync_text.specs.Runs.{refusal_line};
 ghost use Rattle.vsync_text.specs.PacketText.{kind_in, packet_line};
 ghost use Rattle.vsync_text.specs.Parts.{text_of_part};
-ghost use Rattle.trace_drawing.specs.Written.{Appends};
+ghost use Rattle.vsync_text.specs.Written.{Appends};
 
+use crate::{
+    Part, append_event, append_packet, append_refusal, put, put_address, put_decimal, put_hex,
+    put_parts,
+};
 use address::Address;
 use std::alloc::{AllocError, Global};
 use std::marker::Model;
 use trace_props::Event;
-use vsync_text::{
-    Part, append_event, append_packet, append_refusal, put, put_address, put_decimal, put_hex,
-    put_parts,
-};
 
 /// A text that is written part by part. It notes whether memory was refused to one of them, which is asked once, at its end. Contracts see its bytes, and whether that was.
 #[derive(Drop)]
@@ -26,7 +26,7 @@ pub struct Text {
 }
 
 impl Model for Text {
-    ghost use Rattle.trace_drawing.specs.Written.{TextModel};
+    ghost use Rattle.vsync_text.specs.Written.{TextModel};
 
     ghost Value = { TextModel };
 
