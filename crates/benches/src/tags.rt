@@ -2,7 +2,7 @@
 
 use crate::carrier::KEY;
 use crate::race::now;
-use hmac::Key;
+use frames::Key;
 use std::io;
 
 // So many tags of messages of a length; the nanoseconds.

@@ -1,6 +1,6 @@
 //! The vectors of RFC 4231.
 
-use hmac::Key;
+use frames::Key;
 use std::alloc::AllocGlobal;
 use std::process::Abort;
 

@@ -1,3 +1,4 @@
+pub mod Blocks
 pub mod AllPieces
 pub mod GatheredSends
 pub mod KeepsCame

@@ -4,7 +4,7 @@ use Rattle.std.specs.List.{AllByRecursion}
 use Rattle.std.proofs.Math.Seq.{drop-append_seam, take-append_seam}
 use Rattle.std.proofs.lemmas.List.{take-append-drop, length-append, length-drop, length-take}
 use Rattle.sha2.proofs.Facts256.{length-sha256}
-use Rattle.hmac.specs.Hmac.{hmac_sha256, inner_pad, outer_pad}
+use Rattle.frames.specs.Hmac.{hmac_sha256, inner_pad, outer_pad}
 use Rattle.sha2.specs.Sha256.{sha256}
 use Rattle.frames.specs.declared.head.Head.{Head}
 use Rattle.frames.specs.Frames.{packed, packed_behind, shared_front, IsShort, sealed, tag_of, head_bytes}

@@ -2,7 +2,7 @@
 use Rattle.std.specs.Prelude.{◌≡◌, ◌≤◌, ◌<◌, ◌-◌, ◌^◌, ℕ, zero, suc, List, [], ◌∷◌, ◌++◌, length, take, drop, get_or, nat_eq, if◌then◌else◌}
 use Rattle.std.specs.List.{AllByRecursion}
 use Rattle.byteorder.specs.Endian.{big_bytes, big_number}
-use Rattle.hmac.specs.Hmac.{hmac_sha256}
+use Rattle.frames.specs.Hmac.{hmac_sha256}
 use Rattle.frames.specs.declared.head.Kind.{Kind}
 use Rattle.frames.specs.declared.head.Kind.TheVariants.{Packets, Piece, Several}
 use Rattle.frames.specs.declared.head.Head.{Head}

@@ -1,3 +1,4 @@
+pub mod Hmac
 pub mod Frames
 pub mod Parts
 pub mod Rows

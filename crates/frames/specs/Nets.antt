@@ -2,7 +2,7 @@
 use Rattle.std.specs.Prelude.{◌≡◌, ⊤, ℕ, List, [], length, take, Option, None, Some, ◌⊎◌}
 use Rattle.udp_net.specs.Logs.{Log, NetEvent, Answered, Offered}
 use Rattle.std.specs.List.{AllByRecursion}
-use Rattle.hmac.specs.Hmac.{block_key}
+use Rattle.frames.specs.Hmac.{block_key}
 use Rattle.frames.specs.declared.outlet.Seal.{Seal}
 use Rattle.frames.specs.Outlets.{OutletModel}
 use Rattle.frames.specs.Arrivals.{Arrived, GivenIn, StandsIn}

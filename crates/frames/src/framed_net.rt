@@ -12,13 +12,13 @@ ghost use Rattle.udp_net.specs.Logs.{failures_after, offering, Lists};
 
 use crate::content::shared_front;
 use crate::head::put_head;
+use crate::hmac::Key;
 use crate::opener::Opener;
 use crate::outlet::{Outlet, Seal};
 use crate::seal::seal;
 use crate::several::{Variant, put_several};
 use crate::{BOOT, CONTENT, FRAME, MOST_ROWS, OPENED, ROW};
 use address::Node;
-use hmac::Key;
 use std::alloc::{AllocError, Global};
 use std::marker::Model;
 use std::time::Duration;

@@ -4,6 +4,7 @@
 mod content;
 mod framed_net;
 mod head;
+mod hmac;
 mod law;
 mod longs;
 mod opener;
@@ -16,6 +17,7 @@ mod several;
 mod window;
 
 pub use framed_net::FramedNet;
+pub use hmac::Key;
 pub use law::lives_are_of_frames;
 
 /// The fewest bytes of a group's key: as many as a tag has.

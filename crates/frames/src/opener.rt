@@ -13,13 +13,13 @@ ghost use Rattle.frames.specs.declared.head.Kind.TheVariants.{Piece, Several};
 use crate::BOOT;
 use crate::content::read_packets;
 use crate::head::{Head, Kind};
+use crate::hmac::Key;
 use crate::partial::{Partials, piece_of};
 use crate::peers::Peers;
 use crate::row::Row;
 use crate::seal::open;
 use crate::several::part_of;
 use address::Node;
-use hmac::Key;
 use std::alloc::{AllocError, Global};
 
 /// The frames that came for a node: who sent them, the long packets of which some pieces came, and the packets that were opened and not given yet.

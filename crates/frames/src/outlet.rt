@@ -16,6 +16,7 @@ ghost use Rattle.frames.specs.Outlets.{counter_behind, head_for, has_place, flus
 
 use crate::content::{put_packet, shared_front};
 use crate::head::{Head, Kind, put_head};
+use crate::hmac::Key;
 use crate::longs::Longs;
 use crate::partial::put_piece;
 use crate::row::Row;
@@ -25,7 +26,6 @@ use crate::{BOOT, CONTENT, FRAME, PIECE, WHOLE};
 use address::Node;
 use address::limits::DATAGRAM;
 use big_endian::put;
-use hmac::Key;
 use std::alloc::{AllocError, Global};
 use std::marker::Model;
 use udp_net::Net;

@@ -5,8 +5,8 @@ ghost use Rattle.frames.specs.Frames.{sealed, IsHeadOf, IsSealed};
 
 use crate::TAG;
 use crate::head::{Head, head_of};
+use crate::hmac::Key;
 use big_endian::put;
-use hmac::Key;
 
 // Puts the tag of a body behind it.
 pub(crate) fn seal(key: &Key, body: &mut Vec<u8>)

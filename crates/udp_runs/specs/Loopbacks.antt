@@ -1,7 +1,7 @@
 -- What is known of a machine with sockets.
 use Rattle.std.specs.Prelude.{◌≡◌, ℕ, ℤ, Bool, true, false, List, Option, None, Some}
 use Rattle.std.specs.Option.{ForSome}
-use Rattle.hmac.specs.Hmac.{block_key}
+use Rattle.frames.specs.Hmac.{block_key}
 use Rattle.udp_net.specs.declared.sieved_net.SievedNet.{SievedNet}
 use Rattle.udp_net.specs.declared.socket_net.SocketNet.{SocketNet}
 use Rattle.udp_net.specs.declared.error.BindError.{BindError}

@@ -1,6 +1,6 @@
 use Rattle.std.proofs.Common.{◌≡◌, take, drop, ◌++◌}
-use Rattle.hmac.specs.Hmac.{xor_all}
-use Rattle.hmac.proofs.xor_each.Given as goal
+use Rattle.frames.specs.Hmac.{xor_all}
+use Rattle.frames.proofs.hmac.xor_each.Given as goal
 
 -- those so far are combined, and the rest are as they were
 abbrev pub invariant-loop-place : goal.invariant-loop-place

@@ -1,10 +1,9 @@
 //! HMAC-SHA-256 (RFC 2104, FIPS 198-1): a tag of a message, which only whoever has the key can make.
-#![tactic(auto)]
 
 ghost use Rattle.std.specs.Prelude.{◌≡◌, ◌↔◌, ◌≤◌, ◌++◌, ℕ, List, IsTrue, length, take, drop, bit_xor};
 ghost use Rattle.sha2.specs.Sha256.{sha256};
 ghost use Rattle.sha2.specs.Hashers.{Holds256};
-ghost use Rattle.hmac.specs.Hmac.{block_key, xor_all, hmac_sha256};
+ghost use Rattle.frames.specs.Hmac.{block_key, xor_all, hmac_sha256};
 
 use sha2::{Digest, Sha256};
 use std::marker::Model;
@@ -31,7 +30,7 @@ pub struct Key {
 impl Model for Key {
     ghost use Rattle.std.specs.Prelude.{List, ℕ};
     ghost use Rattle.sha2.specs.Hashers.{Holds256};
-    ghost use Rattle.hmac.specs.Hmac.{inner_pad, outer_pad};
+    ghost use Rattle.frames.specs.Hmac.{inner_pad, outer_pad};
 
     ghost Value = { List ℕ };
 

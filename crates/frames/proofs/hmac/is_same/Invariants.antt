@@ -1,5 +1,5 @@
 use Rattle.std.proofs.Common.{◌≡◌, ◌↔◌, ◌≤◌, take}
-use Rattle.hmac.proofs.is_same.Given as goal
+use Rattle.frames.proofs.hmac.is_same.Given as goal
 
 -- none differs so far exactly where the texts agree so far
 abbrev pub invariant-loop-i : goal.invariant-loop-i

@@ -4,7 +4,7 @@ use Rattle.std.proofs.lemmas.List.{drop-replicate}
 use Rattle.std.proofs.lemmas.Bool.Decides.{nat_tests}
 use Rattle.sha2.specs.Sha256.{sha256}
 use Rattle.sha2.proofs.Facts256.{length-sha256}
-use Rattle.hmac.specs.Hmac.{block_key}
+use Rattle.frames.specs.Hmac.{block_key}
 
 pub short-block : (key block : List ℕ) → length key ≤ 64 → block ≡ key ++ drop (length key) (replicate 64 0) → block ≡ block_key key
 short-block key block h e =
