@@ -44,6 +44,30 @@ impl Text {
         }
     }
 
+    /// A whole text of these bytes. Takes no memory.
+    pub fn from_vec(bytes: Vec<u8>) -> Text
+        ensures { result ≡ record { items = bytes.items; is_short = false } }
+    {
+        Text {
+            bytes,
+            is_short: false,
+        }
+    }
+
+    /// Its bytes, without those to which memory was refused.
+    pub fn as_slice(&self) -> &[u8]
+        ensures { result.now ≡ self.now.items }
+    {
+        self.bytes.as_slice()
+    }
+
+    /// Whether memory was refused to a part.
+    pub fn is_short(&self) -> bool
+        ensures { result ≡ self.now.is_short }
+    {
+        self.is_short
+    }
+
     /// It lacks a part, as if memory were refused to it.
     pub fn refuse(&mut self)
         ensures { self.new ≡ record self.old { is_short = true } }
