@@ -1,5 +1,5 @@
 -- What is answered: by what became of a request, at its place in the order.
-use Rattle.std.specs.Prelude.{◌≡◌, ◌⊎◌, ◌++◌, ◌∷◌, [], ℕ, List, Option, None, Some}
+use Rattle.std.specs.Prelude.{◌≡◌, ◌⊎◌, ◌++◌, ◌∷◌, [], ℕ, false, List, Option, None, Some}
 use Rattle.std.specs.Option.{IsSomeAnd}
 use Rattle.address.specs.Ids.{ViewId}
 use Rattle.keyed_state.specs.declared.token.Token.{Token}
@@ -16,18 +16,18 @@ use Rattle.lock_service.specs.declared.answer.Fate.TheVariants as lock_fate
 use Rattle.http_desk.specs.declared.reply.Reply.{Reply}
 use Rattle.http_desk.specs.declared.known.Known.{Known}
 
--- an answer of this status with this body
+-- an answer of this status with this body, unless memory was refused to it
 pub record Says (code : ℕ) (content : List ℕ) (r : Reply) : Type 0 where
   pub status : r.status ≡ code
-  pub body : r.body.items ≡ content
+  pub body : r.body.is_short ≡ false → r.body.items ≡ content
 
 -- a token in quotes, such as "3@1.1/2"
 abbrev pub quoted_token : Token → List ℕ
 quoted_token t = 34 ∷ text_of_token t ++ 34 ∷ []
 
--- its entity tag is a version
+-- its entity tag is a version, unless memory was refused to it
 abbrev pub IsTagged : Token → Reply → Type 0
-IsTagged version r = IsSomeAnd r.tag (λ tag. tag.items ≡ quoted_token version)
+IsTagged version r = IsSomeAnd r.tag (λ tag. tag.is_short ≡ false → tag.items ≡ quoted_token version)
 
 -- ---- the map
 

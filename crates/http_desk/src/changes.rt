@@ -3,6 +3,7 @@
 use crate::CHANGES;
 use crate::history::{Tag, put_tag};
 use std::alloc::{AllocError, Global};
+use vsync_text::Text;
 
 // A change: the place behind which it stands, and its key.
 #[derive(Drop)]
@@ -81,8 +82,9 @@ impl Changes {
 
     // Whether a text names a place, with or without quotes.
     fn names(&self, tag: &Tag, text: &[u8]) -> Result<bool, AllocError> {
-        let mut quoted = Vec::new(self.alloc);
-        put_tag(&mut quoted, tag)?;
+        let mut quoted = Text::new(self.alloc);
+        put_tag(&mut quoted, tag);
+        let quoted = quoted.whole()?;
         let quoted = quoted.as_slice();
         let bare = match quoted {
             [b'"', bare @ .., b'"'] => bare,

@@ -14,7 +14,7 @@ use keyed_state::Token;
 use replicated_map::{Command, ReplicatedMap};
 use std::alloc::{AllocError, Global};
 use std::time::Duration;
-use trace_props::{Delivery, Event};
+use trace_props::{Delivery, Event, Sending};
 
 /// The answer of a ticket, perhaps only once all members have delivered what stands up to a place.
 #[derive(Drop)]
@@ -43,6 +43,8 @@ pub(crate) struct Desk {
     pub(crate) replies: Vec<Answer>,
     tickets: u64,
     pub(crate) has_ended: bool,
+    // Whether memory was refused to what it keeps.
+    is_short: bool,
     pub(crate) now: Duration,
 }
 
@@ -62,6 +64,7 @@ impl Drop for Desk {
             replies: _,
             tickets: _,
             has_ended: _,
+            is_short: _,
             now: _,
         } = self;
     }
@@ -105,8 +108,24 @@ impl Desk {
             replies: Vec::new(alloc),
             tickets: 0,
             has_ended: false,
+            is_short: false,
             now: Duration::ZERO,
         })
+    }
+
+    /// Notes whether memory was refused to what it keeps: it lacks something from then on, which `tell` says.
+    pub(crate) fn note(&mut self, kept: Result<(), AllocError>) {
+        if kept.is_err() {
+            self.is_short = true;
+        }
+    }
+
+    /// Appends the lines that the node is to send next, each with a line feed; an error if memory was refused to them, or to something before.
+    pub(crate) fn tell(&mut self, text: &mut Vec<u8>) -> Result<(), AllocError> {
+        if self.is_short {
+            return Err(AllocError);
+        }
+        self.writes.tell(text)
     }
 
     // What a message may change in the map.
@@ -129,61 +148,94 @@ impl Desk {
         Ok(Touched::Key(Vec::from_slice(self.alloc, key)?, before))
     }
 
-    // Notes what a message changed in the map.
-    fn note_change(&mut self, touched: Touched) -> Result<(), AllocError> {
-        let Some(at) = self.counts.at() else {
-            return Ok(());
+    // What an event may change in the map.
+    fn touched_by(&mut self, event: &Event) -> Touched {
+        let Event::Delivered(delivery) = event else {
+            return Touched::Nothing;
         };
+        match self.touched(delivery) {
+            Ok(touched) => touched,
+            Err(error) => {
+                self.note(Err(error));
+                Touched::Nothing
+            }
+        }
+    }
+
+    // Notes that a key changed, if its version is another one.
+    fn note_key(&mut self, at: Tag, key: Vec<u8>, before: Option<Token>) {
         let Kept::Map(service) = &self.kept else {
-            return Ok(());
+            return;
+        };
+        if version_of(service.copy(), key.as_slice()) != before {
+            let noted = self.changes.note(at, key);
+            self.note(noted);
+        }
+    }
+
+    // Notes what a message changed in the map.
+    fn note_change(&mut self, touched: Touched) {
+        let Some(at) = self.counts.at() else {
+            return;
         };
         match touched {
             Touched::Nothing => (),
-            Touched::Key(key, before) => {
-                if version_of(service.copy(), key.as_slice()) != before {
-                    self.changes.note(at, key)?;
-                }
-            }
+            Touched::Key(key, before) => self.note_key(at, key, before),
             Touched::All => self.changes.begin(at),
         }
-        Ok(())
+    }
+
+    // What its member did goes into all that is kept of it.
+    fn follow(&mut self, event: &Event) -> Result<(), AllocError> {
+        self.history.hear(event)?;
+        self.counts.hear(event, self.now)?;
+        self.kept.hear(event)
+    }
+
+    // With a state all may have changed, and with the first view.
+    fn begin_changes(&mut self, event: &Event) {
+        let Event::Installed(install) = event else {
+            return;
+        };
+        if install.get().given.is_some() || self.changes.last().is_none() {
+            if let Some(at) = self.counts.at() {
+                self.changes.begin(at);
+            }
+        }
     }
 
     // What its member does next.
-    fn hear_own(&mut self, event: &Event) -> Result<(), AllocError> {
-        let touched = match event {
-            Event::Delivered(delivery) => self.touched(delivery)?,
-            _ => Touched::Nothing,
-        };
-        self.history.hear(event)?;
-        self.counts.hear(event, self.now)?;
-        self.kept.hear(event)?;
-        if let Event::Installed(install) = event {
-            let is_given = install.get().given.is_some();
-            if is_given || self.changes.last().is_none() {
-                if let Some(at) = self.counts.at() {
-                    self.changes.begin(at);
-                }
-            }
+    fn hear_own(&mut self, event: &Event) {
+        let touched = self.touched_by(event);
+        let followed = self.follow(event);
+        self.note(followed);
+        self.begin_changes(event);
+        self.note_change(touched);
+    }
+
+    // A message was sent: if a write says it, its ticket waits for what becomes of it.
+    fn hear_sent(&mut self, sending: &Sending) -> Result<(), AllocError> {
+        let said = self
+            .kept
+            .said(self.alloc, sending.message.payload.as_slice())?;
+        match self.writes.sent(said.as_slice())? {
+            Some(ticket) => self.kept.note(sending.message.number, ticket),
+            None => Ok(()),
         }
-        self.note_change(touched)
     }
 
     /// What happened next at the node. It may begin again with another member.
-    pub(crate) fn hear(&mut self, event: &Event) -> Result<(), AllocError> {
+    pub(crate) fn hear(&mut self, event: &Event) {
         let member = member_of(event);
         if member != self.own {
-            self.begin_again(member)?;
+            let begun = self.begin_again(member);
+            self.note(begun);
         }
         if let Event::Sent(sending) = event {
-            let said = self
-                .kept
-                .said(self.alloc, sending.message.payload.as_slice())?;
-            if let Some(ticket) = self.writes.sent(said.as_slice())? {
-                self.kept.note(sending.message.number, ticket)?;
-            }
+            let heard = self.hear_sent(sending);
+            self.note(heard);
         }
-        self.hear_own(event)
+        self.hear_own(event);
     }
 
     // Another member of its node is there now.
@@ -196,10 +248,10 @@ impl Desk {
     }
 
     /// The member has ended: all who wait are answered 503, and so is each write from now on.
-    pub(crate) fn end(&mut self) -> Result<(), AllocError> {
+    pub(crate) fn end(&mut self) {
         self.has_ended = true;
-        let tickets = self.writes.give_up(self.alloc)?;
-        self.refuse_all(tickets.as_slice())
+        let tickets = self.writes.give_up(self.alloc);
+        self.refuse_all(tickets);
     }
 
     /// Whether there is something to do at once: a line to send, or an answer to give.
@@ -208,54 +260,46 @@ impl Desk {
     }
 
     // The answer of a ticket is there.
-    fn answer(&mut self, ticket: u64, reply: Reply, at: Option<Tag>) -> Result<(), AllocError> {
-        self.replies.push(Answer { ticket, reply, at })?;
-        Ok(())
-    }
-
-    fn refuse(&mut self, ticket: u64) -> Result<(), AllocError> {
-        self.answer(
-            ticket,
-            Reply::plain(self.alloc, StatusCode::SERVICE_UNAVAILABLE)?,
-            None,
-        )
-    }
-
-    fn refuse_all(&mut self, tickets: &[u64]) -> Result<(), AllocError> {
-        for ticket in tickets {
-            self.refuse(*ticket)?;
+    fn answer(&mut self, ticket: u64, reply: Reply, at: Option<Tag>) {
+        if self.replies.push(Answer { ticket, reply, at }).is_err() {
+            self.is_short = true;
         }
-        Ok(())
+    }
+
+    fn refuse(&mut self, ticket: u64) {
+        let reply = Reply::plain(self.alloc, StatusCode::SERVICE_UNAVAILABLE);
+        self.answer(ticket, reply, None);
+    }
+
+    fn refuse_all(&mut self, tickets: Result<Vec<u64>, AllocError>) {
+        match tickets {
+            Ok(tickets) => {
+                for ticket in tickets.iter() {
+                    self.refuse(*ticket);
+                }
+            }
+            Err(error) => self.note(Err(error)),
+        }
     }
 
     // A write came back with its view: it is sent again, once, at this index among those that are to be sent. Answers whether it is.
-    fn take_back(
-        &mut self,
-        write: Option<Write>,
-        ticket: u64,
-        index: usize,
-    ) -> Result<bool, AllocError> {
+    fn take_back(&mut self, write: Option<Write>, ticket: u64, index: usize) -> bool {
         match write {
             Some(write) if !write.is_again => {
-                self.writes.send_again(write, index, self.says_again)?;
-                Ok(true)
+                let sent = self.writes.send_again(write, index, self.says_again);
+                self.note(sent);
+                true
             }
             _ => {
-                self.refuse(ticket)?;
-                Ok(false)
+                self.refuse(ticket);
+                false
             }
         }
     }
 
     // What a write came to is known, at a place: it is answered at once, or once all members have delivered it.
-    fn settle_at(
-        &mut self,
-        ticket: u64,
-        at: Tag,
-        reply: Reply,
-        write: &Option<Write>,
-    ) -> Result<(), AllocError> {
-        let reply = reply.at(self.alloc, &at)?;
+    fn settle_at(&mut self, ticket: u64, at: Tag, reply: Reply, write: &Option<Write>) {
+        let reply = reply.at(self.alloc, &at);
         let is_done = reply.status == StatusCode::OK;
         match write {
             Some(write) if is_done && write.is_stable => self.answer(ticket, reply, Some(at)),
@@ -264,7 +308,7 @@ impl Desk {
     }
 
     // What became of a write is known. Answers whether it is sent again, at this index.
-    fn settle(&mut self, known: Known, index: usize) -> Result<bool, AllocError> {
+    fn settle(&mut self, known: Known, index: usize) -> bool {
         let Known { ticket, at, reply } = known;
         let write = self.writes.settle(ticket);
         let Some(reply) = reply else {
@@ -272,25 +316,31 @@ impl Desk {
         };
         self.counts.write();
         match at {
-            Some((view, place)) => {
-                self.settle_at(ticket, Tag { view, place }, reply, &write)?;
-            }
-            None => self.answer(ticket, reply, None)?,
+            Some((view, place)) => self.settle_at(ticket, Tag { view, place }, reply, &write),
+            None => self.answer(ticket, reply, None),
         }
-        Ok(false)
+        false
     }
 
-    /// What became of all writes so far.
-    pub(crate) fn settle_all(&mut self) -> Result<(), AllocError> {
+    // What became of the writes of which something is known.
+    fn settle_known(&mut self, known: Vec<Known>) {
         let mut again = 0usize;
-        for known in self.kept.take(self.alloc)? {
-            if self.settle(known, again)? {
+        for known in known {
+            if self.settle(known, again) {
                 again = again.saturating_add(1);
             }
         }
+    }
+
+    /// What became of all writes so far.
+    pub(crate) fn settle_all(&mut self) {
+        match self.kept.take(self.alloc) {
+            Ok(known) => self.settle_known(known),
+            Err(error) => self.note(Err(error)),
+        }
         let before = self.now.saturating_sub(Duration::from_secs(PATIENCE));
-        let tickets = self.writes.expire(self.alloc, before)?;
-        self.refuse_all(tickets.as_slice())
+        let tickets = self.writes.expire(self.alloc, before);
+        self.refuse_all(tickets);
     }
 
     /// How its node stands.
@@ -316,16 +366,20 @@ impl Desk {
         }
     }
 
+    // A write is asked for.
+    fn ask(&mut self, ticket: u64, order: &Order) -> Result<(), AllocError> {
+        self.writes
+            .ask(Write::new(self.alloc, ticket, order, self.now)?)
+    }
+
     /// A write is to be sent; answers its ticket.
-    pub(crate) fn write(&mut self, order: &Order) -> Result<u64, AllocError> {
+    pub(crate) fn write(&mut self, order: &Order) -> u64 {
         self.tickets = self.tickets.wrapping_add(1);
         let ticket = self.tickets;
-        if self.has_ended || self.writes.len() >= CLIENTS {
-            self.refuse(ticket)?;
-            return Ok(ticket);
+        let is_full = self.has_ended || self.writes.len() >= CLIENTS;
+        if is_full || self.ask(ticket, order).is_err() {
+            self.refuse(ticket);
         }
-        self.writes
-            .ask(Write::new(self.alloc, ticket, order, self.now)?)?;
-        Ok(ticket)
+        ticket
     }
 }

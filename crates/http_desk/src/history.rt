@@ -5,7 +5,7 @@ use address::{Address, Bytes, ViewId};
 use std::alloc::{AllocError, Global};
 use trace_props::{BoxedInstall, Delivery, Event, HandedBack, Install, Message, Numbered, Sending};
 use view::View;
-use vsync_text::{Part, append_event, put_parts};
+use vsync_text::{Part, Text};
 
 /// A place in the order: so many messages of a view are delivered there.
 #[derive(Drop)]
@@ -23,17 +23,14 @@ impl Tag {
 }
 
 /// Appends a place in quotes, such as `"3@1.1/7"`.
-pub(crate) fn put_tag(out: &mut Vec<u8>, tag: &Tag) -> Result<(), AllocError> {
-    put_parts(
-        out,
-        &[
-            Part::Text(b"\""),
-            Part::View(tag.view),
-            Part::Text(b"/"),
-            Part::Number(tag.place),
-            Part::Text(b"\""),
-        ],
-    )
+pub(crate) fn put_tag(out: &mut Text, tag: &Tag) {
+    out.put_parts(&[
+        Part::Text(b"\""),
+        Part::View(tag.view),
+        Part::Text(b"/"),
+        Part::Number(tag.place),
+        Part::Text(b"\""),
+    ]);
 }
 
 /// To whom an event happens.
@@ -136,11 +133,11 @@ impl History {
     }
 
     /// A line for each, as in a trace.
-    pub(crate) fn text(&self) -> Result<Vec<u8>, AllocError> {
-        let mut out = Vec::new(self.alloc);
+    pub(crate) fn text(&self) -> Text {
+        let mut out = Text::new(self.alloc);
         for event in self.events.iter() {
-            append_event(&mut out, event)?;
+            out.append_event(event);
         }
-        Ok(out)
+        out
     }
 }

@@ -1,14 +1,13 @@
 //! Values as text.
 
-ghost use Rattle.std.specs.Prelude.{◌≡◌, ◌++◌, OnOk};
 ghost use Rattle.http_desk.specs.Replies.{quoted_token};
+ghost use Rattle.vsync_text.specs.Written.{Appends};
 
 use address::{Address, ViewId};
-use keyed_state::{Token, put_token_text};
+use keyed_state::Token;
 use lock_table::{Lock, LockTable};
 use replicated_map::ReplicatedMap;
-use std::alloc::AllocError;
-use vsync_text::{Part, Text, put};
+use vsync_text::{Part, Text};
 
 /// Appends bytes as a string of JSON: a byte that is no printable ASCII is written by its number.
 pub(crate) fn put_string(out: &mut Text, bytes: &[u8]) {
@@ -114,11 +113,16 @@ pub(crate) fn put_keys(out: &mut Text, map: &ReplicatedMap, keys: &[Vec<u8>]) {
 }
 
 /// Appends a token in quotes, such as `"3@1.1/2"`.
-pub(crate) fn put_token(out: &mut Vec<u8>, token: &Token) -> Result<(), AllocError>
-    ensures { OnOk result (out.new.items ≡ out.old.items ++ quoted_token token.now) }
+pub(crate) fn put_token(out: &mut Text, token: &Token)
+    ensures { Appends (quoted_token token.now) out.old out.new }
 {
-    put_token_text(out, b'"', token)?;
-    put(out, b"\"")
+    out.put_parts(&[
+        Part::Text(b"\""),
+        Part::View(token.view),
+        Part::Text(b"/"),
+        Part::Number(token.count),
+        Part::Text(b"\""),
+    ]);
 }
 
 /// Appends a lock as an object: who holds it, with which token, and who waits.

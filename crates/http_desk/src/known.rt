@@ -10,6 +10,7 @@ use http::StatusCode;
 use keyed_state::Token;
 use replicated_map::Outcome;
 use std::alloc::{AllocError, Global};
+use vsync_text::{Part, Text};
 
 /// What is known of a ticket.
 #[derive(Drop)]
@@ -22,12 +23,12 @@ pub(crate) struct Known {
 }
 
 // The answer to a command to the map that was delivered.
-fn map_reply(alloc: Global, outcome: &Outcome) -> Result<Reply, AllocError>
-    ensures { IfOk result (AnswersOutcome outcome.now) }
+fn map_reply(alloc: Global, outcome: &Outcome) -> Reply
+    ensures { AnswersOutcome outcome.now result }
 {
     match outcome {
         Outcome::Stored(version) | Outcome::Removed(version) => {
-            Reply::words(alloc, StatusCode::OK, b"done\n")?.of_version(alloc, version)
+            Reply::words(alloc, StatusCode::OK, b"done\n").of_version(alloc, version)
         }
         Outcome::Cleared => Reply::words(alloc, StatusCode::OK, b"done\n"),
         Outcome::Full => Reply::words(
@@ -48,21 +49,21 @@ fn map_reply(alloc: Global, outcome: &Outcome) -> Result<Reply, AllocError>
     }
 }
 
-fn known_of_map(alloc: Global, answer: &map_service::Answer) -> Result<Known, AllocError>
-    ensures { IfOk result (IsKnownOfMap answer.now) }
+fn known_of_map(alloc: Global, answer: &map_service::Answer) -> Known
+    ensures { IsKnownOfMap answer.now result }
 {
     let ticket = answer.ticket;
     match &answer.fate {
-        map_service::Fate::Delivered(view, place, outcome) => Ok(Known {
+        map_service::Fate::Delivered(view, place, outcome) => Known {
             ticket,
             at: Some((*view, *place)),
-            reply: Some(map_reply(alloc, outcome)?),
-        }),
-        map_service::Fate::HandedBack => Ok(Known {
+            reply: Some(map_reply(alloc, outcome)),
+        },
+        map_service::Fate::HandedBack => Known {
             ticket,
             at: None,
             reply: None,
-        }),
+        },
     }
 }
 
@@ -75,25 +76,28 @@ pub(crate) fn all_of_map(
 {
     let mut all = Vec::new(alloc);
     for answer in answers {
-        all.push(known_of_map(alloc, answer)?)?;
+        all.push(known_of_map(alloc, answer))?;
     }
     Ok(all)
 }
 
 // A token with a line feed.
-fn token_reply(alloc: Global, token: &Token) -> Result<Reply, AllocError>
-    ensures { IfOk result (Says 200 (text_of_token token.now ++ 10 ∷ [])) }
+fn token_reply(alloc: Global, token: &Token) -> Reply
+    ensures { Says 200 (text_of_token token.now ++ 10 ∷ []) result }
 {
-    let view = token.view;
-    let count = token.count;
-    let text = format!(in alloc; "{view}/{count}\n")?;
-    let body = Vec::from_slice(alloc, text.as_bytes())?;
-    Ok(Reply::of(StatusCode::OK, Media::Text, body))
+    let mut body = Text::new(alloc);
+    body.put_parts(&[
+        Part::View(token.view),
+        Part::Text(b"/"),
+        Part::Number(token.count),
+        Part::Text(b"\n"),
+    ]);
+    Reply::of(StatusCode::OK, Media::Text, body)
 }
 
 // The answer to a request for a lock, or to a release of one.
-fn lock_reply(alloc: Global, fate: &lock_service::Fate) -> Result<Option<Reply>, AllocError>
-    ensures { IfOk result (AnswersLockFate fate.now) }
+fn lock_reply(alloc: Global, fate: &lock_service::Fate) -> Option<Reply>
+    ensures { AnswersLockFate fate.now result }
 {
     let reply = match fate {
         lock_service::Fate::Granted(token) => token_reply(alloc, token),
@@ -114,20 +118,19 @@ fn lock_reply(alloc: Global, fate: &lock_service::Fate) -> Result<Option<Reply>,
             b"the node neither holds the lock nor waits for it\n",
         ),
         lock_service::Fate::NoRequest => Reply::plain(alloc, StatusCode::BAD_REQUEST),
-        lock_service::Fate::HandedBack => return Ok(None),
+        lock_service::Fate::HandedBack => return None,
     };
-    Ok(Some(reply?))
+    Some(reply)
 }
 
-fn known_of_lock(alloc: Global, answer: &lock_service::Answer) -> Result<Known, AllocError>
-    ensures { IfOk result (IsKnownOfLock answer.now) }
+fn known_of_lock(alloc: Global, answer: &lock_service::Answer) -> Known
+    ensures { IsKnownOfLock answer.now result }
 {
-    let reply = lock_reply(alloc, &answer.fate)?;
-    Ok(Known {
+    Known {
         ticket: answer.ticket,
         at: Some((answer.view, answer.place)),
-        reply,
-    })
+        reply: lock_reply(alloc, &answer.fate),
+    }
 }
 
 /// What is known by answers of the locks' service, each by one.
@@ -139,7 +142,7 @@ pub(crate) fn all_of_locks(
 {
     let mut all = Vec::new(alloc);
     for answer in answers {
-        all.push(known_of_lock(alloc, answer)?)?;
+        all.push(known_of_lock(alloc, answer))?;
     }
     Ok(all)
 }

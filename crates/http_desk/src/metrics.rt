@@ -2,7 +2,7 @@
 
 use crate::kept::Keeps;
 use crate::standing::Standing;
-use std::alloc::{AllocError, Global};
+use std::alloc::Global;
 use vsync_text::{Part, Text};
 
 // Metrics of a kind: for each its name and its number.
@@ -98,10 +98,10 @@ fn put_gauges(out: &mut Text, standing: &Standing<'_>) {
 }
 
 /// The metrics: counters only rise.
-pub(crate) fn metrics(alloc: Global, standing: &Standing<'_>) -> Result<Vec<u8>, AllocError> {
+pub(crate) fn metrics(alloc: Global, standing: &Standing<'_>) -> Text {
     let mut out = Text::new(alloc);
     put_counters(&mut out, standing);
     put_view(&mut out, standing);
     put_gauges(&mut out, standing);
-    out.whole()
+    out
 }

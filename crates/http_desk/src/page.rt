@@ -1,6 +1,7 @@
 //! The page for a browser.
 
-use std::alloc::{AllocError, Global};
+use std::alloc::Global;
+use vsync_text::Text;
 
 // It asks for the status, for what is kept and for the last events each second, by itself.
 const PAGE: &[u8] =
@@ -23,6 +24,8 @@ get('picture').src='/picture?'+Date.now()}}\
 catch(e){get('bad').textContent='no answer: '+e}setTimeout(turn,1000)}turn()</script>\n";
 
 /// The page.
-pub(crate) fn page(alloc: Global) -> Result<Vec<u8>, AllocError> {
-    Vec::from_slice(alloc, PAGE)
+pub(crate) fn page(alloc: Global) -> Text {
+    let mut page = Text::new(alloc);
+    page.put(PAGE);
+    page
 }

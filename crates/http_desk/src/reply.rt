@@ -1,6 +1,6 @@
 //! What is answered to a request.
 
-ghost use Rattle.std.specs.Prelude.{◌≡◌, IfOk};
+ghost use Rattle.std.specs.Prelude.{◌≡◌, false};
 ghost use Rattle.http_desk.specs.Replies.{Says, IsTagged};
 
 use crate::history::{Tag, put_tag};
@@ -9,7 +9,8 @@ use crate::refusal::Refusal;
 use http::StatusCode;
 use keyed_state::Token;
 use replicated_map::Held;
-use std::alloc::{AllocError, Global};
+use std::alloc::Global;
+use vsync_text::{Part, Text};
 
 /// What a body is.
 #[derive(Clone, Copy)]
@@ -36,15 +37,15 @@ impl Media {
     }
 }
 
-/// An answer.
+/// An answer. Where memory was refused to a part of it, its connection ends instead.
 pub(crate) struct Reply {
     pub(crate) status: StatusCode,
     pub(crate) media: Media,
     /// The entity tag.
-    pub(crate) tag: Option<Vec<u8>>,
+    pub(crate) tag: Option<Text>,
     /// The view and the place that it speaks of.
-    pub(crate) place: Option<Vec<u8>>,
-    pub(crate) body: Vec<u8>,
+    pub(crate) place: Option<Text>,
+    pub(crate) body: Text,
 }
 
 impl Drop for Reply {
@@ -72,17 +73,19 @@ fn words_of(status: StatusCode) -> &'static [u8] {
     }
 }
 
-// A view and a place in it, such as 2@1.1/7.
-fn place_text(alloc: Global, at: &Tag) -> Result<Vec<u8>, AllocError> {
-    let (view, place) = (at.view, at.place);
-    let text = format!(in alloc; "{view}/{place}")?;
-    Vec::from_slice(alloc, text.as_bytes())
+// Whether a text is there and lacks a part.
+fn lacks(text: &Option<Text>) -> bool {
+    match text {
+        Some(text) => text.is_short(),
+        None => false,
+    }
 }
 
 impl Reply {
     /// A body of some kind.
-    pub(crate) fn of(status: StatusCode, media: Media, body: Vec<u8>) -> Reply
-        ensures { Says status body.items result }
+    pub(crate) fn of(status: StatusCode, media: Media, body: Text) -> Reply
+        ensures status { result.status ≡ status }
+        ensures body { result.body ≡ body }
     {
         Reply {
             status,
@@ -94,66 +97,87 @@ impl Reply {
     }
 
     /// A status and words.
-    pub(crate) fn words(
-        alloc: Global,
-        status: StatusCode,
-        words: &[u8],
-    ) -> Result<Reply, AllocError>
-        ensures { IfOk result (Says status words.now) }
+    pub(crate) fn words(alloc: Global, status: StatusCode, words: &[u8]) -> Reply
+        ensures { Says status words.now result }
     {
-        let body = Vec::from_slice(alloc, words)?;
-        Ok(Reply::of(status, Media::Text, body))
+        let mut body = Text::new(alloc);
+        body.put(words);
+        Reply::of(status, Media::Text, body)
     }
 
     /// A status, and what it says in words.
-    pub(crate) fn plain(alloc: Global, status: StatusCode) -> Result<Reply, AllocError>
-        ensures { IfOk result (λ r. r.status ≡ status) }
+    pub(crate) fn plain(alloc: Global, status: StatusCode) -> Reply
+        ensures { result.status ≡ status }
     {
         Reply::words(alloc, status, words_of(status))
     }
 
+    /// Memory was refused to what is answered.
+    pub(crate) fn short(alloc: Global) -> Reply {
+        let mut body = Text::new(alloc);
+        body.refuse();
+        Reply::of(StatusCode::SERVICE_UNAVAILABLE, Media::Text, body)
+    }
+
     /// What is wrong with a request.
-    pub(crate) fn refused(alloc: Global, refusal: Refusal) -> Result<Reply, AllocError> {
+    pub(crate) fn refused(alloc: Global, refusal: Refusal) -> Reply {
         Reply::words(alloc, refusal.status(), refusal.words())
     }
 
     /// A value, whose entity tag is its version.
-    pub(crate) fn held(alloc: Global, status: StatusCode, held: &Held) -> Result<Reply, AllocError>
-        ensures says { IfOk result (Says status held.now.value) }
-        ensures tag { IfOk result (IsTagged held.now.version) }
+    pub(crate) fn held(alloc: Global, status: StatusCode, held: &Held) -> Reply
+        ensures says { Says status held.now.value result }
+        ensures tag { IsTagged held.now.version result }
     {
-        let body = Vec::from_slice(alloc, held.value.as_slice())?;
+        let mut body = Text::new(alloc);
+        body.put(held.value.as_slice());
         Reply::of(status, Media::Bytes, body).of_version(alloc, &held.version)
     }
 
     /// The same, whose entity tag is a version.
-    pub(crate) fn of_version(mut self, alloc: Global, version: &Token) -> Result<Reply, AllocError>
-        ensures says { IfOk result (Says self.status self.body.items) }
-        ensures tag { IfOk result (IsTagged version.now) }
+    pub(crate) fn of_version(mut self, alloc: Global, version: &Token) -> Reply
+        ensures status { result.status ≡ self.status }
+        ensures body { result.body ≡ self.body }
+        ensures tag { IsTagged version.now result }
     {
-        let mut tag = Vec::new(alloc);
-        put_token(&mut tag, version)?;
+        let mut tag = Text::new(alloc);
+        put_token(&mut tag, version);
         self.tag = Some(tag);
-        Ok(self)
+        self
     }
 
     /// The same, whose entity tag is a place.
-    pub(crate) fn since(mut self, alloc: Global, last: Option<&Tag>) -> Result<Reply, AllocError>
-        ensures { IfOk result (Says self.status self.body.items) }
+    pub(crate) fn since(mut self, alloc: Global, last: Option<&Tag>) -> Reply
+        ensures status { result.status ≡ self.status }
+        ensures body { result.body ≡ self.body }
     {
         if let Some(last) = last {
-            let mut tag = Vec::new(alloc);
-            put_tag(&mut tag, last)?;
+            let mut tag = Text::new(alloc);
+            put_tag(&mut tag, last);
             self.tag = Some(tag);
         }
-        Ok(self)
+        self
     }
 
-    /// The same, which speaks of a place.
-    pub(crate) fn at(mut self, alloc: Global, at: &Tag) -> Result<Reply, AllocError>
-        ensures { IfOk result (Says self.status self.body.items) }
+    /// The same, which speaks of a place, such as 2@1.1/7.
+    pub(crate) fn at(mut self, alloc: Global, at: &Tag) -> Reply
+        ensures status { result.status ≡ self.status }
+        ensures body { result.body ≡ self.body }
     {
-        self.place = Some(place_text(alloc, at)?);
-        Ok(self)
+        let mut place = Text::new(alloc);
+        place.put_parts(&[
+            Part::View(at.view),
+            Part::Text(b"/"),
+            Part::Number(at.place),
+        ]);
+        self.place = Some(place);
+        self
+    }
+
+    /// Whether memory was refused to a part of it.
+    pub(crate) fn is_short(&self) -> bool
+        ensures { result ≡ false → self.now.body.is_short ≡ false }
+    {
+        self.body.is_short() || lacks(&self.tag) || lacks(&self.place)
     }
 }

@@ -1,6 +1,6 @@
 //! The two services of a connection: one notes what is asked, the other gives the answer that was found.
 
-ghost use Rattle.std.specs.Prelude.{◌≡◌, OnOk};
+ghost use Rattle.std.specs.Prelude.{◌≡◌, false, OnOk};
 ghost use Rattle.http_server.specs.Response.{IsBlank};
 
 use crate::kept::Keeps;
@@ -86,9 +86,13 @@ fn add_fields(alloc: Global, reply: &Reply, response: &mut Response) -> Result<(
 // Fills a response that is blank.
 fn fill(alloc: Global, reply: &Reply, response: &mut Response) -> Result<(), AllocError>
     requires { IsBlank response.old }
+    ensures whole { OnOk result (reply.now.body.is_short ≡ false) }
     ensures status { OnOk result (response.new.status ≡ reply.now.status) }
     ensures body { OnOk result (response.new.body.items ≡ reply.now.body.items) }
 {
+    if reply.is_short() {
+        return Err(AllocError);
+    }
     add_fields(alloc, reply, response)?;
     response.status = reply.status;
     response.body.put_slice(reply.body.as_slice())

@@ -62,13 +62,13 @@ fn awaited(alloc: Global, clients: &[Client]) -> Result<Vec<u64>, AllocError> {
 }
 
 // Serves these connections; answers whether one has more to do at once.
-fn serve_all(desk: &mut Desk, clients: &mut Vec<Client>) -> Result<bool, AllocError> {
+fn serve_all(desk: &mut Desk, clients: &mut Vec<Client>) -> bool {
     let mut has_more = false;
     for client in clients.iter_mut() {
-        let more = desk.serve_one(client)?;
+        let more = desk.serve_one(client);
         has_more = has_more || more;
     }
-    Ok(has_more)
+    has_more
 }
 
 impl HttpDesk {
@@ -99,8 +99,8 @@ impl HttpDesk {
     }
 
     /// What happened next at the node. It may begin again with another member.
-    pub fn hear(&mut self, event: &Event) -> Result<(), AllocError> {
-        self.desk.hear(event)
+    pub fn hear(&mut self, event: &Event) {
+        self.desk.hear(event);
     }
 
     /// How many messages of a view are stable, as far as the node knows.
@@ -109,13 +109,14 @@ impl HttpDesk {
     }
 
     /// The member has ended: all who wait are answered 503, and so is each write from now on.
-    pub fn end(&mut self) -> Result<(), AllocError> {
-        self.desk.end()
+    pub fn end(&mut self) {
+        self.desk.end();
     }
 
-    /// Appends the lines that the node is to send next, each with a line feed.
+    /// Appends the lines that the node is to send next, each with a line feed; an error if memory was refused to them, or to what the desk keeps of what it heard and
+    /// of those who asked: it lacks something from then on, and this says so each time.
     pub fn tell(&mut self, text: &mut Vec<u8>) -> Result<(), AllocError> {
-        self.desk.writes.tell(text)
+        self.desk.tell(text)
     }
 
     /// Whether there is something to do at once: a line to send, or an answer to give.
@@ -143,29 +144,35 @@ impl HttpDesk {
     }
 
     // Each connection has its turn, and those that are over are let go.
-    fn give_turns(&mut self) -> Result<bool, AllocError> {
+    fn give_turns(&mut self) -> bool {
         self.desk.connections = self.clients.len();
-        let served = serve_all(&mut self.desk, &mut self.clients);
+        let has_more = serve_all(&mut self.desk, &mut self.clients);
         self.clients.retain(|client| !client.is_over);
-        served
+        has_more
     }
 
-    /// Serves all connections, each for a bounded number of steps. It does not wait.
-    pub fn serve(&mut self, now: Duration) -> Result<(), AllocError> {
-        self.desk.now = now;
-        if let Ok(ready) = self.door.look(self.alloc) {
-            wake(&mut self.clients, ready.as_slice());
-        }
-        self.desk.settle_all()?;
-        self.accept()?;
-        let has_more = self.give_turns()?;
-        self.desk.replies.clear();
-        // Nobody waits for a lock any more whose connection is over.
+    // Nobody waits for a lock any more whose connection is over.
+    fn forget(&mut self) -> Result<(), AllocError> {
         if self.desk.kept.queued() > 0 {
             let tickets = awaited(self.alloc, self.clients.as_slice())?;
             self.desk.kept.keep(tickets.as_slice());
         }
-        self.has_more = has_more || self.door.has_callers;
         Ok(())
+    }
+
+    /// Serves all connections, each for a bounded number of steps. It does not wait.
+    pub fn serve(&mut self, now: Duration) {
+        self.desk.now = now;
+        if let Ok(ready) = self.door.look(self.alloc) {
+            wake(&mut self.clients, ready.as_slice());
+        }
+        self.desk.settle_all();
+        let accepted = self.accept();
+        self.desk.note(accepted);
+        let has_more = self.give_turns();
+        self.desk.replies.clear();
+        let forgot = self.forget();
+        self.desk.note(forgot);
+        self.has_more = has_more || self.door.has_callers;
     }
 }

@@ -4,7 +4,7 @@ use crate::json::{put_all, put_fields, put_quoted, put_view};
 use crate::kept::Keeps;
 use crate::standing::Standing;
 use address::limits::VERSION;
-use std::alloc::{AllocError, Global};
+use std::alloc::Global;
 use std::time::Duration;
 use vsync_text::{Part, Text};
 
@@ -89,7 +89,7 @@ fn put_counts(out: &mut Text, standing: &Standing<'_>) {
 }
 
 /// The status as JSON.
-pub(crate) fn status(alloc: Global, standing: &Standing<'_>) -> Result<Vec<u8>, AllocError> {
+pub(crate) fn status(alloc: Global, standing: &Standing<'_>) -> Text {
     let mut out = Text::new(alloc);
     out.put_parts(&[
         Part::Text(b"{\"address\":\""),
@@ -109,5 +109,5 @@ pub(crate) fn status(alloc: Global, standing: &Standing<'_>) -> Result<Vec<u8>, 
         Part::Number(u64::from(VERSION)),
         Part::Text(b"\"}\n"),
     ]);
-    out.whole()
+    out
 }

@@ -4,7 +4,6 @@ ghost use Rattle.std.specs.Prelude.{None};
 
 use address::ViewId;
 use http_desk::HttpDesk;
-use std::alloc::AllocError;
 use std::cell::Cell;
 use std::time::Duration;
 use trace_props::Event;
@@ -19,8 +18,6 @@ pub(crate) struct HttpLines<'a> {
     stable: &'a Stable,
     // When its node's first look was: the desk's time begins there.
     began: Option<Duration>,
-    // Whether memory was refused to what it heard.
-    is_short: bool,
 }
 
 impl Drop for HttpLines<'_> {
@@ -29,7 +26,6 @@ impl Drop for HttpLines<'_> {
             desk: _,
             stable: _,
             began: _,
-            is_short: _,
         } = self;
     }
 }
@@ -41,14 +37,13 @@ impl<'a> HttpLines<'a> {
             desk,
             stable,
             began: None,
-            is_short: false,
         }
     }
 
     /// The node has ended: all who wait are told so.
-    pub(crate) fn end(&mut self) -> Result<(), AllocError> {
-        self.desk.end()?;
-        self.desk.serve(Duration::ZERO)
+    pub(crate) fn end(&mut self) {
+        self.desk.end();
+        self.desk.serve(Duration::ZERO);
     }
 }
 
@@ -57,17 +52,12 @@ impl<'a> Lines for HttpLines<'a> {
 
     // Where memory was refused, the node ends.
     fn more(&mut self, text: &mut Vec<u8>) -> Result<(), LinesError> {
-        if self.is_short {
-            return Err(LinesError::Memory);
-        }
         self.desk.tell(text)?;
         Ok(())
     }
 
     fn hear(&mut self, event: &Event) {
-        if self.desk.hear(event).is_err() {
-            self.is_short = true;
-        }
+        self.desk.hear(event);
     }
 
     fn look(&mut self, now: Duration) {
@@ -76,9 +66,7 @@ impl<'a> Lines for HttpLines<'a> {
         if let Some((view, count)) = self.stable.get() {
             self.desk.learn(view, count);
         }
-        if self.desk.serve(now.saturating_sub(began)).is_err() {
-            self.is_short = true;
-        }
+        self.desk.serve(now.saturating_sub(began));
     }
 
     fn rest(&self, left: Duration) -> Duration {

@@ -387,7 +387,7 @@ fn run_http<R: Files + Net + RandomSource + Clock + Print + Eprint + AllocGlobal
     let stable: Stable = Cell::new(None);
     let mut lines = HttpLines::new(desk, &stable);
     let status = run_lines(rt, run, plan, &mut lines, other, &stable);
-    let _ = lines.end();
+    lines.end();
     status
 }
 
