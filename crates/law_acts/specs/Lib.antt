@@ -6,3 +6,14 @@ pub mod Acts
 pub mod Chains
 pub mod Decisions
 pub mod Laws
+pub mod Steps
+pub mod Packets
+pub mod Members
+pub mod Invariant
+pub mod Known
+pub mod Agreement
+pub mod Stories
+pub mod CrashStory
+pub mod LeaveStory
+pub mod MergeStory
+pub mod ChunkStory

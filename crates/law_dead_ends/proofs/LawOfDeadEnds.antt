@@ -11,10 +11,10 @@ use Rattle.view.proofs.MembersListed.{coordinator-in}
 use Rattle.state_transfer.specs.Meanings.{Meaning}
 use Rattle.law_acts.specs.Cores.{Core, idle}
 use Rattle.law_acts.specs.Histories.{History}
-use Rattle.law_agreement.proofs.KeepBySteps as agree
-use Rattle.law_agreement.proofs.RegistersHoldPackets.{flush-stands}
-use Rattle.law_agreement.specs.Members.{MemberFact}
-use Rattle.law_agreement.specs.Packets.{PacketFact, BodyFact}
+use Rattle.law_acts.proofs.KeepBySteps as agree
+use Rattle.law_acts.proofs.RegistersHoldPackets.{flush-stands}
+use Rattle.law_acts.specs.Members.{MemberFact}
+use Rattle.law_acts.specs.Packets.{PacketFact, BodyFact}
 use Rattle.step_output.specs.declared.output.Output.{Output}
 use Rattle.step_output.specs.Steps.{Who, who}
 use Rattle.membership.specs.declared.member_state.MemberState.{MemberState}

@@ -10,7 +10,7 @@ use Rattle.wire.specs.Packets.{packet_of}
 use Rattle.law_acts.specs.Histories.{Posted}
 use Rattle.law_acts.specs.Cores.{Core}
 use Rattle.law_acts.specs.Acts.{handed}
-use Rattle.law_agreement.specs.Steps.{came_of}
+use Rattle.law_acts.specs.Steps.{came_of}
 use Rattle.step_output.specs.Names.{same_name}
 use Rattle.step_output.specs.Outputs.{packet_in}
 use Rattle.member.specs.declared.input.Input.{Input}

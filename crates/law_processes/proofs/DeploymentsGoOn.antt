@@ -1,7 +1,7 @@
 -- A deployment that was played goes on, and keeps what deployments keep.
 use Rattle.std.proofs.Common.{◌≡◌, ℕ, List, [], ◌∷◌, ◌++◌, refl, sym, ap, ◌∙◌, subst}
 use Rattle.state_transfer.specs.Meanings.{Meaning}
-use Rattle.law_agreement.proofs.KeepBySteps as agree
+use Rattle.law_acts.proofs.KeepBySteps as agree
 use Rattle.law_processes.specs.Deployments.{Step, Deployment, nothing_yet, after, after_steps, EachStep, DoesSo, StartsOnce, HandsOver, IsHistory, IsPlayed}
 use Rattle.law_processes.proofs.KeepBySteps.{IsDeployment, nothing, steps-keep}
 

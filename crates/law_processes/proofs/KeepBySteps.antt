@@ -15,12 +15,12 @@ use Rattle.address.proofs.SameIds.{same_address-true}
 use Rattle.law_acts.specs.Histories.{Posted}
 use Rattle.law_acts.specs.Cores.{Core, idle}
 use Rattle.law_acts.specs.Chains.{Acted}
-use Rattle.law_agreement.specs.Steps.{System, put}
-use Rattle.law_agreement.specs.Steps as agree
-use Rattle.law_agreement.specs.Invariant.{Kept}
-use Rattle.law_agreement.proofs.KeepAtFirst.{nothing-holds}
-use Rattle.law_agreement.proofs.KeepBySteps as steps
-use Rattle.law_agreement.proofs.KeepByCall as call
+use Rattle.law_acts.specs.Steps.{System, put}
+use Rattle.law_acts.specs.Steps as agree
+use Rattle.law_acts.specs.Invariant.{Kept}
+use Rattle.law_acts.proofs.KeepAtFirst.{nothing-holds}
+use Rattle.law_acts.proofs.KeepBySteps as steps
+use Rattle.law_acts.proofs.KeepByCall as call
 use Rattle.membership.specs.declared.member_state.MemberState.{MemberState}
 use Rattle.membership.specs.MemberStates.{core_of as core_at}
 use Rattle.step_output.specs.Outputs.{packet_in, spelled}

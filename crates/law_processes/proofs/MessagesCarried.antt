@@ -28,8 +28,8 @@ use Rattle.law_acts.specs.Histories.{Posted}
 use Rattle.law_acts.specs.Cores.{Core, is_open}
 use Rattle.law_acts.specs.Acts.{Act, Creates, Joins, Puts, Sends, Queues, Orders, TakesAck, Collects, Holds, Delivers, Promises, Begins, Records, Gathers, Finishes, Enters, Leaves, Allowed, after, events_of, deliveries, delivery, entering, blocking, packet, handed}
 use Rattle.law_acts.specs.Chains.{Chain, events_along}
-use Rattle.law_agreement.specs.Invariant.{SendsShort, StartsProper}
-use Rattle.law_agreement.proofs.KeepBySteps as steps
+use Rattle.law_acts.specs.Invariant.{SendsShort, StartsProper}
+use Rattle.law_acts.proofs.KeepBySteps as steps
 use Rattle.step_output.specs.Names.{same_name}
 use Rattle.member.specs.declared.input.Input.{Input}
 use Rattle.member.specs.declared.input.Input.TheVariants.{Create, Join, Send, Datagram, Tick, Suspect, MergeHint, Leave}

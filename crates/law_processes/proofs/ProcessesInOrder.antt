@@ -3,7 +3,7 @@ use Rattle.std.proofs.Common.{◌≡◌, ℕ, Bool, true, false, cond, Option, L
 use Rattle.address.specs.Ids.{Address, same_address}
 use Rattle.state_transfer.specs.Meanings.{Meaning}
 use Rattle.address.proofs.SameIds.{same_address-refl}
-use Rattle.law_agreement.proofs.KeepBySteps as steps
+use Rattle.law_acts.proofs.KeepBySteps as steps
 use Rattle.member.specs.Members.{MemberModel}
 use Rattle.law_processes.specs.Deployments.{Step, Start, Call, Crash, Deployment, nothing_yet, with_member, whose, left_with, after, EachStep, DoesSo}
 use Rattle.law_processes.specs.Processes.{own_steps, StepsSo, RunsFrom}

@@ -13,9 +13,9 @@ use Rattle.trace_props.specs.State.{state_of}
 use Rattle.trace_props.proofs.RulesAlongLists.{EachPlace-whole}
 use Rattle.law_processes.specs.Replicas.{ReplicasAgree, HasDelivered}
 use Rattle.law_acts.specs.Cores.{Core, id_of}
-use Rattle.law_agreement.specs.Known.{Knows}
-use Rattle.law_agreement.proofs.KeepBySteps as steps
-use Rattle.law_agreement.proofs.KnownOfMembers.{members-know as core-knows}
+use Rattle.law_acts.specs.Known.{Knows}
+use Rattle.law_acts.proofs.KeepBySteps as steps
+use Rattle.law_acts.proofs.KnownOfMembers.{members-know as core-knows}
 use Rattle.member.specs.Members.{MemberModel, core_of}
 use Rattle.law_processes.specs.Deployments.{Step, IsHistory, nothing_yet, after_steps, trace_of}
 use Rattle.law_processes.specs.Known.{MembersKnow, StandsAt, ProcessesAgree, CopiesAgree, NeverClosed}

@@ -15,9 +15,9 @@ use Rattle.trace_props.specs.State.{entry_state}
 use Rattle.law_acts.specs.Histories.{Posted, History, report_of}
 use Rattle.law_acts.specs.Cores.{Core}
 use Rattle.law_acts.specs.Acts.{handed}
-use Rattle.law_agreement.specs.Steps.{System, came_of}
-use Rattle.law_agreement.specs.Invariant.{Kept}
-use Rattle.law_agreement.proofs.GivenStates.{given-is}
+use Rattle.law_acts.specs.Steps.{System, came_of}
+use Rattle.law_acts.specs.Invariant.{Kept}
+use Rattle.law_acts.proofs.GivenStates.{given-is}
 use Rattle.law_acts.specs.Given.{IsGiven}
 use Rattle.state_chunks.specs.HeldChunks.{given_in}
 use Rattle.membership.specs.declared.member_state.MemberState.{MemberState}
@@ -25,8 +25,8 @@ use Rattle.membership.specs.MemberStates.{IsMemberState, core_of as core_at}
 use Rattle.membership.specs.Changes.{would_enter}
 use Rattle.membership.proofs.ActsOfChanges.{entry-given}
 use Rattle.step_output.specs.Steps.{who}
-use Rattle.law_agreement.specs.Packets.{IsInstruction, BodyFact}
-use Rattle.law_agreement.proofs.KeepBySteps
+use Rattle.law_acts.specs.Packets.{IsInstruction, BodyFact}
+use Rattle.law_acts.proofs.KeepBySteps
 use Rattle.member.specs.declared.input.Input.{Input}
 use Rattle.wire_values.specs.Kinds.{install_said as install_in}
 use Rattle.member.specs.Members.{MemberModel, came_at, is_readable, is_unreadable, is_unreadable_by}

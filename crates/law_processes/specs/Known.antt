@@ -7,7 +7,7 @@ use Rattle.state_transfer.specs.Meanings.{Meaning}
 use Rattle.trace_props.specs.Places.{EachPlace}
 use Rattle.law_processes.specs.Replicas.{ReplicasAgree}
 use Rattle.law_acts.specs.Cores.{Core, id_of}
-use Rattle.law_agreement.specs.Known.{Knows}
+use Rattle.law_acts.specs.Known.{Knows}
 use Rattle.member.specs.declared.error.Error.TheVariants.{Refused}
 use Rattle.member.specs.declared.input.Input.{Input}
 use Rattle.member.specs.Handling.{Handled}

@@ -1,4 +1,4 @@
-ghost use Rattle.law_agreement.specs.Known.{StableStays};
+ghost use Rattle.law_acts.specs.Known.{StableStays};
 ghost use Rattle.law_processes.specs.Carried.{CoordinatorsKeepTheirs, DeliverShort};
 ghost use Rattle.law_processes.specs.Known.{CopiesAgree, MembersKnow, NeverClosed, ProcessesAgree};
 ghost use Rattle.law_processes.specs.Law.{AreSynchronous, MergedAreSynchronous, TellAll};

@@ -6,7 +6,7 @@ use Rattle.address.specs.Ids.{Address}
 use Rattle.state_transfer.specs.Meanings.{Meaning}
 use Rattle.trace_props.specs.declared.event.Event.{Event}
 use Rattle.law_acts.specs.Cores.{Core, id_of, is_frozen}
-use Rattle.law_agreement.specs.Known.{AllDelivered, Knows}
+use Rattle.law_acts.specs.Known.{AllDelivered, Knows}
 use Rattle.member.specs.Members.{MemberModel, core_of}
 use Rattle.channel.specs.declared.stage.Stage.{Stage}
 use Rattle.channel.specs.declared.stage.Stage.TheVariants.{Apart, Connected, Ended}

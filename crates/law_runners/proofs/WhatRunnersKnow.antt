@@ -8,7 +8,7 @@ use Rattle.trace_props.specs.declared.event.Event.{Event}
 use Rattle.trace_props.proofs.RulesAlongLists.{EachPlace-whole}
 use Rattle.law_processes.specs.Replicas.{ReplicasAgree}
 use Rattle.law_acts.specs.Cores.{Core, idle}
-use Rattle.law_agreement.specs.Known.{Knows}
+use Rattle.law_acts.specs.Known.{Knows}
 use Rattle.member.specs.Members.{MemberModel, core_of}
 use Rattle.channel.specs.declared.stage.Stage.{Stage}
 use Rattle.channel.specs.declared.stage.Stage.TheVariants.{Apart, Connected, Ended}

@@ -7,7 +7,7 @@ use Rattle.trace_props.specs.declared.event.Event.{Event}
 use Rattle.trace_props.specs.Observed.{current_view}
 use Rattle.trace_props.specs.Observed as trace
 use Rattle.trace_props.specs.State.{state_of}
-use Rattle.law_agreement.specs.Known.{AllDelivered}
+use Rattle.law_acts.specs.Known.{AllDelivered}
 use Rattle.member.specs.Members.{MemberModel}
 use Rattle.channel.specs.declared.stage.Stage.{Stage}
 use Rattle.channel.specs.Channels.{member_in, view_in, is_blocked, receiver_in, stable_in}

@@ -1,6 +1,5 @@
 //! A member of a group behind one call: an input comes in, packets and events come out (docs/PROTOCOL.md). What it does by each input and each kind of
-//! packet is said in `member_views` and `member_messages`, and that it goes on by nothing but acts in the crate `law_agreement` (docs/PROOF.md,
-//! "Agreement over acts").
+//! packet is said in `member_rules`, and that it goes on by nothing but acts in the crate `law_acts` (docs/PROOF.md, "Agreement over acts").
 #![tactic(auto)]
 
 mod error;

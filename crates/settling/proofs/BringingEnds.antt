@@ -9,7 +9,7 @@ use Rattle.view.specs.Members.{View, stands_in}
 use Rattle.wire_values.specs.declared.packet.Body.TheVariants as bodies
 use Rattle.state_transfer.specs.Meanings.{Meaning}
 use Rattle.law_acts.specs.Acts.{packet}
-use Rattle.law_agreement.proofs.KeepBySteps
+use Rattle.law_acts.proofs.KeepBySteps
 use Rattle.membership.specs.declared.member_state.MemberState.{MemberState}
 use Rattle.world_model.specs.Packets.{world_group}
 use Rattle.world_step.specs.Worlds.{WorldModel}

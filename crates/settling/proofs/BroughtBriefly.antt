@@ -9,9 +9,9 @@ use Rattle.view.specs.Members.{View, stands_in}
 use Rattle.view.specs.View.{view_refusal}
 use Rattle.state_transfer.specs.Meanings.{Meaning}
 use Rattle.law_acts.specs.Acts.{others_of}
-use Rattle.law_agreement.proofs.KeepBySteps
-use Rattle.law_agreement.proofs.RegistersHoldPackets.{flush-stands}
-use Rattle.law_agreement.specs.Packets.{IsProposal, BodyFact}
+use Rattle.law_acts.proofs.KeepBySteps
+use Rattle.law_acts.proofs.RegistersHoldPackets.{flush-stands}
+use Rattle.law_acts.specs.Packets.{IsProposal, BodyFact}
 use Rattle.wire_values.specs.declared.packet.Body.{Body}
 use Rattle.membership.specs.declared.member_state.MemberState.{MemberState}
 use Rattle.world_model.specs.declared.WorldEvent.TheVariants.{Deliver, Tick}

@@ -5,7 +5,7 @@ use Rattle.std.specs.Option.{ForSome, IsSomeAnd, option_or}
 use Rattle.std.proofs.lemmas.Option.{same_Some}
 use Rattle.view.specs.Members.{View}
 use Rattle.state_transfer.specs.Meanings.{Meaning}
-use Rattle.law_agreement.proofs.KeepBySteps
+use Rattle.law_acts.proofs.KeepBySteps
 use Rattle.world_step.specs.Worlds.{WorldModel, IsLonger}
 use Rattle.settling.specs.Settles.{settling_at, Settles, SettlesShort, IsSettled, EndsSettling}
 use Rattle.settling.specs.LostInstalls.{awaited_at, BringsAll, BringsShort}

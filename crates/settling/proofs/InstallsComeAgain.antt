@@ -15,8 +15,8 @@ use Rattle.law_acts.specs.Histories.{Posted}
 use Rattle.law_acts.specs.Cores.{id_of}
 use Rattle.law_acts.specs.Acts.{packet}
 use Rattle.wire_values.specs.declared.packet.Body.TheVariants as bodies
-use Rattle.law_agreement.specs.Members.{installed_as}
-use Rattle.law_agreement.proofs.KeepBySteps
+use Rattle.law_acts.specs.Members.{installed_as}
+use Rattle.law_acts.proofs.KeepBySteps
 use Rattle.traffic.specs.declared.view_state.ViewState.{ViewState}
 use Rattle.membership.specs.declared.member_state.MemberState.{MemberState}
 use Rattle.membership.specs.MemberStates.{core_of as core_at, view_in, report_in, is_connected, is_sent_to}

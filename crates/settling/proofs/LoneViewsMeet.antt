@@ -24,7 +24,7 @@ use Rattle.view_install.specs.Promises.{PromiseModel, offered, is_accept}
 use Rattle.law_acts.specs.Cores.{Core}
 use Rattle.law_acts.specs.Acts.{packet, proposed}
 use Rattle.law_acts.specs.Decisions.{due_proposal, due_at, regroups_in, is_due, proposal_after, next_proposal, promised_counter}
-use Rattle.law_agreement.proofs.KeepBySteps
+use Rattle.law_acts.proofs.KeepBySteps
 use Rattle.step_output.specs.declared.output.Output.{Output}
 use Rattle.step_output.specs.Outputs.{Grows}
 use Rattle.step_output.specs.Steps.{who}

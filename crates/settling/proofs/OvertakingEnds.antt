@@ -6,7 +6,7 @@ use Rattle.std.specs.Option.{ForSome, IsSomeAnd, option_map, option_map_or, opti
 use Rattle.address.specs.Ids.{Address}
 use Rattle.view.specs.Members.{View, stands_in}
 use Rattle.state_transfer.specs.Meanings.{Meaning}
-use Rattle.law_agreement.proofs.KeepBySteps
+use Rattle.law_acts.proofs.KeepBySteps
 use Rattle.world_step.specs.declared.node_state.NodeState.{NodeState}
 use Rattle.world_step.specs.Worlds.{WorldModel}
 use Rattle.settling.specs.Settles.{Settles, SettlesShort, EndsSettling}

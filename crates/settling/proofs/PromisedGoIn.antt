@@ -22,9 +22,9 @@ use Rattle.law_acts.specs.Given.{Tells}
 use Rattle.law_acts.specs.Histories.{report_of}
 use Rattle.law_acts.specs.Cores.{Core, id_of, report_with}
 use Rattle.law_acts.specs.Decisions.{promise_of, gives_some, is_fitting, is_entry}
-use Rattle.law_agreement.specs.Steps.{System}
-use Rattle.law_agreement.specs.Packets.{IsInstruction, IsFitting}
-use Rattle.law_agreement.specs.Invariant.{Invariant}
+use Rattle.law_acts.specs.Steps.{System}
+use Rattle.law_acts.specs.Packets.{IsInstruction, IsFitting}
+use Rattle.law_acts.specs.Invariant.{Invariant}
 
 -- ---- tests that hold
 

@@ -12,7 +12,7 @@ use Rattle.state_transfer.specs.Meanings.{Meaning}
 use Rattle.next_view.specs.Candidates.{candidates}
 use Rattle.next_view.proofs.LeadersStandFirst.{candidates-are-a-view}
 use Rattle.law_acts.specs.Acts.{packet, proposed}
-use Rattle.law_agreement.proofs.KeepBySteps
+use Rattle.law_acts.proofs.KeepBySteps
 use Rattle.world_model.specs.declared.WorldEvent.TheVariants.{Deliver, Tick}
 use Rattle.world_step.specs.Pools.{first_for}
 use Rattle.world_step.specs.Worlds.{WorldModel}

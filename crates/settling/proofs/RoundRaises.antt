@@ -26,7 +26,7 @@ use Rattle.view_install.specs.Promises.{PromiseModel, answer_past, offered, is_a
 use Rattle.view_install.specs.declared.promise.OfferAnswer.TheVariants.{Accept, Ignore}
 use Rattle.law_acts.specs.Acts.{packet, proposed}
 use Rattle.law_acts.specs.Decisions.{proposal_after, promised_counter}
-use Rattle.law_agreement.proofs.KeepBySteps
+use Rattle.law_acts.proofs.KeepBySteps
 use Rattle.step_output.specs.Outputs.{Grows}
 use Rattle.step_output.specs.Steps.{who}
 use Rattle.membership.specs.InSteps.{InStep, in_step}

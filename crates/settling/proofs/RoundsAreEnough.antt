@@ -20,8 +20,8 @@ use Rattle.view_install.specs.declared.promise.OfferAnswer.TheVariants.{Accept, 
 use Rattle.trace_props.specs.Rules.{IsBelow}
 use Rattle.state_transfer.specs.Meanings.{Meaning}
 use Rattle.law_acts.specs.Acts.{proposed}
-use Rattle.law_agreement.specs.Members.{IsNotPast}
-use Rattle.law_agreement.proofs.KeepBySteps
+use Rattle.law_acts.specs.Members.{IsNotPast}
+use Rattle.law_acts.proofs.KeepBySteps
 use Rattle.membership.specs.declared.member_state.MemberState.{MemberState}
 use Rattle.membership.specs.MemberStates.{core_of as core_at, is_connected}
 use Rattle.member.specs.Members.{MemberModel}

@@ -25,8 +25,8 @@ use Rattle.law_acts.specs.Cores.{id_of}
 use Rattle.law_acts.specs.Acts.{packet, proposed, others_of, chunk_packets}
 use Rattle.law_acts.specs.Decisions.{promise_of, kept_of}
 use Rattle.wire_values.specs.Chunks.{IsTotal}
-use Rattle.law_agreement.proofs.KeepBySteps
-use Rattle.law_agreement.proofs.FinishedFlushes.{report-recorded}
+use Rattle.law_acts.proofs.KeepBySteps
+use Rattle.law_acts.proofs.FinishedFlushes.{report-recorded}
 use Rattle.step_output.specs.Outputs.{spelled}
 use Rattle.traffic.specs.declared.view_state.ViewState.{ViewState}
 use Rattle.membership.specs.declared.member_state.MemberState.{MemberState}
@@ -63,7 +63,7 @@ use Rattle.settling.proofs.StageOfReports
 use Rattle.settling.proofs.StageOfReports.{senders, begun_by}
 use Rattle.settling.proofs.StageOfInstalls
 use Rattle.settling.proofs.StageOfInstalls.{Inside, Entering, chunks_said, said-so}
-use Rattle.law_agreement.proofs.ActBegins.{others-there}
+use Rattle.law_acts.proofs.ActBegins.{others-there}
 use Rattle.traffic.specs.ViewStates.{view_of}
 
 -- ---- lists

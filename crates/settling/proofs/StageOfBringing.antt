@@ -23,8 +23,8 @@ use Rattle.law_acts.specs.Given.{Tells, chunk_at, chunks_of}
 use Rattle.law_acts.specs.Acts.{packet}
 use Rattle.trace_props.specs.State.{entry_state}
 use Rattle.law_acts.specs.Decisions.{is_entry}
-use Rattle.law_agreement.specs.Packets.{IsInstruction}
-use Rattle.law_agreement.proofs.KeepBySteps
+use Rattle.law_acts.specs.Packets.{IsInstruction}
+use Rattle.law_acts.proofs.KeepBySteps
 use Rattle.step_output.specs.declared.output.Output.{Output}
 use Rattle.step_output.specs.declared.output.Outgoing.{Outgoing}
 use Rattle.step_output.specs.Outputs.{Puts, Grows, spelled}

@@ -16,7 +16,7 @@ use Rattle.flush.specs.Flushes.{FlushModel}
 use Rattle.view_install.specs.Promises.{offered, is_accept}
 use Rattle.law_acts.specs.Histories.{Posted}
 use Rattle.law_acts.specs.Acts.{packet, proposed}
-use Rattle.law_agreement.proofs.KeepBySteps
+use Rattle.law_acts.proofs.KeepBySteps
 use Rattle.step_output.specs.declared.output.Output.{Output}
 use Rattle.step_output.specs.Outputs.{Grows}
 use Rattle.step_output.specs.Steps.{who}

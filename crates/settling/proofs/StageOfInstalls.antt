@@ -21,8 +21,8 @@ use Rattle.law_acts.specs.Cores.{id_of}
 use Rattle.law_acts.specs.Given.{chunk_at, chunks_of}
 use Rattle.law_acts.specs.Acts.{packet, proposed, chunk_packets}
 use Rattle.law_acts.specs.Decisions.{form_of, is_entry}
-use Rattle.law_agreement.specs.Packets.{IsInstruction}
-use Rattle.law_agreement.proofs.KeepBySteps
+use Rattle.law_acts.specs.Packets.{IsInstruction}
+use Rattle.law_acts.proofs.KeepBySteps
 use Rattle.step_output.specs.declared.output.Output.{Output}
 use Rattle.step_output.specs.Steps.{who}
 use Rattle.state_chunks.specs.HeldChunks.{chunk_count, is_new, is_there, has_all, given_in}

@@ -19,9 +19,9 @@ use Rattle.flush.specs.Flushes.{FlushModel, has_reported, report_from, is_awaite
 use Rattle.law_acts.specs.Histories.{Posted, report_of}
 use Rattle.law_acts.specs.Cores.{id_of, report_with}
 use Rattle.law_acts.specs.Acts.{packet, proposed, others_of}
-use Rattle.law_agreement.specs.Packets.{IsAnswer}
-use Rattle.law_agreement.proofs.KeepBySteps
-use Rattle.law_agreement.proofs.FinishedFlushes.{report-recorded}
+use Rattle.law_acts.specs.Packets.{IsAnswer}
+use Rattle.law_acts.proofs.KeepBySteps
+use Rattle.law_acts.proofs.FinishedFlushes.{report-recorded}
 use Rattle.step_output.specs.declared.output.Output.{Output}
 use Rattle.step_output.specs.Outputs.{Puts, Grows}
 use Rattle.step_output.specs.Steps.{who}

@@ -20,7 +20,7 @@ use Rattle.flush.specs.Flushes.{FlushModel, has_reported, is_awaited}
 use Rattle.view_install.specs.Promises.{PromiseModel, offered, is_accept}
 use Rattle.law_acts.specs.Acts.{proposed}
 use Rattle.law_acts.specs.Decisions.{proposal_after, promised_counter}
-use Rattle.law_agreement.proofs.KeepBySteps
+use Rattle.law_acts.proofs.KeepBySteps
 use Rattle.traffic.specs.declared.view_state.ViewState.{ViewState}
 use Rattle.membership.specs.declared.member_state.MemberState.{MemberState}
 use Rattle.membership.specs.MemberStates.{core_of as core_at, view_in, is_connected, is_complete, begun_with, anew_proposal}

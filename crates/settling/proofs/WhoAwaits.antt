@@ -23,10 +23,10 @@ use Rattle.law_acts.specs.Cores.{install_sent_to}
 use Rattle.law_acts.specs.Given.{chunk_at}
 use Rattle.law_acts.specs.Acts.{proposed}
 use Rattle.law_acts.specs.Decisions.{promise_of}
-use Rattle.law_agreement.specs.Invariant.{KeepsGiven}
-use Rattle.law_agreement.specs.Packets.{IsInstruction}
-use Rattle.law_agreement.proofs.KeepBySteps
-use Rattle.law_agreement.proofs.RegistersHoldPackets.{install-fact}
+use Rattle.law_acts.specs.Invariant.{KeepsGiven}
+use Rattle.law_acts.specs.Packets.{IsInstruction}
+use Rattle.law_acts.proofs.KeepBySteps
+use Rattle.law_acts.proofs.RegistersHoldPackets.{install-fact}
 use Rattle.step_output.specs.Outputs.{packet_in}
 use Rattle.step_output.specs.Steps.{who}
 use Rattle.membership.specs.declared.member_state.MemberState.{MemberState}

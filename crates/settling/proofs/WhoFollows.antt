@@ -23,11 +23,11 @@ use Rattle.law_acts.specs.Given.{chunk_at}
 use Rattle.trace_props.specs.State.{entry_state}
 use Rattle.law_acts.specs.Acts.{proposed}
 use Rattle.law_acts.specs.Decisions.{promise_of}
-use Rattle.law_agreement.specs.Steps.{System}
-use Rattle.law_agreement.specs.Members.{IsNotPast}
-use Rattle.law_agreement.specs.Invariant.{Invariant, ChunkFact}
-use Rattle.law_agreement.proofs.KeepTrace.{views-of}
-use Rattle.law_agreement.proofs.FirstToInstall.{none-of, unbegun}
+use Rattle.law_acts.specs.Steps.{System}
+use Rattle.law_acts.specs.Members.{IsNotPast}
+use Rattle.law_acts.specs.Invariant.{Invariant, ChunkFact}
+use Rattle.law_acts.proofs.KeepTrace.{views-of}
+use Rattle.law_acts.proofs.FirstToInstall.{none-of, unbegun}
 use Rattle.trace_props.proofs.InstallsOfRisingViews.{not-entered}
 use Rattle.trace_props.specs.declared.event.Install.{Install}
 use Rattle.trace_props.specs.Observed.{current_view, entry_of}

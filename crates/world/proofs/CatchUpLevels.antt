@@ -16,9 +16,9 @@ use Rattle.address.proofs.SameIds.{same_address-sym}
 use Rattle.law_acts.specs.Histories.{Posted}
 use Rattle.law_acts.specs.Cores.{ViewCore}
 use Rattle.law_acts.specs.Acts.{packet, others_of}
-use Rattle.law_agreement.specs.Packets.{HoldsAll}
-use Rattle.law_agreement.proofs.ActBegins.{others-there}
-use Rattle.law_agreement.proofs.KeepBySteps
+use Rattle.law_acts.specs.Packets.{HoldsAll}
+use Rattle.law_acts.proofs.ActBegins.{others-there}
+use Rattle.law_acts.proofs.KeepBySteps
 use Rattle.step_output.specs.declared.output.Output.{Output}
 use Rattle.step_output.specs.Outputs.{Puts, Grows, spelled}
 use Rattle.traffic.specs.declared.coordinator.Coordinator.{Coordinator}

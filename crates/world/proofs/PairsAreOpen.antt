@@ -9,7 +9,7 @@ use Rattle.trace_props.specs.declared.event.Event.{Event}
 use Rattle.trace_props.specs.Observed.{current_view, is_blocked}
 use Rattle.address.proofs.SameIds.{same_address-true}
 use Rattle.law_acts.specs.Cores.{Core, id_of, is_frozen}
-use Rattle.law_agreement.proofs.KeepBySteps
+use Rattle.law_acts.proofs.KeepBySteps
 use Rattle.member.specs.Members.{MemberModel}
 use Rattle.world_model.specs.Histories.{History, running}
 use Rattle.world.specs.declared.gaps.Pair.{Pair}

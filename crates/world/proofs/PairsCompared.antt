@@ -14,12 +14,12 @@ use Rattle.trace_props.specs.declared.event.Install.{Install}
 use Rattle.trace_props.specs.Observed.{delivered_in, entry_of}
 use Rattle.law_acts.specs.Words.{members_of, open_count, Tally}
 use Rattle.law_acts.specs.Cores.{Core}
-use Rattle.law_agreement.specs.Packets.{HoldsAll}
-use Rattle.law_agreement.specs.Members.{installed_as, ViewFact}
-use Rattle.law_agreement.specs.Invariant.{Invariant}
-use Rattle.law_agreement.specs.Steps.{System}
-use Rattle.law_agreement.proofs.OrderedDeliveries.{many-delivered}
-use Rattle.law_agreement.proofs.KeepTrace.{rules-of}
+use Rattle.law_acts.specs.Packets.{HoldsAll}
+use Rattle.law_acts.specs.Members.{installed_as, ViewFact}
+use Rattle.law_acts.specs.Invariant.{Invariant}
+use Rattle.law_acts.specs.Steps.{System}
+use Rattle.law_acts.proofs.OrderedDeliveries.{many-delivered}
+use Rattle.law_acts.proofs.KeepTrace.{rules-of}
 
 -- ---- lists, one of which is a beginning of the other
 

@@ -8,8 +8,8 @@ use Rattle.state_transfer.specs.Meanings.{Meaning}
 use Rattle.trace_props.specs.declared.event.Event.{Event}
 use Rattle.trace_props.specs.Observed.{current_view}
 use Rattle.law_acts.specs.Cores.{Core, id_of}
-use Rattle.law_agreement.specs.Known.{AllDelivered, Knows}
-use Rattle.law_agreement.specs.Members.{installed_as}
+use Rattle.law_acts.specs.Known.{AllDelivered, Knows}
+use Rattle.law_acts.specs.Members.{installed_as}
 use Rattle.member.specs.Members.{MemberModel, core_of}
 use Rattle.world_model.specs.Histories.{running}
 use Rattle.world_step.specs.declared.node_state.NodeState.TheVariants.{Running}

@@ -11,7 +11,7 @@ use Rattle.trace_props.specs.Observed.{has_ended}
 use Rattle.trace_props.proofs.ObservedGrow.{has_ended-now}
 use Rattle.law_acts.specs.Cores.{Core}
 use Rattle.law_acts.specs.Chains.{Acted}
-use Rattle.law_agreement.proofs.KeepBySteps
+use Rattle.law_acts.proofs.KeepBySteps
 use Rattle.member.specs.declared.error.Error.{Error}
 use Rattle.member.specs.declared.error.Error.TheVariants as error
 use Rattle.member.specs.declared.input.Input.{Input}

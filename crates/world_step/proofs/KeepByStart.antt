@@ -10,7 +10,7 @@ use Rattle.trace_props.specs.declared.event.Event.TheVariants.{Started, Crashed}
 use Rattle.trace_props.specs.Observed.{has_started, has_ended}
 use Rattle.trace_props.proofs.ObservedGrow.{has_ended-now}
 use Rattle.law_acts.specs.Cores.{Core}
-use Rattle.law_agreement.proofs.KeepBySteps
+use Rattle.law_acts.proofs.KeepBySteps
 use Rattle.world_model.specs.declared.WorldEvent.TheVariants.{Start}
 use Rattle.world_model.specs.declared.Answer.{Answer}
 use Rattle.world_model.specs.declared.Answer.TheVariants.{Done, Sent, Refused}

@@ -1,7 +1,7 @@
 -- What every world keeps, from the steps of a world alone: nothing of the code is asked.
 use Rattle.std.proofs.Common.{List, sym, subst}
 use Rattle.state_transfer.specs.Meanings.{Meaning}
-use Rattle.law_agreement.proofs.KeepBySteps
+use Rattle.law_acts.proofs.KeepBySteps
 use Rattle.world_model.specs.declared.WorldEvent.{WorldEvent}
 use Rattle.world_model.specs.Histories.{History, target_of, after}
 use Rattle.world_step.specs.Turns.{about, Carries}

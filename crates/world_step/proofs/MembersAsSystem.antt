@@ -6,7 +6,7 @@ use Rattle.address.specs.Ids.{Address, same_address}
 use Rattle.address.proofs.SameIds.{same_address-true, same_address-refl}
 use Rattle.trace_props.specs.declared.event.Event.{Event}
 use Rattle.law_acts.specs.Cores.{Core}
-use Rattle.law_agreement.specs.Steps.{System}
+use Rattle.law_acts.specs.Steps.{System}
 use Rattle.member.specs.Members.{MemberModel, core_of}
 use Rattle.law_processes.specs.Deployments.{with_member}
 use Rattle.law_processes.proofs.PostsAreSpelled.{posts_in}

@@ -7,8 +7,8 @@ use Rattle.state_transfer.specs.Meanings.{Meaning}
 use Rattle.trace_props.specs.declared.event.Event.{Event}
 use Rattle.trace_props.specs.Observed.{has_ended, current_view, sent_in, delivered_in, own}
 use Rattle.law_acts.specs.Cores.{Core, id_of}
-use Rattle.law_agreement.specs.Members.{MemberFact, ViewFact}
-use Rattle.law_agreement.proofs.OrderedDeliveries.{many-delivered}
+use Rattle.law_acts.specs.Members.{MemberFact, ViewFact}
+use Rattle.law_acts.proofs.OrderedDeliveries.{many-delivered}
 use Rattle.member.specs.declared.error.Error.{Error}
 use Rattle.address.specs.declared.refusal.Refusal.TheVariants.{Closed}
 use Rattle.member.specs.declared.error.Error.TheVariants.{Refused}
@@ -21,8 +21,8 @@ use Rattle.world_model.specs.declared.Answer.{Answer}
 use Rattle.world_step.specs.declared.node_state.NodeState.{NodeState}
 use Rattle.world_step.specs.declared.node_state.NodeState.TheVariants.{Running}
 use Rattle.world_step.specs.Invariant.{IsNodeStateOf}
-use Rattle.law_agreement.proofs.KeepBySteps
-use Rattle.law_agreement.specs.Invariant.{Kept}
+use Rattle.law_acts.proofs.KeepBySteps
+use Rattle.law_acts.specs.Invariant.{Kept}
 use Rattle.law_processes.proofs.KeepBySteps.{IsDeployment, IsHere}
 use Rattle.law_processes.proofs.PostsAreSpelled.{posts_in}
 use Rattle.world_step.specs.NodeStates.{deployment_of, member_here}

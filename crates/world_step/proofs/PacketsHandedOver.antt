@@ -10,7 +10,7 @@ use Rattle.wire.specs.Packets.{wire_refusal}
 use Rattle.state_transfer.specs.Meanings.{Meaning}
 use Rattle.trace_props.specs.declared.event.Event.{Event}
 use Rattle.law_acts.specs.Cores.{Core}
-use Rattle.law_agreement.proofs.KeepBySteps
+use Rattle.law_acts.proofs.KeepBySteps
 use Rattle.member.specs.declared.error.Error.{Error}
 use Rattle.member.specs.declared.error.Error.TheVariants.{Wire}
 use Rattle.member.specs.declared.input.Input.TheVariants.{Datagram}

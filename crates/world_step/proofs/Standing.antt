@@ -12,7 +12,7 @@ use Rattle.state_transfer.specs.Meanings.{Meaning}
 use Rattle.law_acts.specs.Histories.{Posted}
 use Rattle.law_acts.specs.Cores.{Core}
 use Rattle.law_acts.specs.Acts.{handed}
-use Rattle.law_agreement.proofs.KeepBySteps
+use Rattle.law_acts.proofs.KeepBySteps
 use Rattle.step_output.specs.declared.output.Output.{Output}
 use Rattle.step_output.specs.Outputs.{Puts, packet_in}
 use Rattle.step_output.specs.Steps.{who}
@@ -29,8 +29,8 @@ use Rattle.member.specs.Handling.{Handled, StaysSo, Replies}
 use Rattle.world_model.specs.declared.WorldEvent.TheVariants.{Deliver, Tick, MergeHint}
 use Rattle.world_model.specs.Packets.{world_group, packet_numbered}
 use Rattle.world_step.specs.declared.node_state.NodeState.TheVariants.{Running}
-use Rattle.law_agreement.specs.Packets.{PacketFact}
-use Rattle.law_agreement.specs.Invariant.{Kept}
+use Rattle.law_acts.specs.Packets.{PacketFact}
+use Rattle.law_acts.specs.Invariant.{Kept}
 use Rattle.world_step.specs.NodeStates.{bytes_of, deployment_of}
 use Rattle.world_step.specs.Turns.{OthersStand}
 use Rattle.world_step.specs.Invariant.{IsWorld}

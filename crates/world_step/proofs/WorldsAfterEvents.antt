@@ -6,7 +6,7 @@ use Rattle.state_transfer.specs.Meanings.{Meaning}
 use Rattle.trace_props.specs.declared.event.Event.{Event}
 use Rattle.trace_props.specs.State.{state_of}
 use Rattle.law_acts.specs.Cores.{Core}
-use Rattle.law_agreement.proofs.KeepBySteps
+use Rattle.law_acts.proofs.KeepBySteps
 use Rattle.law_processes.proofs.DeploymentsGoOn.{nothing-played}
 use Rattle.member.specs.Members.{MemberModel, core_of}
 use Rattle.world_model.specs.declared.WorldEvent.{WorldEvent}

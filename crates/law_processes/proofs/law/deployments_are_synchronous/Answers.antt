@@ -1,5 +1,5 @@
-use Rattle.law_agreement.proofs.KeepBySteps as steps
-use Rattle.law_agreement.proofs.KnownOfMembers.{stable-stays}
+use Rattle.law_acts.proofs.KeepBySteps as steps
+use Rattle.law_acts.proofs.KnownOfMembers.{stable-stays}
 use Rattle.law_processes.proofs.KeepBySteps.{are-synchronous}
 use Rattle.law_processes.proofs.ProcessesInOrder.{merged-are}
 use Rattle.law_processes.proofs.MembersTell.{tell-all}

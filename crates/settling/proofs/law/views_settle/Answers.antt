@@ -1,4 +1,4 @@
-use Rattle.law_agreement.proofs.KeepBySteps
+use Rattle.law_acts.proofs.KeepBySteps
 use Rattle.world_step.proofs.KeepOfWorlds.{reached-keeps}
 use Rattle.settling.proofs.SettlingsSettle.{settled, brief}
 use Rattle.settling.proofs.SettlingEnds.{ends}

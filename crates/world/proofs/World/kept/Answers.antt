@@ -6,7 +6,7 @@ use Rattle.address.specs.Ids.{Address}
 use Rattle.law_processes.specs.Replicas.{ReplicasAgree}
 use Rattle.member.specs.Members.{MemberModel, core_of}
 use Rattle.law_processes.specs.Deployments.{IsPlayed}
-use Rattle.law_agreement.specs.Known.{Knows}
+use Rattle.law_acts.specs.Known.{Knows}
 use Rattle.law_processes.proofs.DeploymentsGoOn.{of-played}
 use Rattle.world_model.specs.Packets.{world_group}
 use Rattle.world_model.specs.Faithful.{IsFaithful}
