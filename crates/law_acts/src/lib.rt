@@ -5,10 +5,10 @@
 //! Definitions, and functions that do nothing: their clauses are the laws.
 #![tactic(auto)]
 
-mod agreement;
+mod agreement_law;
 mod choices;
 mod law;
 
-pub use agreement::{agreement, stories_play};
+pub use agreement_law::{agreement, stories_play};
 pub use choices::changes_of_view;
 pub use law::acts_in_turn;

@@ -4,7 +4,7 @@ use Rattle.law_acts.proofs.CrashStoryPlays.{crash-plays}
 use Rattle.law_acts.proofs.LeaveStoryPlays.{leave-plays}
 use Rattle.law_acts.proofs.MergeStoryPlays.{merge-plays, is-short}
 use Rattle.law_acts.proofs.ChunkStoryPlays.{chunk-plays}
-use Rattle.law_acts.proofs.agreement.stories_play.Goals as goal
+use Rattle.law_acts.proofs.agreement_law.stories_play.Goals as goal
 
 pub returns-clause-crash : goal.returns-clause-crash
 returns-clause-crash g c =

@@ -1,7 +1,7 @@
 use Rattle.law_acts.proofs.KeepBySteps.{keeps-invariant, always-synchronous}
 use Rattle.law_acts.proofs.KeepByCall.{acted-keeps}
 use Rattle.law_acts.proofs.KnownOfMembers.{members-know, stable-stays}
-use Rattle.law_acts.proofs.agreement.agreement.Goals as goal
+use Rattle.law_acts.proofs.agreement_law.agreement.Goals as goal
 
 pub returns-clause-invariant : goal.returns-clause-invariant
 returns-clause-invariant g c =
