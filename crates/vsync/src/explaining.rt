@@ -21,7 +21,7 @@ fn explain_to<W: Write>(topic: Topic, writer: &mut W) -> Status
 }
 
 /// Does `explain`: prints the explanation of the topic with this code. If no topic has it, the words are wrong: the standard error says so, status 2.
-pub(crate) fn explain_code<R: Print + Eprint>(rt: &R, code: &str) -> Status
+pub(crate) fn explain_code(rt: &HostRuntime, code: &str) -> Status
     ensures known { (topic : Topic) → code.now ≡ code_of topic → EndsBy Status.Done result }
     ensures rules { (rule : Rule) → code.now ≡ rule_code rule → EndsBy Status.Done result }
     ensures unknown { ((topic : Topic) → code.now ≢ code_of topic) → result ≡ Status.Usage }

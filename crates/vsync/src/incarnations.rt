@@ -8,8 +8,7 @@ use endings::{Unreadable, read_all};
 use std::alloc::Global;
 use std::fs::{self, OpenFile};
 use std::io::{self, ErrorKind, Write};
-use std::rt::Files;
-use std::time::Clock;
+use std::rt::Clock;
 use vsync_text::number_in;
 
 /// Why a node has no next incarnation.
@@ -42,7 +41,7 @@ fn incarnation_in(text: &[u8]) -> Option<u64> {
 }
 
 // The last incarnation of a file; `None` where there is no file yet.
-fn last_in<R: Files>(rt: &R, alloc: Global, path: &str) -> Result<Option<u64>, IncarnationError> {
+fn last_in(rt: &HostRuntime, alloc: Global, path: &str) -> Result<Option<u64>, IncarnationError> {
     let mut file = match fs::open(rt, path) {
         Ok(file) => file,
         Err(error) if error.kind() == ErrorKind::NotFound => return Ok(None),
@@ -59,14 +58,14 @@ fn last_in<R: Files>(rt: &R, alloc: Global, path: &str) -> Result<Option<u64>, I
 }
 
 // Writes a text to a file so that it is there also after the machine has failed.
-fn write_synced<R: Files>(rt: &R, path: &str, text: &[u8]) -> io::Result<()> {
+fn write_synced(rt: &HostRuntime, path: &str, text: &[u8]) -> io::Result<()> {
     let mut file = fs::create(rt, path)?;
     file.write_all(text)?;
     file.sync_all()
 }
 
 // Has the names in the folder of a path be there also after the machine has failed.
-fn sync_folder<R: Files>(rt: &R, path: &str) -> io::Result<()> {
+fn sync_folder(rt: &HostRuntime, path: &str) -> io::Result<()> {
     let folder = match path.rsplit_once('/') {
         Some(("", _)) => "/",
         Some((folder, _)) => folder,
@@ -76,8 +75,8 @@ fn sync_folder<R: Files>(rt: &R, path: &str) -> io::Result<()> {
 }
 
 // Writes the incarnation of an address to a file: to a new one beside it, which then takes its place. Both the file and its name are synced before it is used.
-fn write<R: Files>(
-    rt: &R,
+fn write(
+    rt: &HostRuntime,
     alloc: Global,
     path: &str,
     address: Address,
@@ -101,7 +100,7 @@ fn write<R: Files>(
 }
 
 // The seconds of the system's clock, as an incarnation; 0 where there is no clock, or it is past all incarnations.
-fn clock_of<R: Clock>(rt: &R) -> u64 {
+fn clock_of(rt: &HostRuntime) -> u64 {
     match rt.since_1970() {
         Ok(time) if time.as_secs() <= GREATEST_INCARNATION => time.as_secs(),
         _ => 0,
@@ -138,8 +137,8 @@ pub(crate) struct Start {
 /// The address of a node's next incarnation, which is written to its file and synced: one more than the last one, but no less than that of the address that is given, and that one
 /// where there is no file yet. Where it may go by the clock, and there is no file or one with another text, it is no less than the seconds of the system's clock either. After an
 /// error nothing was written, or the file has the last one or the next.
-pub(crate) fn next_start<R: Files + Clock>(
-    rt: &R,
+pub(crate) fn next_start(
+    rt: &HostRuntime,
     alloc: Global,
     path: &str,
     least: Address,
@@ -166,7 +165,7 @@ pub(crate) fn next_start<R: Files + Clock>(
 }
 
 /// The address of a node's next incarnation where no file keeps it: no less than the one that is given, nor than the seconds of the system's clock.
-pub(crate) fn start_by_clock<R: Clock>(rt: &R, least: Address) -> Address
+pub(crate) fn start_by_clock(rt: &HostRuntime, least: Address) -> Address
     ensures node { result.node ≡ least.node }
     ensures least { least.incarnation ≤ result.incarnation }
 {

@@ -7,11 +7,10 @@ use crate::programs::bytes_at;
 use crate::udp_programs::refuse;
 use endings::Status;
 use frames::{LEAST_KEY, MOST_KEY};
-use std::rt::Files;
 use udp_net::SettingsError;
 
 // The key of a file: all of its bytes; or the status with which the program ends.
-fn key_in<R: Files + Print + Eprint + AllocGlobal>(rt: &R, path: &str) -> Result<Vec<u8>, Status>
+fn key_in(rt: &HostRuntime, path: &str) -> Result<Vec<u8>, Status>
     ensures key { IfOk result (λ key. (16 ≤ length key.items) × (length key.items ≤ 1024)) }
     ensures err { IfErr result EndsWithout }
 {
@@ -30,10 +29,7 @@ fn key_in<R: Files + Print + Eprint + AllocGlobal>(rt: &R, path: &str) -> Result
 
 /// The key of the file of a path, if there is one: 16 to 1,024 bytes, all that the file has. Else the status with which the program ends: refused with 50 where the file
 /// has fewer or more bytes.
-pub(crate) fn key_of<R: Files + Print + Eprint + AllocGlobal>(
-    rt: &R,
-    path: Option<&str>,
-) -> Result<Option<Vec<u8>>, Status>
+pub(crate) fn key_of(rt: &HostRuntime, path: Option<&str>) -> Result<Option<Vec<u8>>, Status>
     ensures key { IfOk result (λ k. IfSome k (λ key. (16 ≤ length key.items) × (length key.items ≤ 1024))) }
     ensures err { IfErr result EndsWithout }
 {

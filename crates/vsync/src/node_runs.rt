@@ -17,11 +17,9 @@ use lock_table::LockTable;
 use replicated_map::ReplicatedMap;
 use std::cell::Cell;
 use std::io::Write;
-use std::net::{Net, SocketAddr};
+use std::net::SocketAddr;
 use std::os::fd::RawFd;
-use std::random::RandomSource;
-use std::rt::Files;
-use std::time::{Clock, Duration};
+use std::time::Duration;
 use std::{io, thread};
 use udp_net::{Hosts, Settings};
 use udp_runs::{LineTrouble, Lines, Loopback, MemberPlan, NodeManner, Tally, run_member};
@@ -79,8 +77,8 @@ fn manner_of(options: &MemberOptions<'_>) -> NodeManner {
 }
 
 // The address with which a member starts: by its file where there is one, else by the clock where it finds its group; or the status with which the program ends.
-fn start_of<R: Files + Clock + Print + Eprint + AllocGlobal>(
-    rt: &R,
+fn start_of(
+    rt: &HostRuntime,
     least: Address,
     options: &MemberOptions<'_>,
 ) -> Result<Address, Status> {
@@ -109,7 +107,7 @@ fn start_of<R: Files + Clock + Print + Eprint + AllocGlobal>(
 }
 
 // Says, on the standard error, what a member did that has ended, where it is asked for, and why it ended where that was not to be.
-fn report<R: Eprint>(rt: &R, tally: &Tally, stats: bool) {
+fn report(rt: &HostRuntime, tally: &Tally, stats: bool) {
     match tally.trouble {
         Some(LineTrouble::NoLines) => {
             let _ = eprintln!(rt; "vsync: the lines to send cannot be read any more");
@@ -150,8 +148,8 @@ fn begins_again(status: Status, tally: &Tally, options: &MemberOptions<'_>) -> b
 }
 
 // The address of the member with which a node begins again: its next incarnation; or the status with which the program ends.
-fn next_of<R: Files + Clock + Print + Eprint + AllocGlobal>(
-    rt: &R,
+fn next_of(
+    rt: &HostRuntime,
     address: Address,
     options: &MemberOptions<'_>,
 ) -> Result<Address, Status> {
@@ -165,13 +163,7 @@ fn next_of<R: Files + Clock + Print + Eprint + AllocGlobal>(
 }
 
 // Says why a node begins again. Where it gave up its address it does so at once; else it waits, twice as long each time in a row. It answers how often that was.
-fn pause<R: Clock + Eprint>(
-    rt: &R,
-    address: Address,
-    status: Status,
-    tally: &Tally,
-    pauses: u32,
-) -> u32 {
+fn pause(rt: &HostRuntime, address: Address, status: Status, tally: &Tally, pauses: u32) -> u32 {
     if status == Status::Done && !tally.has_ended {
         let _ = eprintln!(rt;
             "vsync: {address} gives way to a greater view: the node begins again"
@@ -190,11 +182,11 @@ fn pause<R: Clock + Eprint>(
 }
 
 // How the program ends after the last member of a node.
-fn end_of<R: Files + Net + RandomSource + Clock + Eprint>(
-    rt: &R,
+fn end_of(
+    rt: &HostRuntime,
     status: Status,
     tally: &Tally,
-    machine: &Watched<'_, '_, R>,
+    machine: &Watched<'_, '_>,
     is_unwritten: bool,
 ) -> Status {
     if tally.trouble.is_some() {
@@ -213,12 +205,12 @@ fn end_of<R: Files + Net + RandomSource + Clock + Eprint>(
 }
 
 // This machine, for a node that runs so.
-fn machine_of<'x, 'y, R: AllocGlobal>(
-    rt: &'x R,
+fn machine_of<'x, 'y>(
+    rt: &'x HostRuntime,
     run: NodeRun<'x, 'y>,
     other: Option<RawFd>,
     stable: &'x Stable,
-) -> Watched<'x, 'y, R> {
+) -> Watched<'x, 'y> {
     let mut loopback = Loopback::new(rt.alloc(), rt, run.settings, run.hosts);
     if run.options.any_source {
         loopback.hear_from_anywhere();
@@ -242,19 +234,13 @@ fn machine_of<'x, 'y, R: AllocGlobal>(
 
 // Runs a member of a node on a machine, and says what is to be said of it on the standard error. Answers the plan of the next, which has what this one did not say
 // of what is sent once; or the status with which the program ends.
-fn run_one<
-    'a,
-    A: Application,
-    L: Lines,
-    R: Files + Net + RandomSource + Clock + Print + Eprint + AllocGlobal,
-    W: Write + Drop,
->(
-    rt: &R,
+fn run_one<'a, A: Application, L: Lines, W: Write + Drop>(
+    rt: &HostRuntime,
     run: NodeRun<'_, '_>,
     plan: &MemberPlan<'a>,
     pauses: &mut u32,
     lines: &mut L,
-    machine: &mut Watched<'_, '_, R>,
+    machine: &mut Watched<'_, '_>,
     output: &mut Output<W>,
 ) -> Result<MemberPlan<'a>, Status> {
     let options = run.options;
@@ -282,23 +268,18 @@ fn run_one<
 }
 
 // Runs the members of a node on a machine, one after another.
-fn run_members<
-    A: Application,
-    L: Lines,
-    R: Files + Net + RandomSource + Clock + Print + Eprint + AllocGlobal,
-    W: Write + Drop,
->(
-    rt: &R,
+fn run_members<A: Application, L: Lines, W: Write + Drop>(
+    rt: &HostRuntime,
     run: NodeRun<'_, '_>,
     plan: &MemberPlan<'_>,
     lines: &mut L,
-    machine: &mut Watched<'_, '_, R>,
+    machine: &mut Watched<'_, '_>,
     output: &mut Output<W>,
 ) -> Status {
     let mut plan = MemberPlan { ..*plan };
     let mut pauses = 0;
     for _ in 0..u64::MAX {
-        match run_one::<A, _, _, _>(rt, run, &plan, &mut pauses, lines, machine, output) {
+        match run_one::<A, _, _>(rt, run, &plan, &mut pauses, lines, machine, output) {
             Ok(next) => plan = next,
             Err(status) => return status,
         }
@@ -307,12 +288,8 @@ fn run_members<
 }
 
 // Runs the members of a node, each with what it keeps.
-fn run_with<
-    A: Application,
-    L: Lines,
-    R: Files + Net + RandomSource + Clock + Print + Eprint + AllocGlobal,
->(
-    rt: &R,
+fn run_with<A: Application, L: Lines>(
+    rt: &HostRuntime,
     run: NodeRun<'_, '_>,
     plan: &MemberPlan<'_>,
     lines: &mut L,
@@ -322,12 +299,12 @@ fn run_with<
     let mut machine = machine_of(rt, run, other, stable);
     let mut lines = KeptLines::new(rt.alloc(), lines);
     let mut output = Output::new(io::writer(rt));
-    run_members::<A, _, _, _>(rt, run, plan, &mut lines, &mut machine, &mut output)
+    run_members::<A, _, _>(rt, run, plan, &mut lines, &mut machine, &mut output)
 }
 
 // Runs the node with what its options say that it keeps.
-fn run_lines<L: Lines, R: Files + Net + RandomSource + Clock + Print + Eprint + AllocGlobal>(
-    rt: &R,
+fn run_lines<L: Lines>(
+    rt: &HostRuntime,
     run: NodeRun<'_, '_>,
     plan: &MemberPlan<'_>,
     lines: &mut L,
@@ -335,10 +312,10 @@ fn run_lines<L: Lines, R: Files + Net + RandomSource + Clock + Print + Eprint + 
     stable: &Stable,
 ) -> Status {
     match run.options.flags.kept() {
-        Kept::Chat => run_with::<ChatLog, L, R>(rt, run, plan, lines, other, stable),
-        Kept::LongChat => run_with::<LongChat, L, R>(rt, run, plan, lines, other, stable),
-        Kept::Map => run_with::<ReplicatedMap, L, R>(rt, run, plan, lines, other, stable),
-        Kept::Locks => run_with::<LockTable, L, R>(rt, run, plan, lines, other, stable),
+        Kept::Chat => run_with::<ChatLog, L>(rt, run, plan, lines, other, stable),
+        Kept::LongChat => run_with::<LongChat, L>(rt, run, plan, lines, other, stable),
+        Kept::Map => run_with::<ReplicatedMap, L>(rt, run, plan, lines, other, stable),
+        Kept::Locks => run_with::<LockTable, L>(rt, run, plan, lines, other, stable),
     }
 }
 
@@ -368,8 +345,8 @@ fn keeps_of(options: &MemberOptions<'_>) -> Keeps {
 }
 
 // Runs the node with a desk that answers requests at an address.
-fn run_http<R: Files + Net + RandomSource + Clock + Print + Eprint + AllocGlobal>(
-    rt: &R,
+fn run_http(
+    rt: &HostRuntime,
     run: NodeRun<'_, '_>,
     plan: &MemberPlan<'_>,
     at: SocketAddr,
@@ -392,10 +369,12 @@ fn run_http<R: Files + Net + RandomSource + Clock + Print + Eprint + AllocGlobal
 }
 
 /// Starts the node of a plan with its incarnation, and runs it with these lines.
-pub(crate) fn run_from<
-    L: Lines,
-    R: Files + Net + RandomSource + Clock + Print + Eprint + AllocGlobal,
->(rt: &R, run: NodeRun<'_, '_>, plan: &MemberPlan<'_>, lines: &mut L) -> Status {
+pub(crate) fn run_from<L: Lines>(
+    rt: &HostRuntime,
+    run: NodeRun<'_, '_>,
+    plan: &MemberPlan<'_>,
+    lines: &mut L,
+) -> Status {
     let options = run.options;
     let rounds = if options.forever {
         u64::MAX

@@ -14,7 +14,6 @@ use lock_table::LockTable;
 use replicated_map::ReplicatedMap;
 use std::alloc::Global;
 use std::io::{self, Write};
-use std::rt::Files;
 use vsync_words::{Kept, ProcessesWords};
 
 /// Checks texts, to a writer, whose members keep this.
@@ -30,10 +29,7 @@ fn check_texts<W: Write>(alloc: Global, kept: Kept, texts: &[Vec<u8>], writer: &
 }
 
 // The text of a path, where `-` is the standard input; or the status with which the program ends.
-fn text_at<R: Files + Input + Print + Eprint + AllocGlobal>(
-    rt: &R,
-    path: &str,
-) -> Result<Vec<u8>, Status>
+fn text_at(rt: &HostRuntime, path: &str) -> Result<Vec<u8>, Status>
     ensures { IfErr result (EndsBy Status.Memory) }
 {
     if path == "-" {
@@ -44,10 +40,7 @@ fn text_at<R: Files + Input + Print + Eprint + AllocGlobal>(
 }
 
 // The texts of paths, in their order; or the status with which the program ends, by the first that is not read.
-fn texts_at<R: Files + Input + Print + Eprint + AllocGlobal>(
-    rt: &R,
-    paths: &[&str],
-) -> Result<Vec<Vec<u8>>, Status>
+fn texts_at(rt: &HostRuntime, paths: &[&str]) -> Result<Vec<Vec<u8>>, Status>
     ensures { IfErr result (EndsBy Status.Memory) }
 {
     let mut texts = Vec::new(rt.alloc());
@@ -64,10 +57,7 @@ fn texts_at<R: Files + Input + Print + Eprint + AllocGlobal>(
 }
 
 /// Does `check --processes`: reads each text, one after another, and checks them as one trace. A mistake in its words is said on the standard error, with status 2.
-pub(crate) fn check_processes<R: Files + Input + Print + Eprint + AllocGlobal>(
-    rt: &R,
-    words: &ProcessesWords<'_>,
-) -> Status
+pub(crate) fn check_processes(rt: &HostRuntime, words: &ProcessesWords<'_>) -> Status
     ensures { flags_keep_two words.now.flags ≡ true → result ≡ Status.Usage }
 {
     if words.flags.are_two() {

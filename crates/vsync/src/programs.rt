@@ -20,15 +20,11 @@ use lock_table::LockTable;
 use replicated_map::ReplicatedMap;
 use std::alloc::Global;
 use std::io::{Read, Write};
-use std::net::Net;
-use std::random::RandomSource;
-use std::rt::{Env, Files};
-use std::time::Clock;
 use std::{env, fs, io};
 use vsync_words::{Invocation, Kept, Task, TextCommand, command};
 
 /// Says on the standard error why the program ends with status 5.
-pub(crate) fn complain<R: Eprint>(rt: &R, what: &str, path: &str) -> Status
+pub(crate) fn complain(rt: &HostRuntime, what: &str, path: &str) -> Status
     ensures { result ≡ Status.Outside }
 {
     let _ = eprintln!(rt; "vsync: {what} {path}");
@@ -39,7 +35,7 @@ pub(crate) fn complain<R: Eprint>(rt: &R, what: &str, path: &str) -> Status
 pub(crate) const MAP_AND_LOCKS: &str = "the argument '--map' cannot be used with '--locks'";
 
 /// Says what is wrong with words that clap took.
-pub(crate) fn mistaken<R: Eprint>(rt: &R, what: &str) -> Status
+pub(crate) fn mistaken(rt: &HostRuntime, what: &str) -> Status
     ensures { result ≡ Status.Usage }
 {
     let _ = eprintln!(rt; "error: {what}\n\nFor more information, try '--help'.");
@@ -47,7 +43,7 @@ pub(crate) fn mistaken<R: Eprint>(rt: &R, what: &str) -> Status
 }
 
 /// Ends for want of memory.
-pub(crate) fn without_memory<R: Print>(rt: &R) -> Status
+pub(crate) fn without_memory(rt: &HostRuntime) -> Status
     ensures { EndsBy Status.Memory result }
 {
     if println!(rt; "# memory").is_err() {
@@ -57,7 +53,7 @@ pub(crate) fn without_memory<R: Print>(rt: &R) -> Status
 }
 
 /// Says why the outside answered an error: for want of memory, or it failed.
-pub(crate) fn failed<R: Print + Eprint>(rt: &R, error: &io::Error, what: &str, path: &str) -> Status
+pub(crate) fn failed(rt: &HostRuntime, error: &io::Error, what: &str, path: &str) -> Status
     ensures { EndsBy Status.Memory result }
 {
     if error.kind() == io::ErrorKind::OutOfMemory {
@@ -114,10 +110,7 @@ fn is_drawing(task: Task) -> bool {
 }
 
 /// The bytes of the file of a path; or the status with which the program ends.
-pub(crate) fn bytes_at<R: Files + Print + Eprint + AllocGlobal>(
-    rt: &R,
-    path: &str,
-) -> Result<Vec<u8>, Status>
+pub(crate) fn bytes_at(rt: &HostRuntime, path: &str) -> Result<Vec<u8>, Status>
     ensures { IfErr result (EndsBy Status.Memory) }
 {
     match fs::open(rt, path) {
@@ -130,8 +123,8 @@ pub(crate) fn bytes_at<R: Files + Print + Eprint + AllocGlobal>(
 }
 
 /// All that a reader has left; or the status with which the program ends.
-pub(crate) fn bytes_of<I: Read, R: Print + Eprint + AllocGlobal>(
-    rt: &R,
+pub(crate) fn bytes_of<I: Read>(
+    rt: &HostRuntime,
     reader: &mut I,
     name: &str,
 ) -> Result<Vec<u8>, Status>
@@ -145,7 +138,7 @@ pub(crate) fn bytes_of<I: Read, R: Print + Eprint + AllocGlobal>(
 }
 
 /// Says on the standard error which of both failed: the output, or else what is read.
-pub(crate) fn outside<R: Eprint>(rt: &R, is_unwritten: bool, path: &str) -> Status
+pub(crate) fn outside(rt: &HostRuntime, is_unwritten: bool, path: &str) -> Status
     ensures { result ≡ Status.Outside }
 {
     if is_unwritten {
@@ -155,8 +148,8 @@ pub(crate) fn outside<R: Eprint>(rt: &R, is_unwritten: bool, path: &str) -> Stat
 }
 
 /// What a command's status says where it ended outside, on the standard error; and that memory was refused, where it draws: no picture has a line for that.
-fn explained<R: Eprint>(
-    rt: &R,
+fn explained(
+    rt: &HostRuntime,
     status: Status,
     drawing: bool,
     is_unwritten: bool,
@@ -174,10 +167,7 @@ fn explained<R: Eprint>(
 }
 
 /// Does a command on the file of its path; `-` is the standard input. A mistake in its words is said on the standard error, with status 2.
-fn answer_at<R: Files + Input + Print + Eprint + AllocGlobal>(
-    rt: &R,
-    command: TextCommand<'_>,
-) -> Status
+fn answer_at(rt: &HostRuntime, command: TextCommand<'_>) -> Status
     ensures { flags_keep_two command.entry.flags ≡ true → result ≡ Status.Usage }
 {
     if command.flags.are_two() {
@@ -203,7 +193,7 @@ fn answer_at<R: Files + Input + Print + Eprint + AllocGlobal>(
 }
 
 /// Prints what clap says of words that are no command, or the help that was asked for.
-fn explain<R: Print + Eprint>(rt: &R, error: Error) -> Status
+fn explain(rt: &HostRuntime, error: Error) -> Status
     ensures memory { kind_of error ≡ ErrorKind.OutOfMemory → EndsBy Status.Memory result }
     ensures help { (kind_of error ≡ ErrorKind.DisplayHelp) ⊎ (kind_of error ≡ ErrorKind.DisplayVersion)
         → EndsBy Status.Done result }
@@ -225,10 +215,7 @@ fn explain<R: Print + Eprint>(rt: &R, error: Error) -> Status
 }
 
 /// Does what the words of a command line ask for, or says why they are no command.
-fn obey<R: Files + Input + Net + RandomSource + Clock + Print + Eprint + AllocGlobal>(
-    rt: &R,
-    words: &[String],
-) -> Status
+fn obey(rt: &HostRuntime, words: &[String]) -> Status
     ensures { let faults = faults_of (map string_bytes words.now) in
         1 < length words.now → faults ≢ [] → EndsByFault faults result }
 {
@@ -243,9 +230,7 @@ fn obey<R: Files + Input + Net + RandomSource + Clock + Print + Eprint + AllocGl
 }
 
 /// The program `vsync`: does what its words ask for, and answers the exit status (docs/CLI.md).
-pub fn program<R: Env + Files + Input + Net + RandomSource + Clock + Print + Eprint + AllocGlobal>(
-    rt: &R,
-) -> Status {
+pub fn program(rt: &HostRuntime) -> Status {
     let mut words = Vec::new(rt.alloc());
     match env::args(rt) {
         Ok(all) => {

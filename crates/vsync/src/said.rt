@@ -5,7 +5,6 @@ ghost use Rattle.std.specs.Prelude.{None};
 use std::alloc::{AllocError, Global};
 use std::fs;
 use std::io::{self, Read, Seek, SeekFrom};
-use std::rt::Files;
 use std::time::Duration;
 use udp_runs::{Lines, LinesError};
 
@@ -17,15 +16,15 @@ const LOOKS: u64 = 10;
 
 /// The lines that are appended to a file. It is looked for by its path each time, so that it is known when it is there no longer; where it has become shorter, it is read from its
 /// beginning.
-pub(crate) struct Appended<'a, R> {
-    rt: &'a R,
+pub(crate) struct Appended<'a> {
+    rt: &'a HostRuntime,
     path: &'a str,
     // How much of the file was read, or was there before.
     past: u64,
     buffer: Vec<u8>,
 }
 
-impl<R> Drop for Appended<'_, R> {
+impl Drop for Appended<'_> {
     fn drop(self) {
         let Appended {
             rt: _,
@@ -36,9 +35,13 @@ impl<R> Drop for Appended<'_, R> {
     }
 }
 
-impl<'a, R: Files> Appended<'a, R> {
+impl<'a> Appended<'a> {
     /// The lines that are appended to the file of a path from now on.
-    pub(crate) fn new(alloc: Global, rt: &'a R, path: &'a str) -> io::Result<Appended<'a, R>> {
+    pub(crate) fn new(
+        alloc: Global,
+        rt: &'a HostRuntime,
+        path: &'a str,
+    ) -> io::Result<Appended<'a>> {
         let buffer = vec![in alloc; 0u8; PIECE]?;
         let _can_be_read = fs::open(rt, path)?;
         let past = fs::metadata(rt, path)?.len();
@@ -65,7 +68,7 @@ impl<'a, R: Files> Appended<'a, R> {
     }
 }
 
-impl<'a, R: Files> Lines for Appended<'a, R> {
+impl<'a> Lines for Appended<'a> {
     ghost came = { λ _. None };
 
     fn more(&mut self, text: &mut Vec<u8>) -> Result<(), LinesError> {

@@ -16,17 +16,13 @@ use address::{Address, Node};
 use chat_log::ChatLog;
 use endings::Status;
 use std::io::Read;
-use std::net::Net;
-use std::random::RandomSource;
-use std::rt::Files;
-use std::time::Clock;
 use std::{fs, io};
 use udp_net::{BindError, Hosts, Settings, SettingsError, settings};
 use udp_runs::{Loopback, MemberPlan, NoLines, run_udp};
 use vsync_words::{MemberOptions, MemberWords, UdpWords};
 
 /// Says that the input is refused as a whole.
-pub(crate) fn refuse<R: Print>(rt: &R, number: u8) -> Status
+pub(crate) fn refuse(rt: &HostRuntime, number: u8) -> Status
     ensures { EndsBy Status.Refused result }
 {
     if println!(rt; "fault 0 {number}").is_err() {
@@ -36,7 +32,7 @@ pub(crate) fn refuse<R: Print>(rt: &R, number: u8) -> Status
 }
 
 // The settings of a file's bytes; or the status with which the program ends.
-fn settings_in<R: Print + AllocGlobal>(rt: &R, bytes: &[u8]) -> Result<Settings, Status>
+fn settings_in(rt: &HostRuntime, bytes: &[u8]) -> Result<Settings, Status>
     ensures { GivesSettings bytes.now result }
 {
     let Ok(text) = str::from_utf8(bytes) else {
@@ -50,10 +46,7 @@ fn settings_in<R: Print + AllocGlobal>(rt: &R, bytes: &[u8]) -> Result<Settings,
 }
 
 // The settings of the file of a path; or the status with which the program ends.
-fn settings_at<R: Files + Print + Eprint + AllocGlobal>(
-    rt: &R,
-    path: &str,
-) -> Result<Settings, Status>
+fn settings_at(rt: &HostRuntime, path: &str) -> Result<Settings, Status>
     ensures { IfErr result EndsWithout }
 {
     match bytes_at(rt, path) {
@@ -63,8 +56,8 @@ fn settings_at<R: Files + Print + Eprint + AllocGlobal>(
 }
 
 // What a command's status says where it ended outside, on the standard error; but not where the text says that a socket could not be bound.
-pub(crate) fn ended<R: Eprint>(
-    rt: &R,
+pub(crate) fn ended(
+    rt: &HostRuntime,
     status: Status,
     is_unbound: bool,
     is_unwritten: bool,
@@ -79,8 +72,8 @@ pub(crate) fn ended<R: Eprint>(
 }
 
 // Runs the script of a reader.
-fn run_script_of<I: Read, R: Net + RandomSource + Clock + Print + Eprint + AllocGlobal>(
-    rt: &R,
+fn run_script_of<I: Read>(
+    rt: &HostRuntime,
     settings: &Settings,
     reader: &mut I,
     path: &str,
@@ -99,10 +92,7 @@ fn run_script_of<I: Read, R: Net + RandomSource + Clock + Print + Eprint + Alloc
 }
 
 /// Does `udp`: reads the settings, and runs the script; `-` is the standard input.
-pub(crate) fn udp<R: Files + Input + Net + RandomSource + Clock + Print + Eprint + AllocGlobal>(
-    rt: &R,
-    words: &UdpWords<'_>,
-) -> Status {
+pub(crate) fn udp(rt: &HostRuntime, words: &UdpWords<'_>) -> Status {
     let settings = match settings_at(rt, words.config) {
         Ok(settings) => settings,
         Err(status) => return status,
@@ -121,8 +111,8 @@ pub(crate) fn udp<R: Files + Input + Net + RandomSource + Clock + Print + Eprint
 }
 
 // The hosts of the options; or the status with which the program ends.
-fn hosts_of<R: Net + Print + Eprint + AllocGlobal>(
-    rt: &R,
+fn hosts_of(
+    rt: &HostRuntime,
     options: &MemberOptions<'_>,
     peers: &[(Node, &str)],
 ) -> Result<Hosts, Status> {
@@ -141,7 +131,7 @@ fn hosts_of<R: Net + Print + Eprint + AllocGlobal>(
 }
 
 // Says where the settings do not list the node of the contact.
-fn warn<R: Eprint>(rt: &R, settings: &Settings, contact: Option<Address>) {
+fn warn(rt: &HostRuntime, settings: &Settings, contact: Option<Address>) {
     let Some(contact) = contact else {
         return;
     };
@@ -152,8 +142,8 @@ fn warn<R: Eprint>(rt: &R, settings: &Settings, contact: Option<Address>) {
 }
 
 // Runs the node of a plan: with the lines of a file where its options name one.
-fn run_plan<R: Files + Net + RandomSource + Clock + Print + Eprint + AllocGlobal>(
-    rt: &R,
+fn run_plan(
+    rt: &HostRuntime,
     settings: &Settings,
     plan: &MemberPlan<'_>,
     options: &MemberOptions<'_>,
@@ -179,8 +169,8 @@ fn run_plan<R: Files + Net + RandomSource + Clock + Print + Eprint + AllocGlobal
 }
 
 // Reads the settings, finds the hosts, and runs the node.
-fn run_at<R: Files + Net + RandomSource + Clock + Print + Eprint + AllocGlobal>(
-    rt: &R,
+fn run_at(
+    rt: &HostRuntime,
     words: &MemberWords<'_>,
     plan: &MemberPlan<'_>,
     peers: &[(Node, &str)],
@@ -196,10 +186,7 @@ fn run_at<R: Files + Net + RandomSource + Clock + Print + Eprint + AllocGlobal>(
 }
 
 /// Does `member`: reads the settings, and runs the node. A mistake in its words is said on the standard error, with status 2.
-pub(crate) fn member<R: Files + Net + RandomSource + Clock + Print + Eprint + AllocGlobal>(
-    rt: &R,
-    words: &MemberWords<'_>,
-) -> Status
+pub(crate) fn member(rt: &HostRuntime, words: &MemberWords<'_>) -> Status
     ensures texts { (e : MemberMistake) → (contact_of (text_of words.now.contact) ≡ Err e) ⊎ (payload_of (text_of words.now.send) ≡ Err e)
         → result ≡ Status.Usage }
     ensures keeps { keeps_two words.now ≡ true → result ≡ Status.Usage }

@@ -7,18 +7,16 @@ use crate::http_lines::Stable;
 use address::{Address, Node, ViewId};
 use std::alloc::{AllocError, Global};
 use std::fs;
-use std::random::RandomSource;
-use std::rt::Files;
-use std::time::{Clock, Duration};
+use std::time::Duration;
 use udp_net::{BindError, Net, NodePort};
 use udp_runs::{Loopback, NodeMachine, NodeNet, NodeStatus, Notice, Tally};
 use vsync_text::{Part, put, put_address, put_number, put_parts};
 
 /// This machine, which says on the standard error what whoever looks after a node should know, and writes the node's status to a file where it is given one (docs/CLI.md, "Nodes over UDP").
-pub(crate) struct Watched<'a, 'b, R> {
-    rt: &'a R,
+pub(crate) struct Watched<'a, 'b> {
+    rt: &'a HostRuntime,
     alloc: Global,
-    machine: Loopback<'a, R>,
+    machine: Loopback<'a, HostRuntime>,
     // The nodes of the settings.
     nodes: &'a [NodePort],
     // Where the status is written, and whether it was said that it cannot be.
@@ -30,7 +28,7 @@ pub(crate) struct Watched<'a, 'b, R> {
     stable: &'a Stable,
 }
 
-impl<R> Drop for Watched<'_, '_, R> {
+impl Drop for Watched<'_, '_> {
     fn drop(self) {
         let Watched {
             rt: _,
@@ -148,24 +146,24 @@ fn status_text(
 }
 
 // Writes a text to a file: to a new one beside it, which then takes its place. Answers whether it is there.
-fn replace<R: Files>(rt: &R, alloc: Global, path: &str, text: &[u8]) -> bool {
+fn replace(rt: &HostRuntime, alloc: Global, path: &str, text: &[u8]) -> bool {
     let Ok(new) = format!(in alloc; "{path}.new") else {
         return false;
     };
     fs::write(rt, new.as_str(), text).is_ok() && fs::rename(rt, new.as_str(), path).is_ok()
 }
 
-impl<'a, 'b, R> Watched<'a, 'b, R> {
+impl<'a, 'b> Watched<'a, 'b> {
     /// This machine, with the nodes of the settings.
     pub(crate) fn new(
-        rt: &'a R,
+        rt: &'a HostRuntime,
         alloc: Global,
-        machine: Loopback<'a, R>,
+        machine: Loopback<'a, HostRuntime>,
         nodes: &'a [NodePort],
         status: Option<&'b str>,
         quorum: u16,
         stable: &'a Stable,
-    ) -> Watched<'a, 'b, R> {
+    ) -> Watched<'a, 'b> {
         Watched {
             rt,
             alloc,
@@ -189,8 +187,7 @@ impl<'a, 'b, R> Watched<'a, 'b, R> {
     }
 }
 
-impl<'a, 'b, R: Files + std::net::Net + RandomSource + Clock + Eprint> NodeMachine
-    for Watched<'a, 'b, R> {
+impl<'a, 'b> NodeMachine for Watched<'a, 'b> {
     type Net = NodeNet;
 
     ghost gone = { λ _. None };
