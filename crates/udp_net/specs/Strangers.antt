@@ -1,6 +1,5 @@
 -- Which datagrams are from the node that they name.
-use Rattle.std.specs.Prelude.{◌≡◌, ⊤, ℕ, Bool, true, false, List, [], ◌∷◌, ◌⊎◌, ◌||◌, nat_eq}
-use Rattle.std.specs.Bool.{MatchBool}
+use Rattle.std.specs.Prelude.{◌≡◌, ℕ, Bool, true, false, Option, None, Some, List, [], ◌∷◌, ◌⊎◌, if◌then◌else◌}
 use Rattle.std.specs.Net.Socket.{socket_ip, socket_port}
 use Rattle.std.specs.declared.net.socket_addr.SocketAddr.{SocketAddr}
 use Rattle.udp_net.specs.Bursts.{LaneModel}
@@ -20,18 +19,19 @@ ComesFrom from l = IsSameHost (socket_ip from) l.host × (socket_port from ≡ l
 abbrev pub ComesPlainlyFrom : SocketAddr → LaneModel → Type 0
 ComesPlainlyFrom from l = (socket_ip from ≡ l.host) × (socket_port from ≡ l.port.port)
 
--- a way leads to the node, and a datagram comes from the host and the port there, unless it may come from anywhere
-abbrev pub IsFrom : Bool → ℕ → SocketAddr → LaneModel → Type 0
-IsFrom is_open node from l = (l.port.node ≡ node) × MatchBool is_open ⊤ (ComesFrom from l)
+-- a way leads to the node, and a datagram comes from the host and the port there, if it is known where it comes from
+abbrev pub IsFrom : ℕ → Option SocketAddr → LaneModel → Type 0
+IsFrom node None l = l.port.node ≡ node
+IsFrom node (Some from) l = (l.port.node ≡ node) × ComesFrom from l
 
 -- the same, where the host is written alike
-abbrev pub IsPlainlyFrom : Bool → ℕ → SocketAddr → LaneModel → Type 0
-IsPlainlyFrom is_open node from l = (l.port.node ≡ node) × MatchBool is_open ⊤ (ComesPlainlyFrom from l)
+abbrev pub IsPlainlyFrom : ℕ → Option SocketAddr → LaneModel → Type 0
+IsPlainlyFrom node None l = l.port.node ≡ node
+IsPlainlyFrom node (Some from) l = (l.port.node ≡ node) × ComesPlainlyFrom from l
 
--- one of the ways leads to a node
-abbrev pub is_listed : ℕ → List LaneModel → Bool
-is_listed node [] = false
-is_listed node (l ∷ lanes) = nat_eq l.port.node node || is_listed node lanes
+-- where a datagram comes from, unless it may come from anywhere
+abbrev pub source_of : Bool → SocketAddr → Option SocketAddr
+source_of is_open from = if is_open then None else Some from
 
 -- which datagrams count as strange, and which as sieved
 abbrev pub is_strange : Verdict → Bool

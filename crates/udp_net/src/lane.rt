@@ -130,12 +130,15 @@ impl Lane {
         from.port() == self.port.port && is_same_host(from.ip(), self.host)
     }
 
-    // Whether it leads to a node, and a datagram that names the node is from it: it comes from there, or may come from anywhere.
-    pub(crate) fn is_way_of(&self, is_open: bool, node: Node, from: SocketAddr) -> bool
-        ensures same { IsPlainlyFrom is_open node from self.now → IsTrue result }
-        ensures only { IsTrue result → IsFrom is_open node from self.now }
+    // Whether it leads to a node, and a datagram that names the node is from it: it comes from there, if it is known where it comes from.
+    pub(crate) fn is_way_of(&self, node: Node, from: Option<SocketAddr>) -> bool
+        ensures same { IsPlainlyFrom node from self.now → IsTrue result }
+        ensures only { IsTrue result → IsFrom node from self.now }
     {
-        self.port.node == node && (is_open || self.comes_from(from))
+        match from {
+            Some(from) => self.port.node == node && self.comes_from(from),
+            None => self.port.node == node,
+        }
     }
 
     // How many datagrams are held back.

@@ -20,6 +20,7 @@ mod socket;
 mod socket_net;
 mod under_way;
 mod waiter;
+mod ways;
 mod word;
 
 pub use document::settings;

@@ -1,32 +1,23 @@
-ghost use Rattle.std.specs.Prelude.{◌≡◌, ◌≢◌, ◌≤◌, true, length, Ok, IfOk, IfSome, OnErr};
+ghost use Rattle.std.specs.Prelude.{◌≡◌, ◌≤◌, true, length, Ok, IfOk, IfSome, OnErr};
 ghost use Rattle.udp_net.specs.Logs.{failures_after};
-ghost use Rattle.udp_net.specs.Sieve.{lets_through, IsOrdinary};
-ghost use Rattle.udp_net.specs.Strangers.{is_listed};
 ghost use Rattle.udp_net.specs.Bursts.{passage};
-ghost use Rattle.udp_net.specs.Words.{begins_as_word};
 ghost use Rattle.udp_net.specs.declared.lane.Passage.TheVariants.{Lost};
-ghost use Rattle.udp_net.specs.declared.gate.Verdict.TheVariants.{Given};
-ghost use Rattle.wire_values.specs.declared.packet.Packet.{Packet as PacketValue};
-ghost use Rattle.wire.specs.Packets.{Spells, packet_of};
 
-use crate::gate::{Gate, Verdict};
-use crate::lane::{Lane, Passage, lanes_to};
-use crate::word::is_word;
+use crate::lane::{Lane, Passage};
+use crate::ways::Ways;
 use crate::{Fault, HELD_WAIT, Hosts, Neighbour, Net, Settings, TURN, Word};
 use address::{Address, Node, ViewId};
 use std::alloc::{AllocError, Global};
 use std::time::Duration;
-use wire::{Packet, decode};
 
 /// A net over another one that gives only what comes from the group's own nodes, as one of sealed frames does. It carries words too, and drops packets that would harm the
 /// group, as a socket's net does (docs/RUNNER.md, "What a net drops"); but it does not ask where a datagram comes from. A long burst goes in pieces, as that of a socket's net,
 /// and what is held back there is not held back twice.
 pub struct SievedNet<N: Net> {
     inner: N,
-    lanes: Vec<Lane>,
+    ways: Ways,
     // The receives of this turn.
     receives: u32,
-    gate: Gate,
     // What was lost: for want of memory, or of room among what is held back.
     lost: u64,
 }
@@ -35,9 +26,8 @@ impl<N: Net> Drop for SievedNet<N> {
     fn drop(self) {
         let SievedNet {
             inner: _,
-            lanes: _,
+            ways: _,
             receives: _,
-            gate: _,
             lost: _,
         } = self;
     }
@@ -107,16 +97,6 @@ fn flush_on<N: Net>(net: &mut N, lane: &mut Lane) -> bool
     is_lost
 }
 
-// Whether one of these ways leads to a node.
-fn is_on_a_lane(lanes: &[Lane], node: Node) -> bool
-    ensures { result ≡ is_listed node lanes.now }
-{
-    let Some((first, rest)) = lanes.split_first() else {
-        return false;
-    };
-    first.node() == node || is_on_a_lane(rest, node)
-}
-
 impl<N: Net> SievedNet<N> {
     /// A net over another one, for the group and the nodes of the settings.
     pub fn new(alloc: Global, inner: N, settings: &Settings) -> Result<SievedNet<N>, AllocError>
@@ -124,31 +104,10 @@ impl<N: Net> SievedNet<N> {
     {
         Ok(SievedNet {
             inner,
-            lanes: lanes_to(alloc, settings.nodes(), &Hosts::local(alloc))?,
+            ways: Ways::new(alloc, settings, &Hosts::local(alloc))?,
             receives: 0,
-            gate: Gate::new(alloc, settings)?,
             lost: 0,
         })
-    }
-
-    // Whether the settings list a node.
-    fn is_listed(&self, node: Node) -> bool
-        ensures { result ≡ is_listed node self.now.lanes.items }
-    {
-        is_on_a_lane(self.lanes.as_slice(), node)
-    }
-
-    // A datagram came from a node: it has rounds.
-    fn hear(&mut self, node: Node)
-        ensures inner { self.new.inner ≡ self.old.inner }
-        ensures lost { self.new.lost ≡ self.old.lost }
-        ensures sieve { self.new.gate ≡ self.old.gate }
-    {
-        for lane in self.lanes.as_mut_slice() {
-            if lane.node() == node {
-                lane.hear();
-            }
-        }
     }
 
     // Counts a receive, which found a datagram or none; where the turn ends with it, the next one begins.
@@ -163,79 +122,12 @@ impl<N: Net> SievedNet<N> {
         }
         self.receives = 0;
         let net = &mut self.inner;
-        for lane in self.lanes.as_mut_slice() {
+        for lane in self.ways.lanes.as_mut_slice() {
             go_on(net, lane);
         }
         net.flush();
     }
 
-    // Whether a datagram is held back for some node.
-    fn holds_back(&self) -> bool {
-        self.lanes.iter().any(|lane| lane.held() > 0)
-    }
-
-    // What becomes of a datagram that begins as a word: it counts if it spells one of the group and names a node of the settings.
-    fn hear_word(&mut self, datagram: &[u8]) -> Verdict
-        ensures given { result ≢ Given }
-        ensures inner { self.new.inner ≡ self.old.inner }
-        ensures lost { self.new.lost ≡ self.old.lost }
-    {
-        let Ok(word) = self.gate.word_in(datagram) else {
-            return Verdict::Strange;
-        };
-        if !self.is_listed(word.source.node()) {
-            return Verdict::Strange;
-        }
-        self.hear(word.source.node());
-        self.gate.hear_word(&word);
-        Verdict::Told
-    }
-
-    // What becomes of a packet.
-    fn judge_packet(&mut self, packet: &Packet<'_>) -> Verdict
-        ensures given { result ≡ Given → (is_listed packet.now.source.node self.old.lanes.items ≡ true) × (lets_through self.old.gate.sieve packet.now ≡ true) }
-        ensures ordinary { IsOrdinary self.old.gate.sieve packet.now → is_listed packet.now.source.node self.old.lanes.items ≡ true → result ≡ Given }
-        ensures inner { self.new.inner ≡ self.old.inner }
-        ensures lost { self.new.lost ≡ self.old.lost }
-    {
-        if !self.is_listed(packet.source.node()) {
-            return Verdict::Strange;
-        }
-        self.hear(packet.source.node());
-        self.gate.judge(packet)
-    }
-
-    // What becomes of a datagram: what spells no packet is given, unless it is a word.
-    fn judge(&mut self, datagram: &[u8]) -> Verdict
-        // No word is given; and a packet only if it names a node of the settings, and the sieve lets it through.
-        ensures word { begins_as_word datagram.now ≡ true → result ≢ Given }
-        ensures given { result ≡ Given → IfOk (packet_of datagram.now) (λ p. (is_listed p.source.node self.old.lanes.items ≡ true) × (lets_through self.old.gate.sieve p ≡ true)) }
-        // The messages of a view, and what flushes it for its members, are always given, if they name a node of the settings.
-        ensures ordinary { (p : PacketValue) → Spells p datagram.now → IsOrdinary self.old.gate.sieve p → is_listed p.source.node self.old.lanes.items ≡ true → result ≡ Given }
-        ensures inner { self.new.inner ≡ self.old.inner }
-        ensures lost { self.new.lost ≡ self.old.lost }
-    {
-        if is_word(datagram) {
-            return self.hear_word(datagram);
-        }
-        match decode(datagram) {
-            Ok(packet) => self.judge_packet(&packet),
-            Err(_) => Verdict::Given,
-        }
-    }
-
-    // Whether a datagram is given; it is counted if it is dropped.
-    fn gives(&mut self, datagram: &[u8]) -> bool
-        ensures inner { self.new.inner ≡ self.old.inner }
-        ensures lost { self.new.lost ≡ self.old.lost }
-    {
-        let verdict = self.judge(datagram);
-        self.gate.count(verdict);
-        verdict == Verdict::Given
-    }
-}
-
-impl<N: Net> SievedNet<N> {
     // Takes the next datagram that is given; none where `TURN` in a row are dropped.
     fn take(&mut self, buffer: &mut [u8]) -> Result<Option<usize>, Fault>
         ensures within { IfOk result (λ count. IfSome count (λ n. n ≤ length buffer.new)) }
@@ -247,7 +139,7 @@ impl<N: Net> SievedNet<N> {
             let Some(count) = self.inner.receive(buffer)? else {
                 return Ok(None);
             };
-            if self.gives(&buffer[..count]) {
+            if self.ways.gives(&buffer[..count]) {
                 return Ok(Some(count));
             }
         }
@@ -268,7 +160,7 @@ impl<N: Net> Net for SievedNet<N> {
     fn send(&mut self, node: Node, bytes: &[u8]) {
         let net = &mut self.inner;
         let mut lost = 0u64;
-        for lane in self.lanes.as_mut_slice() {
+        for lane in self.ways.lanes.as_mut_slice() {
             if lane.node() == node && !lane.postpone(bytes) && send_on(net, lane, bytes) {
                 lost = lost.saturating_add(1);
             }
@@ -280,7 +172,7 @@ impl<N: Net> Net for SievedNet<N> {
     fn flush(&mut self) {
         let net = &mut self.inner;
         let mut lost = 0u64;
-        for lane in self.lanes.as_mut_slice() {
+        for lane in self.ways.lanes.as_mut_slice() {
             if flush_on(net, lane) {
                 lost = lost.saturating_add(1);
             }
@@ -297,7 +189,7 @@ impl<N: Net> Net for SievedNet<N> {
 
     /// Where something is held back, no longer than `HELD_WAIT` milliseconds.
     fn wait(&mut self, limit: Duration) {
-        if self.holds_back() {
+        if self.ways.holds_back() {
             self.inner.wait(limit.min(Duration::from_millis(HELD_WAIT)));
         } else {
             self.inner.wait(limit);
@@ -313,12 +205,12 @@ impl<N: Net> Net for SievedNet<N> {
     }
 
     fn pass(&mut self, view: Option<ViewId>, members: &[Address]) {
-        self.gate.pass(view, members);
+        self.ways.gate.pass(view, members);
     }
 
     /// It goes at once, as a datagram of the net below.
     fn say(&mut self, node: Node, word: &Word) {
-        let Some(spelled) = self.gate.spell(node, word) else {
+        let Some(spelled) = self.ways.gate.spell(node, word) else {
             self.lost = self.lost.saturating_add(1);
             return;
         };
@@ -327,15 +219,15 @@ impl<N: Net> Net for SievedNet<N> {
     }
 
     fn words(&self) -> &[Neighbour] {
-        self.gate.words()
+        self.ways.gate.words()
     }
 
     /// Also words that are spelled wrongly, or are of another group, and what the net below counts.
     fn strange(&self) -> u64 {
-        self.inner.strange().saturating_add(self.gate.strange)
+        self.inner.strange().saturating_add(self.ways.gate.strange)
     }
 
     fn sieved(&self) -> u64 {
-        self.inner.sieved().saturating_add(self.gate.sieved)
+        self.inner.sieved().saturating_add(self.ways.gate.sieved)
     }
 }

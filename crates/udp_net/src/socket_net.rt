@@ -1,19 +1,19 @@
-ghost use Rattle.std.specs.Prelude.{◌≡◌, ◌≢◌, ◌≤◌, true, false, length, map, IfOk, IfSome, IsTrue};
+ghost use Rattle.std.specs.Prelude.{◌≡◌, ◌≢◌, ◌≤◌, true, false, length, IfOk, IfSome};
 ghost use Rattle.udp_net.specs.Logs.{one_more, failures_after};
 ghost use Rattle.udp_net.specs.Bursts.{passage};
 ghost use Rattle.udp_net.specs.Sieve.{lets_through, IsOrdinary};
-ghost use Rattle.udp_net.specs.Strangers.{AnyLane, ComesFrom, ComesPlainlyFrom, IsFrom, IsPlainlyFrom};
+ghost use Rattle.udp_net.specs.Strangers.{AnyLane, ComesFrom, ComesPlainlyFrom, IsFrom, IsPlainlyFrom, source_of};
 ghost use Rattle.udp_net.specs.Words.{begins_as_word};
 ghost use Rattle.udp_net.specs.declared.gate.Verdict.TheVariants.{Given};
 ghost use Rattle.wire_values.specs.declared.packet.Packet.{Packet as PacketValue};
 ghost use Rattle.wire.specs.Packets.{Spells, packet_of};
 ghost use Rattle.udp_net.specs.declared.lane.Passage.TheVariants.{Lost};
 
-use crate::gate::{Gate, Verdict};
-use crate::lane::{Lane, Passage, lanes_to};
+use crate::gate::Verdict;
+use crate::lane::{Lane, Passage};
 use crate::socket::Socket;
 use crate::waiter::WAITED_FOR;
-use crate::word::is_word;
+use crate::ways::Ways;
 use crate::{BindError, Fault, HELD_WAIT, Hosts, Neighbour, Net, NodePort, Settings, TURN, Word};
 use address::{Address, Node, ViewId};
 use mio::Events;
@@ -21,7 +21,6 @@ use std::alloc::Global;
 use std::net::SocketAddr;
 use std::os::fd::RawFd;
 use std::time::Duration;
-use wire::{Packet, decode};
 
 /// The net of one node: a socket of UDP at this node's host and at its port by the settings, which waits only in `wait`. Packets are neither signed nor encrypted, so the
 /// network must be one's own.
@@ -41,11 +40,10 @@ use wire::{Packet, decode};
 /// Where something is held back, a wait has `HELD_WAIT` milliseconds at most, so that it goes on soon.
 pub struct SocketNet {
     socket: Socket,
-    lanes: Vec<Lane>,
+    ways: Ways,
     // The receives of this turn.
     receives: u32,
     failures: u64,
-    gate: Gate,
     // Whether a node's datagrams are taken wherever they come from.
     is_open: bool,
     // Whether each datagram of a node is given as it came.
@@ -56,10 +54,9 @@ impl Drop for SocketNet {
     fn drop(self) {
         let SocketNet {
             socket: _,
-            lanes: _,
+            ways: _,
             receives: _,
             failures: _,
-            gate: _,
             is_open: _,
             is_bare: _,
         } = self;
@@ -94,28 +91,6 @@ fn send_on(socket: &mut Socket, lane: &mut Lane, datagram: &[u8])
     }
 }
 
-// Whether one of these ways leads to a node, and a datagram is from it: it comes from where the way leads, or may come from anywhere.
-fn is_on_a_lane(lanes: &[Lane], is_open: bool, node: Node, from: SocketAddr) -> bool
-    ensures same { AnyLane (IsPlainlyFrom is_open node from) lanes.now → IsTrue result }
-    ensures only { IsTrue result → AnyLane (IsFrom is_open node from) lanes.now }
-{
-    let Some((first, rest)) = lanes.split_first() else {
-        return false;
-    };
-    first.is_way_of(is_open, node, from) || is_on_a_lane(rest, is_open, node, from)
-}
-
-// Whether some node is reached at an address.
-fn is_reached_at(lanes: &[Lane], from: SocketAddr) -> bool
-    ensures same { AnyLane (ComesPlainlyFrom from) lanes.now → IsTrue result }
-    ensures only { IsTrue result → AnyLane (ComesFrom from) lanes.now }
-{
-    let Some((first, rest)) = lanes.split_first() else {
-        return false;
-    };
-    first.comes_from(from) || is_reached_at(rest, from)
-}
-
 impl SocketNet {
     /// The net of a node. Refused with 50 where the settings do not list the node, with 51 where its socket cannot be bound, as where its port is taken, and
     /// with 7 where memory was refused.
@@ -130,16 +105,14 @@ impl SocketNet {
         ensures sieved { IfOk result (λ net. net.is_bare ≡ false) }
     {
         let port = settings.port(node).ok_or(BindError::Config)?;
-        let lanes = lanes_to(alloc, settings.nodes(), hosts)?;
-        let gate = Gate::new(alloc, settings)?;
+        let ways = Ways::new(alloc, settings, hosts)?;
         let events = Events::with_capacity(alloc, WAITED_FOR)?;
         match Socket::bind(network, SocketAddr::new(hosts.own(), port), events) {
             Ok(socket) => Ok(SocketNet {
                 socket,
-                lanes,
+                ways,
                 receives: 0,
                 failures: 0,
-                gate,
                 is_open: false,
                 is_bare: false,
             }),
@@ -170,78 +143,19 @@ impl SocketNet {
         self.is_bare = true;
     }
 
-    // A datagram came from an address: the node that is reached there has rounds.
-    fn hear(&mut self, from: SocketAddr)
-        ensures failed { self.new.failures ≡ self.old.failures }
-        ensures unsent { self.new.socket.unsent ≡ self.old.socket.unsent }
+    // Where a datagram comes from, unless it may come from anywhere.
+    fn source_of(&self, from: SocketAddr) -> Option<SocketAddr>
+        ensures { result ≡ source_of self.now.is_open from }
     {
-        for lane in self.lanes.as_mut_slice() {
-            if lane.comes_from(from) {
-                lane.hear();
-            }
-        }
-    }
-
-    // A datagram that names a node is from it: it has rounds, also where its address is translated on the way.
-    fn hear_node(&mut self, node: Node)
-        ensures failed { self.new.failures ≡ self.old.failures }
-        ensures unsent { self.new.socket.unsent ≡ self.old.socket.unsent }
-        ensures sieve { self.new.gate.sieve ≡ self.old.gate.sieve }
-    {
-        for lane in self.lanes.as_mut_slice() {
-            if lane.node() == node {
-                lane.hear();
-            }
-        }
-    }
-
-    // Whether a datagram that names a node is from it.
-    fn is_from(&self, node: Node, from: SocketAddr) -> bool
-        ensures same { AnyLane (IsPlainlyFrom self.now.is_open node from) self.now.lanes.items → IsTrue result }
-        ensures only { IsTrue result → AnyLane (IsFrom self.now.is_open node from) self.now.lanes.items }
-    {
-        is_on_a_lane(self.lanes.as_slice(), self.is_open, node, from)
-    }
-
-    // What becomes of a datagram that begins as a word: it counts if it spells one of the group, and is from its node.
-    fn hear_word(&mut self, datagram: &[u8], from: SocketAddr) -> Verdict
-        ensures given { result ≢ Given }
-        ensures failed { self.new.failures ≡ self.old.failures }
-        ensures unsent { self.new.socket.unsent ≡ self.old.socket.unsent }
-    {
-        let Ok(word) = self.gate.word_in(datagram) else {
-            return Verdict::Strange;
-        };
-        if !self.is_from(word.source.node(), from) {
-            return Verdict::Strange;
-        }
-        self.hear_node(word.source.node());
-        self.gate.hear_word(&word);
-        Verdict::Told
-    }
-
-    // What becomes of a packet.
-    fn judge_packet(&mut self, packet: &Packet<'_>, from: SocketAddr) -> Verdict
-        ensures given { result ≡ Given → AnyLane (IsFrom self.old.is_open packet.now.source.node from) self.old.lanes.items × (lets_through self.old.gate.sieve packet.now ≡ true) }
-        ensures ordinary { IsOrdinary self.old.gate.sieve packet.now → AnyLane (IsPlainlyFrom self.old.is_open packet.now.source.node from) self.old.lanes.items → result ≡ Given }
-        ensures failed { self.new.failures ≡ self.old.failures }
-        ensures unsent { self.new.socket.unsent ≡ self.old.socket.unsent }
-    {
-        if !self.is_from(packet.source.node(), from) {
-            return Verdict::Strange;
-        }
-        self.hear_node(packet.source.node());
-        self.gate.judge(packet)
+        if self.is_open { None } else { Some(from) }
     }
 
     // What becomes of a datagram of a bare net: it is given if it comes from where some node is reached, or may come from anywhere.
-    fn judge_bare(&mut self, from: SocketAddr) -> Verdict
-        ensures given { result ≡ Given → self.old.is_open ≡ false → AnyLane (ComesFrom from) self.old.lanes.items }
-        ensures ordinary { AnyLane (ComesPlainlyFrom from) self.old.lanes.items → result ≡ Given }
-        ensures failed { self.new.failures ≡ self.old.failures }
-        ensures unsent { self.new.socket.unsent ≡ self.old.socket.unsent }
+    fn judge_bare(&self, from: SocketAddr) -> Verdict
+        ensures given { result ≡ Given → self.now.is_open ≡ false → AnyLane (ComesFrom from) self.now.ways.lanes.items }
+        ensures ordinary { AnyLane (ComesPlainlyFrom from) self.now.ways.lanes.items → result ≡ Given }
     {
-        if self.is_open || is_reached_at(self.lanes.as_slice(), from) {
+        if self.is_open || self.ways.is_reached(from) {
             return Verdict::Given;
         }
         Verdict::Strange
@@ -251,24 +165,19 @@ impl SocketNet {
     fn judge(&mut self, datagram: &[u8], from: SocketAddr) -> Verdict
         // No word is given; and a packet only if it comes from the node that it names, and the sieve lets it through.
         ensures word { self.old.is_bare ≡ false → begins_as_word datagram.now ≡ true → result ≢ Given }
-        ensures given { self.old.is_bare ≡ false → result ≡ Given → IfOk (packet_of datagram.now) (λ p. AnyLane (IsFrom self.old.is_open p.source.node from) self.old.lanes.items × (lets_through self.old.gate.sieve p ≡ true)) }
+        ensures given { self.old.is_bare ≡ false → result ≡ Given → IfOk (packet_of datagram.now) (λ p. AnyLane (IsFrom p.source.node (source_of self.old.is_open from)) self.old.ways.lanes.items × (lets_through self.old.ways.gate.sieve p ≡ true)) }
         // The messages of a view, and what flushes it for its members, are always given, if they come from the node that they name.
-        ensures ordinary { self.old.is_bare ≡ false → (p : PacketValue) → Spells p datagram.now → IsOrdinary self.old.gate.sieve p → AnyLane (IsPlainlyFrom self.old.is_open p.source.node from) self.old.lanes.items → result ≡ Given }
+        ensures ordinary { self.old.is_bare ≡ false → (p : PacketValue) → Spells p datagram.now → IsOrdinary self.old.ways.gate.sieve p → AnyLane (IsPlainlyFrom p.source.node (source_of self.old.is_open from)) self.old.ways.lanes.items → result ≡ Given }
         // A bare net gives what comes from where some node is reached.
-        ensures bare { self.old.is_bare ≡ true → result ≡ Given → self.old.is_open ≡ false → AnyLane (ComesFrom from) self.old.lanes.items }
+        ensures bare { self.old.is_bare ≡ true → result ≡ Given → self.old.is_open ≡ false → AnyLane (ComesFrom from) self.old.ways.lanes.items }
         ensures failed { self.new.failures ≡ self.old.failures }
         ensures unsent { self.new.socket.unsent ≡ self.old.socket.unsent }
     {
         if self.is_bare {
             return self.judge_bare(from);
         }
-        if is_word(datagram) {
-            return self.hear_word(datagram, from);
-        }
-        match decode(datagram) {
-            Ok(packet) => self.judge_packet(&packet, from),
-            Err(_) => Verdict::Given,
-        }
+        let source = self.source_of(from);
+        self.ways.judge(datagram, source)
     }
 
     // Takes the next datagram that is given; none where `TURN` in a row are dropped.
@@ -280,12 +189,12 @@ impl SocketNet {
         for _ in 0..TURN {
             match self.socket.receive(buffer) {
                 Ok(Some((count, from))) => {
-                    self.hear(from);
+                    self.ways.hear_from(from);
                     let verdict = self.judge(&buffer[..count], from);
                     if verdict == Verdict::Given {
                         return Ok(Some(count));
                     }
-                    self.gate.count(verdict);
+                    self.ways.gate.count(verdict);
                 }
                 Ok(None) => return Ok(None),
                 Err(_) => {
@@ -295,11 +204,6 @@ impl SocketNet {
             }
         }
         Ok(None)
-    }
-
-    // Whether a datagram is held back for some node.
-    fn holds_back(&self) -> bool {
-        self.lanes.iter().any(|lane| lane.held() > 0)
     }
 
     // Counts a receive, which found a datagram or none; where the turn ends with it, the next one begins.
@@ -313,7 +217,7 @@ impl SocketNet {
         }
         self.receives = 0;
         let socket = &mut self.socket;
-        for lane in self.lanes.as_mut_slice() {
+        for lane in self.ways.lanes.as_mut_slice() {
             go_on(socket, lane);
         }
     }
@@ -331,7 +235,7 @@ impl Net for SocketNet {
     /// Sends it to the node's host and port, or holds it back, unless it is bare; one for a node that the settings do not list is lost, and does not count as unsent.
     fn send(&mut self, node: Node, bytes: &[u8]) {
         let socket = &mut self.socket;
-        for lane in self.lanes.as_mut_slice() {
+        for lane in self.ways.lanes.as_mut_slice() {
             if lane.node() == node {
                 if self.is_bare {
                     socket.send(lane.address(), bytes);
@@ -350,7 +254,7 @@ impl Net for SocketNet {
 
     /// Where something is held back, no longer than `HELD_WAIT` milliseconds.
     fn wait(&mut self, limit: Duration) {
-        let limit = if self.holds_back() {
+        let limit = if self.ways.holds_back() {
             limit.min(Duration::from_millis(HELD_WAIT))
         } else {
             limit
@@ -367,17 +271,17 @@ impl Net for SocketNet {
     }
 
     fn pass(&mut self, view: Option<ViewId>, members: &[Address]) {
-        self.gate.pass(view, members);
+        self.ways.gate.pass(view, members);
     }
 
     /// Sends it to the node's host and port at once; one for a node that the settings do not list is lost, and does not count as unsent.
     fn say(&mut self, node: Node, word: &Word) {
         let socket = &mut self.socket;
-        let Some(spelled) = self.gate.spell(node, word) else {
+        let Some(spelled) = self.ways.gate.spell(node, word) else {
             socket.lose();
             return;
         };
-        for lane in self.lanes.as_slice() {
+        for lane in self.ways.lanes.as_slice() {
             if lane.node() == node {
                 socket.send(lane.address(), spelled);
             }
@@ -385,15 +289,15 @@ impl Net for SocketNet {
     }
 
     fn words(&self) -> &[Neighbour] {
-        self.gate.words()
+        self.ways.gate.words()
     }
 
     /// Also words that are spelled wrongly, or are of another group.
     fn strange(&self) -> u64 {
-        self.gate.strange
+        self.ways.gate.strange
     }
 
     fn sieved(&self) -> u64 {
-        self.gate.sieved
+        self.ways.gate.sieved
     }
 }

@@ -1,5 +1,0 @@
-use Rattle.std.proofs.Common.{length}
-use Rattle.udp_net.proofs.socket_net.+is_on_a_lane.Given as goal
-
-abbrev pub decreases-is_on_a_lane : goal.decreases-is_on_a_lane
-decreases-is_on_a_lane l = length l.lanes.now
