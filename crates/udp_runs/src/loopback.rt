@@ -11,13 +11,14 @@ use std::alloc::Global;
 use std::marker::Model;
 use std::os::fd::RawFd;
 use std::random::RandomSource;
-use std::time::{Clock, Duration};
+use std::rt::Clock;
+use std::time::Duration;
 use udp_net::{BindError, Hosts, Net, Settings, SievedNet, SocketNet};
 
 /// This machine: each node has a socket of UDP, at its port by the settings. Contracts see whether a socket could not be bound, and what was told.
-pub struct Loopback<'a, R> {
+pub struct Loopback<'a> {
     alloc: Global,
-    runtime: &'a R,
+    runtime: &'a HostRuntime,
     settings: &'a Settings,
     hosts: &'a Hosts,
     is_unbound: bool,
@@ -30,7 +31,7 @@ pub struct Loopback<'a, R> {
     other: Option<RawFd>,
 }
 
-impl<R> Drop for Loopback<'_, R> {
+impl Drop for Loopback<'_> {
     fn drop(self) {
         let Loopback {
             alloc: _,
@@ -46,7 +47,7 @@ impl<R> Drop for Loopback<'_, R> {
     }
 }
 
-impl<'a, R> Model for Loopback<'a, R> {
+impl<'a> Model for Loopback<'a> {
     ghost use Rattle.udp_runs.specs.Loopbacks.{LoopbackModel};
 
     ghost Value = { LoopbackModel };
@@ -56,14 +57,14 @@ impl<'a, R> Model for Loopback<'a, R> {
     ghost view = { λ l. record { is_unbound = l.is_unbound; told = l.tally; is_open = l.is_open; key = option_copied l.key; other = l.other } };
 }
 
-impl<'a, R> Loopback<'a, R> {
+impl<'a> Loopback<'a> {
     /// This machine, for the nodes of the settings at these hosts. No socket was bound yet.
     pub fn new(
         alloc: Global,
-        runtime: &'a R,
+        runtime: &'a HostRuntime,
         settings: &'a Settings,
         hosts: &'a Hosts,
-    ) -> Loopback<'a, R>
+    ) -> Loopback<'a>
         ensures { result ≡ nothing_asked }
     {
         Loopback {
@@ -116,9 +117,9 @@ impl<'a, R> Loopback<'a, R> {
 }
 
 // A net of sealed frames over a socket, with a new boot id.
-fn sealed<R: RandomSource>(
+fn sealed(
     alloc: Global,
-    runtime: &R,
+    runtime: &HostRuntime,
     settings: &Settings,
     node: Node,
     socket: SocketNet,
@@ -136,7 +137,7 @@ fn sealed<R: RandomSource>(
     Ok(SievedNet::new(alloc, framed, settings)?)
 }
 
-impl<'a, R: std::net::Net + RandomSource> Loopback<'a, R> {
+impl<'a> Loopback<'a> {
     // The net of a node, over a socket of its own.
     fn bind(&self, node: Node) -> Result<NodeNet, BindError>
         ensures { IfOk result (IsMadeBy self.now) }
@@ -162,7 +163,7 @@ impl<'a, R: std::net::Net + RandomSource> Loopback<'a, R> {
     }
 }
 
-impl<'a, R: std::net::Net + RandomSource + Clock> NodeMachine for Loopback<'a, R> {
+impl<'a> NodeMachine for Loopback<'a> {
     type Net = NodeNet;
 
     ghost gone = { λ _. None };

@@ -16,7 +16,7 @@ use vsync_text::{Part, put, put_address, put_number, put_parts};
 pub(crate) struct Watched<'a, 'b> {
     rt: &'a HostRuntime,
     alloc: Global,
-    machine: Loopback<'a, HostRuntime>,
+    machine: Loopback<'a>,
     // The nodes of the settings.
     nodes: &'a [NodePort],
     // Where the status is written, and whether it was said that it cannot be.
@@ -158,7 +158,7 @@ impl<'a, 'b> Watched<'a, 'b> {
     pub(crate) fn new(
         rt: &'a HostRuntime,
         alloc: Global,
-        machine: Loopback<'a, HostRuntime>,
+        machine: Loopback<'a>,
         nodes: &'a [NodePort],
         status: Option<&'b str>,
         quorum: u16,
