@@ -3,5 +3,5 @@ use Rattle.http_desk.proofs.known.all_of_map.Goals as goal
 
 pub loop-answer-preserved : goal.loop-answer-preserved
 loop-answer-preserved c =
-    next-map c.args.answers.now c.loop-answer.all.items c.push.new.self.items c.loop-answer.answer-index c.answer-item.result _ c.in_ok-known_of_map.field-0
-    c.answer-item.is c.loop-answer-test.true c.loop-answer.invariant c.in_ok-push.ensures.items c.in_ok-known_of_map.ensures
+    next-map c.args.answers.now c.loop-answer.all.items c.push.new.self.items c.loop-answer.answer-index c.answer-item.result _ c.known_of_map.result
+    c.answer-item.is c.loop-answer-test.true c.loop-answer.invariant c.in_ok-push.ensures.items c.known_of_map.ensures
