@@ -1,3 +1,4 @@
 pub mod KeepHosts
+pub mod PushedForEach
 pub mod TablesOfKeys
 pub mod WordLaws
