@@ -1,8 +1,7 @@
 -- In a change of view a member's messages stay in order; and small facts that the kinds of packets share.
-use Rattle.std.proofs.Common.{◌≡◌, ℕ, ◌+◌, ◌≤◌, Bool, true, false, ◌&&◌, Some, List, length, nat_le, sym, ap, ◌∙◌, subst, refl, arith}
+use Rattle.std.proofs.Common.{◌≡◌, ℕ, ◌+◌, ◌≤◌, Bool, true, false, ◌&&◌, Some, List, length, nat_le, sym, ap, ◌∙◌, subst, refl}
 use Rattle.std.specs.Prelude.{if◌then◌else◌}
-use Rattle.std.proofs.lemmas.Bool.{and_parts}
-use Rattle.std.proofs.lemmas.Bool.Decides.{nat_tests}
+use Rattle.std.proofs.lemmas.Bool.{and_parts, leb-true}
 use Rattle.std.proofs.lemmas.Option.{same_Some}
 use Rattle.address.specs.declared.limits.TheConstants.{GREATEST_NUMBER, MEMBERS, WINDOW}
 use Rattle.address.specs.Ids.{Address, same_address}
@@ -34,8 +33,7 @@ steady-ordered group me old new (Fresh w e) member_state ordered = λ t is.
 few-by : (n : ℕ) (x y b d : Bool) → (x && y && b && nat_le n WINDOW && d) ≡ true → n ≤ WINDOW
 few-by n x y b d e =
     let p = and_parts (x && y && b && nat_le n WINDOW) d e in
-    let q = (and_parts (x && y && b) (nat_le n WINDOW) p.0).1 in
-    grind (arith, nat_tests)
+    leb-true n WINDOW (and_parts (x && y && b) (nat_le n WINDOW) p.0).1
 
 pub items-few : (i : wire.Install) → is_install i ≡ true → length i.items ≤ WINDOW
 items-few i e =

@@ -1,5 +1,5 @@
 -- What a member is delivered no input asks for.
-use Rattle.std.proofs.Common.{◌≡◌, ℕ, ◌+◌, Bool, true, false, List, [], ◌∷◌, ◌++◌, map, length, inl, inr, ap, ◌∙◌, arith}
+use Rattle.std.proofs.Common.{◌≡◌, ℕ, ◌+◌, Bool, true, false, List, [], ◌∷◌, ◌++◌, map, length, inl, inr, refl, sym, ap, ◌∙◌, arith}
 use Rattle.std.proofs.lemmas.List.{append-nil, length-append}
 use Rattle.std.specs.Prelude.{MatchBool, nat_lt}
 use Rattle.std.specs.List.{list_all}
@@ -37,6 +37,9 @@ module _ {S : Type 0} (meaning : Meaning S) where
 silent-asks : (p : Address) (group : List ℕ) (g : ℕ) (m : Follower) (out later : Output) → AsksUpTo (who p group) g m out later → later.events.items ≡ out.events.items
 silent-asks p group g m out later (inl x) = x.grows.events ∙ append-nil out.events.items
 silent-asks p group g m out later (inr x) = ap (λ (o : Output). o.events.items) x.1
+
+pub asks-calm : (p : Address) (group : List ℕ) (g : ℕ) (m : Follower) (out later : Output) → AsksUpTo (who p group) g m out later → IsCalm WINDOW out later
+asks-calm p group g m out later x = record { more = []; grows = silent-asks p group g m out later x ∙ sym (append-nil out.events.items); few = omega arith; quiet = refl }
 
 silent-by : (b c : Bool) (p : Address) (group : List ℕ) (g : ℕ) (m : Follower) (out later : Output)
     → MatchBool b (Grows group out later (ack_of p m ∷ []) []) (MatchBool c (AsksUpTo (who p group) g m out later) (later ≡ out)) → later.events.items ≡ out.events.items

@@ -1,13 +1,14 @@
-use Rattle.std.proofs.Common.{Some, sym, rules}
+use Rattle.std.proofs.Common.{Some, refl, sym}
 use Rattle.wire_values.specs.declared.packet.Body.TheVariants as bodies
 use Rattle.law_acts.specs.Acts.{packet}
-use Rattle.member_rules.proofs.MembersAreOpen.{there-is, orderly-in, nothing-did}
+use Rattle.step_output.proofs.CalmAdds.{calm-nothing}
+use Rattle.member_rules.proofs.MembersAreOpen.{there-is, orderly-in, ordered-by, nothing-did}
 use Rattle.member_rules.proofs.PacketsHeard.{heard-in, heard-member_state, heard-did}
 use Rattle.member_rules.proofs.MessagesAreCalm.{ordering-calm}
 use Rattle.member_rules.proofs.ordering.on_forward.Goals as goal
 
 pub returns-then-not-takes_forward-clause-hears : goal.returns-then-not-takes_forward-clause-hears
-returns-then-not-takes_forward-clause-hears g c = record { member_state = c.requires.member_state; ordered = c.requires.ordered; does = search rules; did = nothing-did g.R.Receiver.meaning _ _ _ _ _; calm = search rules }
+returns-then-not-takes_forward-clause-hears g c = record { member_state = c.requires.member_state; ordered = c.requires.ordered; does = rw (sym c.if-not-takes_forward.ensures) (refl, refl); did = nothing-did g.R.Receiver.meaning _ _ _ _ _; calm = calm-nothing _ _ }
 
 pub forward-requires-clause-coordinator : goal.forward-requires-clause-coordinator
 forward-requires-clause-coordinator g c =
@@ -26,8 +27,8 @@ returns-clause-hears g c =
     let does = c.in_ok-forward-in-Some-Coordinator.ensures in
     record {
       member_state = heard-member_state _ _ _ _ _ _ _ _ c.requires.member_state heard there does.goes.view;
-      ordered = search rules;
-      does = search rules;
+      ordered = ordered-by _ _ (does.goes.coordinator, does.settled, does.done);
+      does = rw (sym c.if-not-takes_forward.ensures, there) (refl, (does.orders, does.done));
       did = heard-did g.R.Receiver.meaning (λ i. Some (packet c.args.source.now (bodies.Forward i c.args.number c.args.payload.now) c.args.who.now.address)) _ _ _ _ _ _ _ _ _ _ c.requires.member_state heard there does.goes.view does.goes.goes;
       calm = ordering-calm g.R.Receiver.meaning _ _ _ _ _ _ _ _ does.orders does.few;
     }

@@ -34,6 +34,11 @@ returns-in_ok-send-in-Some-Coordinator-clause-ordered g c =
     let does = c.in_ok-send-in-Some-Coordinator.ensures in
     ordered-by _ _ ((does.goes None).coordinator, does.settled, does.done)
 
+pub returns-in_ok-send-in-Some-Coordinator-clause-does : goal.returns-in_ok-send-in-Some-Coordinator-clause-does
+returns-in_ok-send-in-Some-Coordinator-clause-does g c =
+    let there = there-is _ _ _ c.in-Some-Coordinator.is c.in-Some-Coordinator.field-0-is in
+    (refl, rw there c.in_ok-send-in-Some-Coordinator.ensures.orders)
+
 pub returns-in_ok-send-in-Some-Coordinator-clause-did : goal.returns-in_ok-send-in-Some-Coordinator-clause-did
 returns-in_ok-send-in-Some-Coordinator-clause-did g c =
     let there = there-is _ _ _ c.in-Some-Coordinator.is c.in-Some-Coordinator.field-0-is in

@@ -1,15 +1,17 @@
-use Rattle.std.proofs.Common.{Some, sym, rules}
+use Rattle.std.proofs.Common.{Some, refl, sym}
 use Rattle.wire_values.specs.declared.packet.Body.TheVariants as bodies
 use Rattle.law_acts.specs.Acts.{packet}
+use Rattle.step_output.proofs.CalmAdds.{calm-nothing}
 use Rattle.traffic.proofs.ActsOfAnswers.{status-goes}
 use Rattle.member_rules.specs.Heard.{is_near}
 use Rattle.member_rules.proofs.MembersAreOpen.{there-is, orderly-in, ordered-by, nothing-did}
 use Rattle.member_rules.proofs.PacketsHeard.{heard-in, heard-member_state, from-in, other-did}
+use Rattle.member_rules.proofs.MessagesAreCalm.{asks-calm}
 use Rattle.member_rules.proofs.NumbersNotHeld.{status-orderly}
 use Rattle.member_rules.proofs.taking.on_status.Goals as goal
 
 pub returns-then-not-takes_status-clause-hears : goal.returns-then-not-takes_status-clause-hears
-returns-then-not-takes_status-clause-hears g c = record { member_state = c.requires.member_state; ordered = c.requires.ordered; does = search rules; did = nothing-did g.R.Receiver.meaning _ _ _ _ _; calm = search rules }
+returns-then-not-takes_status-clause-hears g c = record { member_state = c.requires.member_state; ordered = c.requires.ordered; does = rw (sym c.if-not-takes_status.ensures) (refl, refl); did = nothing-did g.R.Receiver.meaning _ _ _ _ _; calm = calm-nothing _ _ }
 
 pub returns-clause-hears : goal.returns-clause-hears
 returns-clause-hears g c =
@@ -21,8 +23,8 @@ returns-clause-hears g c =
       member_state = heard-member_state _ _ _ _ _ _ _ _ c.requires.member_state heard there goes.1;
       ordered = ordered-by _ _ (status-orderly c.args.who.now.address c.args.who.now.group c.args.progress c.in-Some-Follower.follower c.args.out.now c.status.new.self c.status.new.out c.in_ok-status-in-Some-Follower.ensures
           (orderly-in _ _ _ c.requires.ordered there));
-      does = search rules;
+      does = rw (sym c.if-not-takes_status.ensures, there) (refl, (c.in_ok-status-in-Some-Follower.ensures, refl));
       did = other-did g.R.Receiver.meaning (λ q i. Some (packet q (bodies.Status i c.args.progress) c.args.who.now.address)) _ _ _ _ _ _ _ _ _ _ c.requires.member_state heard there
           (from-in _ _ c.args.member_state.now c.in-Some-Follower.follower (is_near c.args.progress) there (sym c.if-not-takes_status.ensures)) goes;
-      calm = search rules;
+      calm = asks-calm _ _ _ _ _ _ c.in_ok-status-in-Some-Follower.ensures.1;
     }

@@ -9,6 +9,11 @@ order-requires g c = record {
   settled = settled-queued _ _ _ _ _ _ c.requires.other c.requires.settled c.in_ok-queue.ensures;
 }
 
-pub returns-clause-goes : goal.returns-clause-goes
-returns-clause-goes g c =
-    goes-then g.R.Receiver.meaning _ _ _ _ _ (forward-goes g.R.Receiver.meaning _ _ _ _ _ _ _ _ _ c.requires.coordinator c.requires.other c.in_ok-queue.ensures) (c.in_ok-order.ensures.goes _)
+pub returns : goal.returns
+returns g c = record {
+  goes = goes-then g.R.Receiver.meaning _ _ _ _ _ (forward-goes g.R.Receiver.meaning _ _ _ _ _ _ _ _ _ c.requires.coordinator c.requires.other c.in_ok-queue.ensures) (c.in_ok-order.ensures.goes _);
+  done = c.in_ok-order.ensures.done;
+  orders = rw c.in_ok-queue.ensures at c.in_ok-order.ensures.orders;
+  settled = c.in_ok-order.ensures.settled;
+  few = c.in_ok-order.ensures.few;
+}
