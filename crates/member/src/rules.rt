@@ -24,7 +24,7 @@ use std::alloc::AllocError;
 use step_output::{Identity, Output};
 use wire_values::Body;
 
-// The same of any packet but an INSTALL.
+// Takes such a packet of any kind but an INSTALL, by its rule.
 fn hear_other<R: Receiver>(
     member_state: &mut MemberState<R>,
     who: &Identity,

@@ -1,7 +1,4 @@
--- By the rule of each kind of packet.
-use Rattle.std.proofs.Common.{◌≡◌, sym, ap, ◌∙◌, refl, subst}
-use Rattle.address.specs.Ids.{Address}
-use Rattle.state_transfer.specs.Meanings.{Meaning}
+use Rattle.std.proofs.Common.{sym, ap, ◌∙◌, refl, subst}
 use Rattle.wire_values.specs.declared.packet.Body.{Body}
 use Rattle.membership.proofs.ActsOfChanges.{takes-install-did}
 use Rattle.member.specs.Hearing.{Hears, ignores}
@@ -10,15 +7,11 @@ use Rattle.member_rules.proofs.KeepSteady as steady
 use Rattle.member_rules.proofs.ViewsAreCalm as calm
 use Rattle.member.proofs.rules.hear.Goals as goal
 use Rattle.std.proofs.lemmas.Bool.{not-true}
-use Rattle.step_output.specs.Steps.{Who, who_of}
-use Rattle.membership.specs.InSteps.{InStep, in_step}
-
--- what it does by a packet's kind it does by the packet
-by-kind : {S : Type 0} (meaning : Meaning S) (who : Who) (source : Address) (body kind : Body) (old new : InStep S) → body ≡ kind → Hears meaning who source kind old new → Hears meaning who source body old new
-by-kind meaning who source body kind old new is = subst (λ b. Hears meaning who source b old new) (sym is)
+use Rattle.step_output.specs.Steps.{who_of}
+use Rattle.membership.specs.InSteps.{in_step}
 
 pub returns-in_ok-take_install-in-Install-clause-hears : goal.returns-in_ok-take_install-in-Install-clause-hears
-returns-in_ok-take_install-in-Install-clause-hears g c = by-kind g.R.Receiver.meaning (who_of c.args.who.now) c.args.source _ _ (in_step c.args.member_state.now c.args.out.now) (in_step c.take_install.new.self c.take_install.new.out) c.in-Install.is record {
+returns-in_ok-take_install-in-Install-clause-hears g c = subst (λ (b : Body). Hears g.R.Receiver.meaning (who_of c.args.who.now) c.args.source b (in_step c.args.member_state.now c.args.out.now) (in_step c.take_install.new.self c.take_install.new.out)) (sym c.in-Install.is) record {
   member_state = c.in_ok-take_install-in-Install.ensures.member_state;
   ordered = steady-ordered _ _ c.args.member_state.now c.take_install.new.self (steady.install-steady (who_of c.args.who.now) g.R.Receiver.meaning c.args.source c.in-Install.install (in_step c.args.member_state.now c.args.out.now) (in_step c.take_install.new.self c.take_install.new.out) c.in_ok-take_install-in-Install.ensures.takes) c.in_ok-take_install-in-Install.ensures.member_state c.requires.ordered;
   does = c.in_ok-take_install-in-Install.ensures.takes;
