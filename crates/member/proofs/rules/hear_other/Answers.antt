@@ -19,7 +19,6 @@ use Rattle.membership.specs.InSteps.{InStep, in_step}
 by-kind : {S : Type 0} (meaning : Meaning S) (who : Who) (source : Address) (body kind : Body) (old new : InStep S) → body ≡ kind → Hears meaning who source kind old new → Hears meaning who source body old new
 by-kind meaning who source body kind old new is = subst (λ b. Hears meaning who source b old new) (sym is)
 
--- what two clauses say of a success it has at once
 both-ok : {T E P Q R : Type 0} (r : Result T E) → OnOk r P → OnOk r Q → (P → Q → R) → OnOk r R
 both-ok (Ok x) p q f = f p q
 both-ok (Err e) p q f = tt

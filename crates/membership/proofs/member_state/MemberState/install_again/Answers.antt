@@ -17,18 +17,14 @@ use Rattle.membership.proofs.member_state.MemberState.install_again.Goals.{then-
 again : {S : Type 0} (who : Who) (q : Address) (l : MemberState S) (sent : SentInstall) (a b later : Output) → Some sent ≡ find (is_sent_to q) l.sent_installs.items
     → Grows who.group a b (chunks_before who.address q l (Some sent)) [] → later.packets.items ≡ b.packets.items ++ sent.packet ∷ [] → later.events ≡ b.events
     → InstallsAgain who q (in_step l a) later
-again who q l sent a b later is x packets events = record {
-  packets = rw (← is) (packets ∙ ap (λ ps. ps ++ sent.packet ∷ []) x.packets);
-  sound = rw (← is) x.sound;
-  events = ap (λ e. e.items) events ∙ x.events ∙ append-nil a.events.items;
-}
+again who q l sent a b later is x packets events =
+    record { packets = rw (← is) (packets ∙ ap (λ ps. ps ++ sent.packet ∷ []) x.packets); sound = rw (← is) x.sound; events = ap (λ e. e.items) events ∙ x.events ∙ append-nil a.events.items }
 
 pub returns-clause-again : goal.returns-clause-again
 returns-clause-again g c =
-    let sent = c.in-Some.sent.now in
-    let before : Grows c.args.who.now.group c.args.out.now c.if-sent.out (if sent.in_chunks then state_packets c.args.who.now.address c.args.member.now c.args.self.now else []) [] =
+    let before : Grows c.args.who.now.group c.args.out.now c.if-sent.out (if c.in-Some.sent.now.in_chunks then state_packets c.args.who.now.address c.args.member.now c.args.self.now else []) [] =
     elim c.if-sent.branch [
       | then-sent+in_ok-put_state_again w ↦ rw (w.if-sent.true, w.out-is) w.in_ok-put_state_again.ensures
       | else-sent w ↦ rw (w.if-sent.false, w.out-is) (grows-nothing c.args.who.now.group c.args.out.now)
     ] in
-    again (who_of c.args.who.now) c.args.member.now c.args.self.now sent c.args.out.now c.if-sent.out _ (rw c.as_slice.ensures.value at c.in-Some.ensures) before (rw c.in_ok-packet.ensures at c.in_ok-push.ensures.items) refl
+    again (who_of c.args.who.now) c.args.member.now c.args.self.now c.in-Some.sent.now c.args.out.now c.if-sent.out _ (rw c.as_slice.ensures.value at c.in-Some.ensures) before (rw c.in_ok-packet.ensures at c.in_ok-push.ensures.items) refl
