@@ -10,7 +10,7 @@ use std::fs;
 use std::time::Duration;
 use udp_net::{BindError, Net, NodePort};
 use udp_runs::{Loopback, NodeMachine, NodeNet, NodeStatus, Notice, Tally};
-use vsync_text::{Part, put, put_address, put_number, put_parts};
+use vsync_text::{Part, Text};
 
 /// This machine, which says on the standard error what whoever looks after a node should know, and writes the node's status to a file where it is given one (docs/CLI.md, "Nodes over UDP").
 pub(crate) struct Watched<'a, 'b> {
@@ -44,64 +44,54 @@ impl Drop for Watched<'_, '_> {
 }
 
 // Appends the lines of the view: its id, its members and its coordinator.
-fn put_view(
-    text: &mut Vec<u8>,
-    view: Option<ViewId>,
-    members: &[Address],
-) -> Result<(), AllocError> {
+fn put_view(text: &mut Text, view: Option<ViewId>, members: &[Address]) {
     let Some(view) = view else {
-        return put(text, b"view\nmembers\ncoordinator\n");
+        text.put(b"view\nmembers\ncoordinator\n");
+        return;
     };
-    put_parts(
-        text,
-        &[
-            Part::Text(b"view "),
-            Part::View(view),
-            Part::Text(b"\nmembers"),
-        ],
-    )?;
+    text.put_parts(&[
+        Part::Text(b"view "),
+        Part::View(view),
+        Part::Text(b"\nmembers"),
+    ]);
     for address in members {
-        put_address(text, b' ', address)?;
+        text.put_address(b' ', address);
     }
-    put_parts(
-        text,
-        &[
-            Part::Text(b"\ncoordinator "),
-            Part::Address(view.creator()),
-            Part::Text(b"\n"),
-        ],
-    )
+    text.put_parts(&[
+        Part::Text(b"\ncoordinator "),
+        Part::Address(view.creator()),
+        Part::Text(b"\n"),
+    ]);
+}
+
+// Whether a member of a node is among these.
+fn is_there(node: Node, members: &[Address]) -> bool {
+    members.iter().any(|member| member.node() == node)
 }
 
 // Appends the line of the other nodes at which there is no member of the view.
-fn put_sought(
-    text: &mut Vec<u8>,
-    nodes: &[NodePort],
-    own: Node,
-    members: &[Address],
-) -> Result<(), AllocError> {
-    put(text, b"sought")?;
+fn put_sought(text: &mut Text, nodes: &[NodePort], own: Node, members: &[Address]) {
+    text.put(b"sought");
     for place in nodes {
-        let is_there = members.iter().any(|member| member.node() == place.node);
-        if place.node != own && !is_there {
-            put_number(text, b' ', u64::from(place.node.number()))?;
+        if place.node != own && !is_there(place.node, members) {
+            text.put_parts(&[
+                Part::Text(b" "),
+                Part::Number(u64::from(place.node.number())),
+            ]);
         }
     }
-    put(text, b"\n")
+    text.put(b"\n");
 }
 
 // Appends the line of how long the member is blocked.
-fn put_blocked(text: &mut Vec<u8>, blocked: Option<Duration>) -> Result<(), AllocError> {
+fn put_blocked(text: &mut Text, blocked: Option<Duration>) {
     match blocked {
-        Some(time) => put_parts(
-            text,
-            &[
-                Part::Text(b"blocked "),
-                Part::Number(time.as_secs()),
-                Part::Text(b"\n"),
-            ],
-        ),
-        None => put(text, b"blocked\n"),
+        Some(time) => text.put_parts(&[
+            Part::Text(b"blocked "),
+            Part::Number(time.as_secs()),
+            Part::Text(b"\n"),
+        ]),
+        None => text.put(b"blocked\n"),
     }
 }
 
@@ -112,37 +102,28 @@ fn status_text(
     status: &NodeStatus,
     members: &[Address],
 ) -> Result<Vec<u8>, AllocError> {
-    let mut text = Vec::new(alloc);
-    put_parts(
-        &mut text,
-        &[
-            Part::Text(b"address "),
-            Part::Address(status.address),
-            Part::Text(b"\n"),
-        ],
-    )?;
-    put_view(&mut text, status.view, members)?;
-    put_blocked(&mut text, status.blocked)?;
-    put_parts(
-        &mut text,
-        &[
-            Part::Text(b"outstanding "),
-            Part::Number(status.outstanding),
-            Part::Text(b"\nstable "),
-            Part::Number(status.stable),
-            Part::Text(b"\n"),
-        ],
-    )?;
-    put_sought(&mut text, nodes, status.address.node(), members)?;
-    put_parts(
-        &mut text,
-        &[
-            Part::Text(b"strange "),
-            Part::Number(status.strange),
-            Part::Text(b"\n"),
-        ],
-    )?;
-    Ok(text)
+    let mut text = Text::new(alloc);
+    text.put_parts(&[
+        Part::Text(b"address "),
+        Part::Address(status.address),
+        Part::Text(b"\n"),
+    ]);
+    put_view(&mut text, status.view, members);
+    put_blocked(&mut text, status.blocked);
+    text.put_parts(&[
+        Part::Text(b"outstanding "),
+        Part::Number(status.outstanding),
+        Part::Text(b"\nstable "),
+        Part::Number(status.stable),
+        Part::Text(b"\n"),
+    ]);
+    put_sought(&mut text, nodes, status.address.node(), members);
+    text.put_parts(&[
+        Part::Text(b"strange "),
+        Part::Number(status.strange),
+        Part::Text(b"\n"),
+    ]);
+    text.whole()
 }
 
 // Writes a text to a file: to a new one beside it, which then takes its place. Answers whether it is there.
