@@ -3,22 +3,24 @@
 use address::Address;
 use std::alloc::{AllocError, Global};
 use trace_props::{Delivery, Event, Install};
-use vsync_text::put;
+use vsync_text::{Part, Text, put};
 
 /// Writes what is said, and who comes and goes (docs/CLI.md, "What a node says as text").
 #[derive(Drop)]
 pub(crate) struct Speaker {
+    alloc: Global,
     // The members of its view; none before the first.
     members: Vec<Address>,
 }
 
 // Appends a byte as it is where it is safe to show, else as `\x` and two digits.
-fn append_byte(text: &mut Vec<u8>, byte: u8) -> Result<(), AllocError> {
+fn put_byte(text: &mut Text, byte: u8) {
     if byte == b' ' || byte.is_ascii_graphic() {
-        return put(text, &[byte]);
+        text.push(byte);
+    } else {
+        text.put(b"\\x");
+        text.put_hex(&[byte]);
     }
-    let shown = format!(in *text.allocator(); "\\x{byte:02x}")?;
-    put(text, shown.as_bytes())
 }
 
 // Whether a character is to be shown as it is: not one that moves a terminal's cursor.
@@ -28,78 +30,80 @@ fn is_shown(character: char) -> bool {
 }
 
 // Appends a payload as text: as it is where it is UTF-8 without control characters, else with each byte but those of ASCII that are shown as `\x` and two digits.
-fn append_payload(text: &mut Vec<u8>, payload: &[u8]) -> Result<(), AllocError> {
+fn put_payload(text: &mut Text, payload: &[u8]) {
     if let Ok(said) = str::from_utf8(payload) {
         if said.chars().all(is_shown) {
-            return put(text, payload);
+            text.put(payload);
+            return;
         }
     }
     for byte in payload {
-        append_byte(text, *byte)?;
+        put_byte(text, *byte);
     }
-    Ok(())
 }
 
 // Appends a line of what became of a member.
-fn append_change(text: &mut Vec<u8>, member: Address, what: &str) -> Result<(), AllocError> {
-    let line = format!(in *text.allocator(); "* {member} {what}\n")?;
-    put(text, line.as_bytes())
+fn put_change(text: &mut Text, member: Address, what: &[u8]) {
+    text.put_parts(&[
+        Part::Text(b"* "),
+        Part::Address(member),
+        Part::Text(b" "),
+        Part::Text(what),
+        Part::Text(b"\n"),
+    ]);
 }
 
 // Appends what was said.
-fn append_said(text: &mut Vec<u8>, said: &Delivery) -> Result<(), AllocError> {
-    let sender = said.message.sender;
-    let front = format!(in *text.allocator(); "{sender}: ")?;
-    put(text, front.as_bytes())?;
-    append_payload(text, said.message.payload.as_slice())?;
-    put(text, b"\n")
+fn put_said(text: &mut Text, said: &Delivery) {
+    text.put_parts(&[Part::Address(said.message.sender), Part::Text(b": ")]);
+    put_payload(text, said.message.payload.as_slice());
+    text.put(b"\n");
 }
 
 // Appends a change of those of the first list that are not in the second.
-fn append_changes(
-    text: &mut Vec<u8>,
-    members: &[Address],
-    others: &[Address],
-    what: &str,
-) -> Result<(), AllocError> {
+fn put_changes(text: &mut Text, members: &[Address], others: &[Address], what: &[u8]) {
     for member in members {
         if !others.contains(member) {
-            append_change(text, *member, what)?;
+            put_change(text, *member, what);
         }
     }
-    Ok(())
 }
 
 impl Speaker {
     /// Nothing was said yet.
     pub(crate) fn new(alloc: Global) -> Speaker {
         Speaker {
+            alloc,
             members: Vec::new(alloc),
         }
     }
 
     /// Appends what is to be said of an event, if anything is.
     pub(crate) fn append(&mut self, text: &mut Vec<u8>, event: &Event) -> Result<(), AllocError> {
+        let mut said = Text::new(self.alloc);
         match event {
-            Event::Delivered(said) => append_said(text, said),
-            Event::Installed(install) => self.append_install(text, install.get()),
-            Event::Left(member) => append_change(text, *member, "left"),
-            Event::Crashed(member) => append_change(text, *member, "crashed"),
-            _ => Ok(()),
+            Event::Delivered(delivery) => put_said(&mut said, delivery),
+            Event::Installed(install) => self.put_install(&mut said, install.get()),
+            Event::Left(member) => put_change(&mut said, *member, b"left"),
+            Event::Crashed(member) => put_change(&mut said, *member, b"crashed"),
+            _ => (),
         }
+        put(text, said.whole()?.as_slice())
     }
 
     // Appends who went and who came by a view, and what was not said before it.
-    fn append_install(&mut self, text: &mut Vec<u8>, install: &Install) -> Result<(), AllocError> {
+    fn put_install(&mut self, text: &mut Text, install: &Install) {
         let members = install.view.members().as_slice();
-        append_changes(text, self.members.as_slice(), members, "went")?;
-        append_changes(text, members, self.members.as_slice(), "came")?;
+        put_changes(text, self.members.as_slice(), members, b"went");
+        put_changes(text, members, self.members.as_slice(), b"came");
         for left in install.handed_back.as_slice() {
-            put(text, b"* not said: ")?;
-            append_payload(text, left.payload.as_slice())?;
-            put(text, b"\n")?;
+            text.put(b"* not said: ");
+            put_payload(text, left.payload.as_slice());
+            text.put(b"\n");
         }
-        self.members = Vec::from_slice(*text.allocator(), members)?;
-        Ok(())
+        match Vec::from_slice(self.alloc, members) {
+            Ok(members) => self.members = members,
+            Err(_) => text.refuse(),
+        }
     }
 }
