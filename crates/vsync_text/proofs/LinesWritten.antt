@@ -10,7 +10,7 @@ use Rattle.world_model.specs.declared.Reply.{Reply}
 use Rattle.address.specs.declared.refusal.Refusal.{Refusal}
 use Rattle.address.specs.Refusals.{number_of}
 use Rattle.vsync_text.specs.Runs.{lines_from, reply_lines, refusal_line, refused_lines}
-use Rattle.vsync_text.specs.Writing.{Went, TookBeginning, TookLines, Writes}
+use Rattle.vsync_text.specs.Writing.{Went, TookBeginning, TookLines, Writes, Settles}
 
 pub appends_nothing : (a : Option (List ℕ)) → Appends a a []
 appends_nothing None = tt
@@ -196,6 +196,10 @@ beginning_taken a b c l text w s =
     let part : take (length w.written + s.count) text ≡ w.written ++ take s.count l =
     ap (take (length w.written + s.count)) (sym w.whole) ∙ take-append-add w.written l s.count in
     (length w.written + s.count, rw part (appends_then a b c w.written (take s.count l) w.appended s.appended))
+
+pub stop_taken : (a b c : Option (List ℕ)) (l m text : List ℕ) (why : Unwritten) → Went a b [] l text → Settles b c l m (Err why) → (n : ℕ) × Appends a c (take n text)
+stop_taken a b c l m text Memory w s = absurd s
+stop_taken a b c l m text Failed w s = beginning_taken a b c l text w s
 
 pub lines_taken : (a b : Option (List ℕ)) (lines : List (List ℕ)) → TookLines a b [] lines → (n : ℕ) × Appends a b (concat (take n lines))
 lines_taken a b lines w = (w.count, w.appended)

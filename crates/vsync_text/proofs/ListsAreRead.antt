@@ -13,6 +13,11 @@ abbrev pub with_front : {A : Type 0} → List A → Option (List A) → Option (
 with_front xs None = None
 with_front xs (Some ys) = Some (xs ++ ys)
 
+-- nothing is read yet
+pub none_yet : {A : Type 0} (xs : List A) (o : Option (List A)) → xs ≡ [] → o ≡ with_front xs o
+none_yet xs None e = refl
+none_yet xs (Some ys) e = ap (λ l. Some (l ++ ys)) (sym e)
+
 -- one more is read
 pub one_more : {A : Type 0} (xs : List A) (x : A) (o : Option (List A)) → with_front xs (in_front (Some x) o) ≡ with_front (xs ++ x ∷ []) o
 one_more xs x None = refl
