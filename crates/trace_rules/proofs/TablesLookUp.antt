@@ -24,12 +24,12 @@ pub changed-there : {A X : Type 0} (f : Option A → X) (g : X → X) (m n : Mem
     → ((q : MemberInView) → n q ≡ cond (same_in_view s q) (Some w) (m q)) → (q : MemberInView) → f (n q) ≡ cond (same_in_view s q) (g (f (m q))) (f (m q))
 changed-there f g m n s o w was now updates q = changed-at f g m n s q o w (same_in_view s q) refl was now (updates q)
 
-left-at : {A X : Type 0} (f : Option A → X) (m n : MemberInView → Option A) (s q : MemberInView) (v w : A) (b : Bool) → same_in_view s q ≡ b
-    → Some v ≡ m s → f (Some w) ≡ f (Some v) → n q ≡ cond b (Some w) (m q) → f (n q) ≡ f (m q)
-left-at f m n s q v w true e was now update = ap f update ∙ now ∙ ap f (was ∙ ap m (same_in_view-true s q e))
-left-at f m n s q v w false e was now update = ap f update
+left-at : {A X : Type 0} (f : Option A → X) (m n : MemberInView → Option A) (s q : MemberInView) (o : Option A) (w : A) (b : Bool) → same_in_view s q ≡ b
+    → o ≡ m s → f (Some w) ≡ f o → n q ≡ cond b (Some w) (m q) → f (n q) ≡ f (m q)
+left-at f m n s q o w true e was now update = ap f update ∙ now ∙ ap f (was ∙ ap m (same_in_view-true s q e))
+left-at f m n s q o w false e was now update = ap f update
 
 -- what is read of it is as it was
-pub left-there : {A X : Type 0} (f : Option A → X) (m n : MemberInView → Option A) (s : MemberInView) (v w : A) → Some v ≡ m s → f (Some w) ≡ f (Some v)
+pub left-there : {A X : Type 0} (f : Option A → X) (m n : MemberInView → Option A) (s : MemberInView) (o : Option A) (w : A) → o ≡ m s → f (Some w) ≡ f o
     → ((q : MemberInView) → n q ≡ cond (same_in_view s q) (Some w) (m q)) → (q : MemberInView) → f (n q) ≡ f (m q)
-left-there f m n s v w was now updates q = left-at f m n s q v w (same_in_view s q) refl was now (updates q)
+left-there f m n s o w was now updates q = left-at f m n s q o w (same_in_view s q) refl was now (updates q)

@@ -91,9 +91,12 @@ fn knows_each(past: &Past, members: &[Address], install: &Install) -> bool
     ensures { result ≡ list_all (λ q. know_each_other (entry_of q install.now.view.id past.now) install.now) members.now }
 {
     let id = install.view.id();
-    members
-        .iter()
-        .all(|member| know(past.entry(*member, id), install))
+    for member in members {
+        if !know(past.entry(*member, id), install) {
+            return false;
+        }
+    }
+    true
 }
 
 /// Whether who enters knows all that have installed its view.
