@@ -11,6 +11,8 @@ mod candidates_tests;
 #[cfg(test)]
 mod chat_log_tests;
 #[cfg(test)]
+mod chunk_tests;
+#[cfg(test)]
 mod fixtures;
 #[cfg(test)]
 mod flush_tests;
@@ -46,8 +48,6 @@ mod sequencer_tests;
 mod service_tests;
 #[cfg(test)]
 mod stability_tests;
-#[cfg(test)]
-mod state_chunks_tests;
 #[cfg(test)]
 mod state_tests;
 #[cfg(test)]

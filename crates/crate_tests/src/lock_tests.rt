@@ -1,10 +1,9 @@
 use crate::fixtures::{first_at, first_view};
 use address::ViewId;
 use keyed_state::KeyBytes;
-use lock_service::{Standing, standing_of};
 use lock_table::{
-    Command, LockTable, in_turn, moves, one_encoding, one_holder, one_spelling, release_by_another,
-    roll_again, stamps_spell, tokens_rise,
+    Command, LockTable, Standing, in_turn, moves, one_encoding, one_holder, one_spelling,
+    release_by_another, roll_again, stamps_spell, standing_of, tokens_rise,
 };
 use state_transfer::Receiver;
 use std::alloc::{AllocError, Global};

@@ -3,9 +3,8 @@
 use crate::fixtures::{first_at, first_view, token};
 use address::Bytes;
 use application::{Waiting, take_ticket};
-use lock_service::LockService;
-use map_service::MapService;
-use replicated_map::Outcome;
+use lock_table::LockService;
+use replicated_map::{MapService, Outcome};
 use std::alloc::{AllocError, Global};
 use trace_props::{BoxedInstall, Delivery, Event, HandedBack, Install, Message};
 use view::{Addresses, View};
@@ -50,9 +49,9 @@ fn put(alloc: Global, service: &mut MapService) -> Result<(), AllocError> {
 
 #[test]
 fn a_write_is_answered_at_its_place(rt: HostRuntime) {
-    map_service::follows();
-    map_service::answers();
-    map_service::forgets_nobody();
+    replicated_map::follows();
+    replicated_map::answers();
+    replicated_map::forgets_nobody();
     let mut service = MapService::new(rt.alloc(), first_at(1))
         .ok()
         .expect(&rt, "a service");
@@ -65,7 +64,7 @@ fn a_write_is_answered_at_its_place(rt: HostRuntime) {
     assert_eq!(rt; answers.len(), 1);
     assert!(rt; answers[0].ticket == 70, "the ticket");
     match &answers[0].fate {
-        map_service::Fate::Delivered(view, place, Outcome::Stored(version)) => assert!(rt;
+        replicated_map::Fate::Delivered(view, place, Outcome::Stored(version)) => assert!(rt;
             *view == first_view() && *place == 1 && *version == token(1),
             "what became of it"
         ),
@@ -82,10 +81,10 @@ fn acquire(alloc: Global, service: &mut LockService) -> Result<(), AllocError> {
 
 #[test]
 fn a_free_lock_is_granted_at_its_place(rt: HostRuntime) {
-    lock_service::follows();
-    lock_service::grants();
-    lock_service::misses_no_grant();
-    lock_service::forgets_nobody();
+    lock_table::follows();
+    lock_table::grants();
+    lock_table::misses_no_grant();
+    lock_table::forgets_nobody();
     let mut service = LockService::new(rt.alloc(), first_at(1))
         .ok()
         .expect(&rt, "a service");
@@ -104,7 +103,7 @@ fn a_free_lock_is_granted_at_its_place(rt: HostRuntime) {
         "the ticket"
     );
     match &answers[0].fate {
-        lock_service::Fate::Granted(granted) => assert!(rt; *granted == token(1), "its token"),
+        lock_table::Fate::Granted(granted) => assert!(rt; *granted == token(1), "its token"),
         _ => assert!(rt; false, "it is granted"),
     }
 }

@@ -1,8 +1,8 @@
 -- One more answer, and what is known by it.
 use Rattle.std.proofs.Common.{◌≡◌, ℕ, ◌+◌, ◌<◌, List, [], ◌∷◌, ◌++◌, suc, get_or, length, take, sym, ap, ◌∙◌, arith}
 use Rattle.std.proofs.Math.Seq.{take-suc}
-use Rattle.map_service.specs.declared.waiting.Answer.{Answer as MapAnswer}
-use Rattle.lock_service.specs.declared.answer.Answer.{Answer as LockAnswer}
+use Rattle.replicated_map.specs.declared.waiting.Answer.{Answer as MapAnswer}
+use Rattle.lock_table.specs.declared.answer.Answer.{Answer as LockAnswer}
 use Rattle.http_desk.specs.declared.known.Known.{Known}
 use Rattle.http_desk.specs.Replies.{IsKnownOfMap, AreKnownOfMap, IsKnownOfLock, AreKnownOfLocks}
 

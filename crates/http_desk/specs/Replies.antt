@@ -7,12 +7,12 @@ use Rattle.keyed_state.specs.TokenText.{text_of_token}
 use Rattle.replicated_map.specs.declared.outcome.Outcome.{Outcome}
 use Rattle.replicated_map.specs.declared.outcome.Outcome.TheVariants.{Stored, Removed, Cleared, Full, Differs, Missing, NoCommand}
 use Rattle.replicated_map.specs.declared.entries.Held.{Held}
-use Rattle.map_service.specs.declared.waiting.Answer.{Answer as MapAnswer}
-use Rattle.map_service.specs.declared.waiting.Fate.{Fate as MapFate}
-use Rattle.map_service.specs.declared.waiting.Fate.TheVariants as map_fate
-use Rattle.lock_service.specs.declared.answer.Answer.{Answer as LockAnswer}
-use Rattle.lock_service.specs.declared.answer.Fate.{Fate as LockFate}
-use Rattle.lock_service.specs.declared.answer.Fate.TheVariants as lock_fate
+use Rattle.replicated_map.specs.declared.waiting.Answer.{Answer as MapAnswer}
+use Rattle.replicated_map.specs.declared.waiting.Fate.{Fate as MapFate}
+use Rattle.replicated_map.specs.declared.waiting.Fate.TheVariants as map_fate
+use Rattle.lock_table.specs.declared.answer.Answer.{Answer as LockAnswer}
+use Rattle.lock_table.specs.declared.answer.Fate.{Fate as LockFate}
+use Rattle.lock_table.specs.declared.answer.Fate.TheVariants as lock_fate
 use Rattle.http_desk.specs.declared.reply.Reply.{Reply}
 use Rattle.http_desk.specs.declared.known.Known.{Known}
 

@@ -4,10 +4,8 @@ use crate::known::{Known, all_of_locks, all_of_map};
 use crate::lock_request::line_of;
 use crate::map_request::line_of as line_of_map;
 use address::Address;
-use lock_service::LockService;
-use lock_table::Command as LockCommand;
-use map_service::MapService;
-use replicated_map::Command as MapCommand;
+use lock_table::{Command as LockCommand, LockService};
+use replicated_map::{Command as MapCommand, MapService};
 use std::alloc::{AllocError, Global};
 use trace_props::Event;
 

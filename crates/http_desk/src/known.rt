@@ -49,17 +49,17 @@ fn map_reply(alloc: Global, outcome: &Outcome) -> Reply
     }
 }
 
-fn known_of_map(alloc: Global, answer: &map_service::Answer) -> Known
+fn known_of_map(alloc: Global, answer: &replicated_map::Answer) -> Known
     ensures { IsKnownOfMap answer.now result }
 {
     let ticket = answer.ticket;
     match &answer.fate {
-        map_service::Fate::Delivered(view, place, outcome) => Known {
+        replicated_map::Fate::Delivered(view, place, outcome) => Known {
             ticket,
             at: Some((*view, *place)),
             reply: Some(map_reply(alloc, outcome)),
         },
-        map_service::Fate::HandedBack => Known {
+        replicated_map::Fate::HandedBack => Known {
             ticket,
             at: None,
             reply: None,
@@ -70,7 +70,7 @@ fn known_of_map(alloc: Global, answer: &map_service::Answer) -> Known
 /// What is known by answers of the map's service, each by one.
 pub(crate) fn all_of_map(
     alloc: Global,
-    answers: &[map_service::Answer],
+    answers: &[replicated_map::Answer],
 ) -> Result<Vec<Known>, AllocError>
     ensures { IfOk result (λ all. AreKnownOfMap answers.now all.items) }
 {
@@ -96,34 +96,34 @@ fn token_reply(alloc: Global, token: &Token) -> Reply
 }
 
 // The answer to a request for a lock, or to a release of one.
-fn lock_reply(alloc: Global, fate: &lock_service::Fate) -> Option<Reply>
+fn lock_reply(alloc: Global, fate: &lock_table::Fate) -> Option<Reply>
     ensures { AnswersLockFate fate.now result }
 {
     let reply = match fate {
-        lock_service::Fate::Granted(token) => token_reply(alloc, token),
-        lock_service::Fate::Full => Reply::words(
+        lock_table::Fate::Granted(token) => token_reply(alloc, token),
+        lock_table::Fate::Full => Reply::words(
             alloc,
             StatusCode::INSUFFICIENT_STORAGE,
             b"the table is full\n",
         ),
-        lock_service::Fate::Gone => Reply::words(
+        lock_table::Fate::Gone => Reply::words(
             alloc,
             StatusCode::SERVICE_UNAVAILABLE,
             b"the node does not wait for the lock any more\n",
         ),
-        lock_service::Fate::Released => Reply::words(alloc, StatusCode::OK, b"done\n"),
-        lock_service::Fate::NotHeld => Reply::words(
+        lock_table::Fate::Released => Reply::words(alloc, StatusCode::OK, b"done\n"),
+        lock_table::Fate::NotHeld => Reply::words(
             alloc,
             StatusCode::NOT_FOUND,
             b"the node neither holds the lock nor waits for it\n",
         ),
-        lock_service::Fate::NoRequest => Reply::plain(alloc, StatusCode::BAD_REQUEST),
-        lock_service::Fate::HandedBack => return None,
+        lock_table::Fate::NoRequest => Reply::plain(alloc, StatusCode::BAD_REQUEST),
+        lock_table::Fate::HandedBack => return None,
     };
     Some(reply)
 }
 
-fn known_of_lock(alloc: Global, answer: &lock_service::Answer) -> Known
+fn known_of_lock(alloc: Global, answer: &lock_table::Answer) -> Known
     ensures { IsKnownOfLock answer.now result }
 {
     Known {
@@ -136,7 +136,7 @@ fn known_of_lock(alloc: Global, answer: &lock_service::Answer) -> Known
 /// What is known by answers of the locks' service, each by one.
 pub(crate) fn all_of_locks(
     alloc: Global,
-    answers: &[lock_service::Answer],
+    answers: &[lock_table::Answer],
 ) -> Result<Vec<Known>, AllocError>
     ensures { IfOk result (λ all. AreKnownOfLocks answers.now all.items) }
 {

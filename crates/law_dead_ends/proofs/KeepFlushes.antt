@@ -37,7 +37,7 @@ use Rattle.membership.proofs.ProposalsLead as proposals
 use Rattle.membership.proofs.ProposalsLead.{IsProposal}
 use Rattle.membership.proofs.KeepMemberState as lives
 use Rattle.membership.proofs.KeepNotes as notes
-use Rattle.state_chunks.specs.HeldChunks.{given_in}
+use Rattle.membership.specs.HeldChunks.{given_in}
 use Rattle.member_rules.specs.Heard.{takes_forward, takes_nak, takes_ack, takes_order, takes_status}
 use Rattle.member_rules.specs.Messages.{IsSameBeside}
 use Rattle.member_rules.specs.Views.{Asks, AnnouncesView, Redirects, SaysAgain, has_promised, OnJoin, Admits, OnRedirect, OnSuspect, OnFlush, OnBehind, OnReport, OnMerge, Meets, outdated, joined, merged, is_suspectable, leads_now, is_proposing, expects, is_in, is_less, has_member}

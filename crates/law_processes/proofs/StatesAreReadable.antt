@@ -19,7 +19,7 @@ use Rattle.law_acts.specs.Steps.{System, came_of}
 use Rattle.law_acts.specs.Invariant.{Kept}
 use Rattle.law_acts.proofs.GivenStates.{given-is}
 use Rattle.law_acts.specs.Given.{IsGiven}
-use Rattle.state_chunks.specs.HeldChunks.{given_in}
+use Rattle.membership.specs.HeldChunks.{given_in}
 use Rattle.membership.specs.declared.member_state.MemberState.{MemberState}
 use Rattle.membership.specs.MemberStates.{IsMemberState, core_of as core_at}
 use Rattle.membership.specs.Changes.{would_enter}

@@ -10,3 +10,5 @@ pub mod OthersRelease
 pub mod OneMessageGrants
 pub mod MovesAreMade
 pub mod StampsSpellViews
+pub mod GrantsWereAsked
+pub mod WaitersAreKept

@@ -12,3 +12,6 @@ pub mod CommandLaws
 pub mod Words
 pub mod TableText
 pub mod Stamps
+pub mod Keeping
+pub mod Standings
+pub mod Answers

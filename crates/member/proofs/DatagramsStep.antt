@@ -16,7 +16,7 @@ use Rattle.address.proofs.SameIds.{same_address-true}
 use Rattle.law_acts.specs.Histories.{Posted}
 use Rattle.law_acts.specs.Acts.{packet}
 use Rattle.law_acts.specs.Decisions.{is_readable}
-use Rattle.state_chunks.specs.HeldChunks.{given_in}
+use Rattle.membership.specs.HeldChunks.{given_in}
 use Rattle.step_output.specs.declared.output.Output.{Output}
 use Rattle.step_output.specs.Outputs.{Puts}
 use Rattle.step_output.specs.Calm.{IsCalm}

@@ -14,7 +14,7 @@ use Rattle.membership.specs.declared.member_state.MemberState.{MemberState}
 use Rattle.wire_values.specs.Kinds.{install_said}
 use Rattle.membership.specs.MemberStates.{would_hold}
 use Rattle.membership.specs.Changes.{TakesInstall, TakesChunk, would_enter}
-use Rattle.state_chunks.specs.HeldChunks.{given_in}
+use Rattle.membership.specs.HeldChunks.{given_in}
 use Rattle.member_rules.specs.Heard.{takes_forward, takes_nak, takes_ack, takes_order, takes_status}
 use Rattle.member_rules.specs.Ordered.{HearsBy}
 use Rattle.member_rules.specs.Messages.{OnForward, OnAck, OnNak, OnOrder, OnStatus}

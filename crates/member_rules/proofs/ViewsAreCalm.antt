@@ -21,7 +21,7 @@ use Rattle.law_acts.specs.Histories.{Posted}
 use Rattle.law_acts.specs.Cores.{is_open}
 use Rattle.law_acts.specs.Acts.{delivery}
 use Rattle.law_acts.specs.Decisions.{due_proposal, cuts_of}
-use Rattle.state_chunks.specs.HeldChunks.{given_in}
+use Rattle.membership.specs.HeldChunks.{given_in}
 use Rattle.step_output.specs.declared.output.Output.{Output}
 use Rattle.step_output.specs.Outputs.{Grows}
 use Rattle.step_output.specs.Calm.{is_quiet, IsCalm}

@@ -35,8 +35,8 @@ use Rattle.law_acts.proofs.ActsAreAllowed.{promises-acted, proposes-acted, recor
 use Rattle.step_output.specs.declared.output.Output.{Output}
 use Rattle.step_output.specs.Outputs.{packet_in, spelled}
 use Rattle.step_output.proofs.GrowthAdds.{all-then, grows-nothing}
-use Rattle.state_chunks.specs.HeldChunks.{is_new, is_there, given_in}
-use Rattle.state_chunks.proofs.HeldChunksJoin.{given-there, held-more}
+use Rattle.membership.specs.HeldChunks.{is_new, is_there, given_in}
+use Rattle.membership.proofs.HeldChunksJoin.{given-there, held-more}
 use Rattle.traffic.specs.declared.view_state.ViewState.{ViewState}
 use Rattle.traffic.specs.ViewStates.{view_of, fresh_in}
 use Rattle.traffic.proofs.NewViewTraffic.{fresh-is, fresh-view}

@@ -1,3 +1,5 @@
+pub mod Pieces
+pub mod HeldChunksJoin
 pub mod ActsInTurn
 pub mod FlushesAreSayable
 pub mod ProposalsLead

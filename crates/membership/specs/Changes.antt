@@ -22,7 +22,7 @@ use Rattle.membership.specs.MemberStates.{core_of, view_in, report_in, blocked_b
 use Rattle.membership.specs.Installs.{finished_state, finished_given, finish_packets, finish_sent, finish_events, state_by, arriving, enter_events}
 use Rattle.membership.specs.declared.member_state.MemberState.{MemberState}
 use Rattle.membership.specs.declared.sent_install.SentInstall.{SentInstall}
-use Rattle.state_chunks.specs.HeldChunks.{is_there, given_in}
+use Rattle.membership.specs.HeldChunks.{is_there, given_in}
 use Rattle.wire.specs.Packets.{IsPacket}
 use Rattle.wire_values.specs.Chunks.{IsTotal}
 use Rattle.law_acts.specs.Histories.{Posted}

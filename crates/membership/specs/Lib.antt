@@ -1,3 +1,4 @@
+pub mod HeldChunks
 pub mod MemberStates
 pub mod InSteps
 pub mod Installs

@@ -21,7 +21,7 @@ use Rattle.law_acts.specs.Cores.{Core, fresh_view_core, report_with, is_open}
 use Rattle.law_acts.specs.Acts.{packet, proposed}
 use Rattle.law_acts.specs.Decisions.{proposal_after}
 use Rattle.membership.specs.declared.sent_install.SentInstall.{SentInstall}
-use Rattle.state_chunks.specs.HeldChunks.{is_new}
+use Rattle.membership.specs.HeldChunks.{is_new}
 use Rattle.wire_values.specs.Chunks.{IsTotal}
 use Rattle.wire_values.specs.Lists.{IsChunk}
 use Rattle.wire_values.specs.declared.values.state.GivenState.{GivenState}

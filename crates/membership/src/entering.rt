@@ -5,7 +5,7 @@ ghost use Rattle.std.specs.Option.{option_and_then};
 ghost use Rattle.law_acts.specs.Acts.{deliveries};
 ghost use Rattle.law_acts.specs.Cores.{applied, id_of};
 ghost use Rattle.law_acts.specs.Decisions.{is_readable, gives_some, is_fitting};
-ghost use Rattle.state_chunks.specs.HeldChunks.{given_in};
+ghost use Rattle.membership.specs.HeldChunks.{given_in};
 ghost use Rattle.sequencer.specs.Forwards.{AreShort};
 ghost use Rattle.traffic.specs.ViewStates.{view_of};
 ghost use Rattle.trace_props.specs.declared.event.Event.TheVariants as event;

@@ -8,14 +8,14 @@ ghost use Rattle.wire_values.specs.declared.packet.Body.TheVariants as bodies;
 ghost use Rattle.law_acts.specs.Acts.{packet, chunk_packets};
 ghost use Rattle.law_acts.specs.Given.{chunk_at, chunks_of};
 ghost use Rattle.law_acts.specs.Decisions.{form_of, kept_of};
-ghost use Rattle.state_chunks.specs.HeldChunks.{chunk_count};
+ghost use Rattle.membership.specs.HeldChunks.{chunk_count};
 ghost use Rattle.step_output.specs.Outputs.{Grows};
 ghost use Rattle.membership.specs.MemberStates.{is_chunked};
 ghost use Rattle.membership.specs.Installs.{given_to};
 
+use crate::{chunk_count, chunk_of};
 use address::{Address, Bytes, ViewId};
 use flush::Flush;
-use state_chunks::{chunk_count, chunk_of};
 use state_transfer::Receiver;
 use std::alloc::AllocError;
 use step_output::{Identity, Output};

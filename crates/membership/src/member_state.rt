@@ -3,11 +3,10 @@ ghost use Rattle.std.specs.Option.{option_copied};
 ghost use Rattle.law_acts.specs.Cores.{is_open};
 ghost use Rattle.membership.specs.MemberStates.{view_in, is_connected, idle_member};
 
-use crate::SentInstall;
+use crate::{HeldChunks, SentInstall};
 use address::{Address, Bytes};
 use flush::Flush;
 use next_view::ViewNotes;
-use state_chunks::HeldChunks;
 use state_transfer::Receiver;
 use std::alloc::Global;
 use traffic::ViewState;

@@ -6,7 +6,7 @@ ghost use Rattle.view_install.specs.Promises.{offered, may_install, same_view};
 ghost use Rattle.law_acts.specs.Decisions.{is_readable, is_entry};
 ghost use Rattle.membership.specs.declared.stop.Stop.TheVariants as stop;
 ghost use Rattle.membership.specs.MemberStates.{core_of, is_connected, awaits, would_hold, IsMemberState};
-ghost use Rattle.state_chunks.specs.HeldChunks.{given_in};
+ghost use Rattle.membership.specs.HeldChunks.{given_in};
 ghost use Rattle.membership.specs.Changes.{StaysAs, is_behind, is_ignored_offer, TakesFlush, TakesInstall, TakesBehind, TakesSuspicion, TakesChunk, would_enter};
 ghost use Rattle.step_output.specs.Steps.{who_of};
 ghost use Rattle.membership.specs.InSteps.{in_step};

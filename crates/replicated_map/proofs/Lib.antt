@@ -4,3 +4,5 @@ pub mod OutcomesSay
 pub mod VersionsOnlyRise
 pub mod PartsAppend
 pub mod StampsSpellViews
+pub mod AnswersSayWhat
+pub mod TicketsAreKept

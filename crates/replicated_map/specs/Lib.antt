@@ -12,3 +12,5 @@ pub mod CommandLaws
 pub mod Words
 pub mod MapText
 pub mod Stamps
+pub mod Serving
+pub mod Answers

@@ -1,5 +1,7 @@
 //! A replicated map from keys to values: all copies that were given the same commands have the same entries, with the same versions
 //! (docs/RECEIVERS.md, "The map's state").
+//! And what a node that keeps the map tells those who write to it: it follows the events of its member with a copy of its own,
+//! and answers each write at the write's own place in the order (docs/EMBEDDING.md, "What became of a write").
 #![tactic(auto)]
 
 mod changing;
@@ -12,7 +14,10 @@ mod law;
 mod lines;
 mod map;
 mod outcome;
+mod service;
+mod service_law;
 mod values;
+mod waiting;
 mod words;
 
 pub use command::Command;
@@ -21,7 +26,10 @@ use keyed_state::{KEY, VIEW_ID_BYTES};
 pub use law::{one_encoding, one_spelling, outcomes, replaces, sizes, stamps_spell, versions};
 pub use map::ReplicatedMap;
 pub use outcome::Outcome;
+pub use service::MapService;
+pub use service_law::{answers, follows, forgets_nobody};
 pub use values::{ValueBytes, Version};
+pub use waiting::{Answer, Fate};
 
 /// The longest value, in bytes.
 pub const VALUE: usize = 400;

@@ -6,7 +6,7 @@ use Rattle.std.proofs.lemmas.Bool.{and_from, and_parts, eqb-true}
 use Rattle.std.proofs.lemmas.Bool.Decides.{nat_tests}
 use Rattle.wire_values.specs.Values.{Chunk}
 use Rattle.law_acts.specs.Given.{chunk_at}
-use Rattle.state_chunks.specs.HeldChunks.{chunk_count, is_new, is_at, has_all}
+use Rattle.membership.specs.HeldChunks.{chunk_count, is_new, is_at, has_all}
 use Rattle.trace_props.proofs.ObservedGrow.{list_any-now, list_any-stays}
 use Rattle.settling.proofs.ChunksInOrder.{same, or-left, or-right, all-of}
 

@@ -6,7 +6,7 @@ use Rattle.std.proofs.lemmas.Bool.{and_from}
 use Rattle.std.proofs.lemmas.Bool.Decides.{nat_tests}
 use Rattle.wire_values.specs.Values.{Chunk}
 use Rattle.law_acts.specs.Given.{chunk_at, chunks_of}
-use Rattle.state_chunks.specs.HeldChunks.{chunk_count, is_new, is_at, has_all}
+use Rattle.membership.specs.HeldChunks.{chunk_count, is_new, is_at, has_all}
 
 pub same : (a : ℕ) → nat_eq a a ≡ true
 same a = grind (arith, nat_tests)

@@ -23,7 +23,7 @@ use Rattle.membership.specs.InSteps.{InStep, in_step}
 use Rattle.membership.specs.declared.member_state.MemberState.{MemberState}
 use Rattle.membership.specs.MemberStates.{is_complete, is_expected, recording, would_hold, anew_proposal}
 use Rattle.membership.specs.Changes.{StaysAs, TakesBy, Promises, BeginsAndGoesOn, FinishesAndProposes, GoesOn, TakesReport, TakesBehind, TakesChunk, TakesInstall, Enters, would_enter}
-use Rattle.state_chunks.specs.HeldChunks.{given_in}
+use Rattle.membership.specs.HeldChunks.{given_in}
 use Rattle.member_rules.specs.Views.{OnFlush, OnBehind, OnReport, expects, is_proposing}
 use Rattle.world_step.proofs.InputsTaken.{when-true, when-false}
 use Rattle.settling.specs.LowProposals.{told}

@@ -36,7 +36,7 @@ use Rattle.membership.specs.MemberStates.{view_in, is_connected, report_in, is_c
 use Rattle.membership.specs.Changes.{StaysAs, InstallsAgain, TakesChunk, TakesInstall, Enters, chunks_before, state_packets as kept_packets}
 use Rattle.member_rules.specs.Views.{OnReport, SaysAgain, proposes_again, reports_again, flushes_again, asks_again, expects, is_in}
 use Rattle.member.specs.Doing.{Ticks}
-use Rattle.state_chunks.specs.HeldChunks.{chunk_count, is_new, is_there, has_all, given_in}
+use Rattle.membership.specs.HeldChunks.{chunk_count, is_new, is_there, has_all, given_in}
 use Rattle.world_model.specs.declared.WorldEvent.TheVariants.{Deliver, Tick}
 use Rattle.traffic.proofs.NewViewTraffic.{fresh-view}
 use Rattle.world_model.specs.Packets.{world_group, packet_numbered}

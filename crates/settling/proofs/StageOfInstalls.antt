@@ -25,7 +25,7 @@ use Rattle.law_acts.specs.Packets.{IsInstruction}
 use Rattle.law_acts.proofs.KeepBySteps
 use Rattle.step_output.specs.declared.output.Output.{Output}
 use Rattle.step_output.specs.Steps.{who}
-use Rattle.state_chunks.specs.HeldChunks.{chunk_count, is_new, is_there, has_all, given_in}
+use Rattle.membership.specs.HeldChunks.{chunk_count, is_new, is_there, has_all, given_in}
 use Rattle.traffic.proofs.NewViewTraffic.{fresh-view}
 use Rattle.membership.specs.InSteps.{in_step}
 use Rattle.membership.specs.declared.member_state.MemberState.{MemberState}

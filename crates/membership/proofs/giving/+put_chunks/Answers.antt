@@ -6,7 +6,7 @@ use Rattle.law_acts.specs.Acts.{packet}
 use Rattle.law_acts.specs.Given.{chunk_at}
 use Rattle.step_output.specs.Outputs.{Grows}
 use Rattle.step_output.proofs.GrowthAdds.{grows-then}
-use Rattle.state_chunks.proofs.Pieces.{range_next}
+use Rattle.membership.proofs.Pieces.{range_next}
 use Rattle.membership.proofs.giving.+put_chunks.Goals as goal
 
 pub returns : goal.returns

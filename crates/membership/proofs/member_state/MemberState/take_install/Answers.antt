@@ -2,7 +2,7 @@ use Rattle.std.proofs.Common.{rules, ◌≡◌, true}
 use Rattle.std.proofs.lemmas.Bool.{and_parts}
 use Rattle.std.proofs.lemmas.Result.{on_ok_weaker}
 use Rattle.law_acts.specs.Decisions.{is_entry}
-use Rattle.state_chunks.specs.HeldChunks.{is_there, given_in}
+use Rattle.membership.specs.HeldChunks.{is_there, given_in}
 use Rattle.step_output.specs.Steps.{who_of}
 use Rattle.membership.specs.MemberStates.{core_of}
 use Rattle.membership.specs.Changes.{would_enter}

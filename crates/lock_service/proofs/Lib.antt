@@ -1,2 +1,0 @@
-pub mod GrantsWereAsked
-pub mod WaitersAreKept

@@ -1,0 +1,127 @@
+//! Who waits for a lock, and what each is told.
+
+ghost use Rattle.std.specs.Prelude.{◌≡◌, ◌+◌, ◌≤◌, ◌++◌, vec_len, vec_capacity, length, map};
+ghost use Rattle.std.specs.List.{filter, flat_map};
+ghost use Rattle.lock_table.specs.Keeping.{late_fate, still_waits, told, back};
+
+use crate::standing::is_waiting;
+use crate::{LockTable, Standing, Token, standing_of};
+use address::{Address, Bytes, ViewId};
+use application::Waiting;
+use std::alloc::{AllocError, Global};
+
+/// What became of a request for a lock.
+#[derive(Clone, Copy, Debug, Drop)]
+pub enum Fate {
+    /// The member holds the lock, with this token.
+    Granted(Token),
+    /// The table is full: the request was delivered, and changed nothing.
+    Full,
+    /// The member waited for the lock, and does so no more: another request released it, or the member was given another table.
+    Gone,
+    /// The member held the lock or waited for it, and does so no more.
+    Released,
+    /// The member neither held the lock nor waited for it: there was nothing to release.
+    NotHeld,
+    /// The message asks for no lock and releases none.
+    NoRequest,
+    /// The view of the message ended before it was delivered.
+    HandedBack,
+}
+
+/// What became of the request that was noted for a ticket, and where it was known: after so many messages of a view.
+#[derive(Clone, Copy, Debug, Drop)]
+pub struct Answer {
+    pub ticket: u64,
+    pub view: ViewId,
+    pub place: u64,
+    pub fate: Fate,
+}
+
+/// Who waits until the member holds the lock of this name.
+#[derive(Drop)]
+pub struct Queued {
+    pub ticket: u64,
+    pub name: Bytes,
+}
+
+// What is told to who waited for a lock; `None` if the member waits on.
+pub(crate) fn late_fate(standing: &Standing) -> Option<Fate>
+    ensures { result ≡ late_fate standing.now }
+{
+    match standing {
+        Standing::Holds(token) => Some(Fate::Granted(*token)),
+        Standing::Waits => None,
+        Standing::Apart => Some(Fate::Gone),
+    }
+}
+
+// Tells who waits what became of it, if that is known.
+fn tell_one(
+    own: &Address,
+    copy: &LockTable,
+    view: ViewId,
+    place: u64,
+    queued: &Queued,
+    answers: &mut Vec<Answer>,
+)
+    requires { vec_len answers.old + 1 ≤ vec_capacity answers.old }
+    ensures items { answers.new.items ≡ answers.old.items ++ told own.now copy.now view place queued.now }
+    ensures room { vec_capacity answers.old ≤ vec_capacity answers.new }
+    ensures few { vec_len answers.new ≤ vec_len answers.old + 1 }
+{
+    let ticket = queued.ticket;
+    if let Some(fate) = late_fate(&standing_of(own, queued.name.as_slice(), copy)) {
+        answers.push_reserved(Answer {
+            ticket,
+            view,
+            place,
+            fate,
+        });
+    }
+}
+
+// Tells all who wait what became of it, where that is known.
+pub(crate) fn tell_all(
+    own: &Address,
+    copy: &LockTable,
+    view: ViewId,
+    place: u64,
+    queued: &[Queued],
+    answers: &mut Vec<Answer>,
+)
+    requires { vec_len answers.old + length queued.now ≤ vec_capacity answers.old }
+    ensures items { answers.new.items ≡ answers.old.items ++ flat_map (told own.now copy.now view place) queued.now }
+    ensures room { vec_capacity answers.old ≤ vec_capacity answers.new }
+    ensures few { vec_len answers.new ≤ vec_len answers.old + length queued.now }
+{
+    for waits in queued {
+        tell_one(own, copy, view, place, waits, answers);
+    }
+}
+
+// Only those wait on for whose lock the member waits.
+pub(crate) fn keep_waiting(own: &Address, copy: &LockTable, queued: &mut Vec<Queued>)
+    ensures items { queued.new.items ≡ filter (still_waits own.now copy.now) queued.old.items }
+    ensures room { vec_capacity queued.old ≤ vec_capacity queued.new }
+    ensures few { vec_len queued.new ≤ vec_len queued.old }
+{
+    queued.retain(|waits| is_waiting(&standing_of(own, waits.name.as_slice(), copy)));
+}
+
+// Answers all that wait for a message that it is handed back.
+pub(crate) fn hand_back(view: ViewId, waiting: &[Waiting], answers: &mut Vec<Answer>)
+    requires { vec_len answers.old + length waiting.now ≤ vec_capacity answers.old }
+    ensures items { answers.new.items ≡ answers.old.items ++ map (back view) waiting.now }
+    ensures room { vec_capacity answers.old ≤ vec_capacity answers.new }
+    ensures few { vec_len answers.new ≤ vec_len answers.old + length waiting.now }
+{
+    for waits in waiting {
+        answers.push_reserved(Answer {
+            ticket: waits.ticket,
+            view,
+            place: 0,
+            fate: Fate::HandedBack,
+        });
+    }
+}

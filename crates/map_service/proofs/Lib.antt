@@ -1,2 +1,0 @@
-pub mod AnswersSayWhat
-pub mod TicketsAreKept

@@ -1,0 +1,4 @@
+use Rattle.membership.proofs.held_chunks.HeldChunks.+has_from.Given as goal
+
+abbrev pub decreases-has_from : goal.decreases-has_from
+decreases-has_from l = l.count

@@ -1,4 +1,0 @@
-use Rattle.state_chunks.proofs.held_chunks.HeldChunks.+has_from.Given as goal
-
-abbrev pub decreases-has_from : goal.decreases-has_from
-decreases-has_from l = l.count
