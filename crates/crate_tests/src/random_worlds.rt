@@ -4,9 +4,8 @@ use crate::last::Last;
 use crate::two_members::node;
 use address::{Address, Node, ViewId};
 use law_dead_ends::nothing_is_a_dead_end;
-use settling::low_proposals_rise;
 use trace_props::{Event, Install};
-use world::World;
+use world::{World, low_proposals_rise};
 use world_model::WorldEvent;
 
 /// How many worlds are made.

@@ -47,7 +47,7 @@ use Rattle.world_step.proofs.MembersAsSystem.{runs, system_of}
 use Rattle.law_processes.proofs.PostsAreSpelled.{EachSound, bytes_for}
 use Rattle.world_step.proofs.KeepOfWorlds
 use Rattle.world.proofs.RepliesPlayed
-use Rattle.settling.proofs.FirstPackets.{first-found, each-at}
+use Rattle.world.proofs.FirstPackets.{first-found, each-at}
 use Rattle.world_step.proofs.Standing
 use Rattle.step_output.specs.Steps.{who}
 use Rattle.world_step.proofs.PoolPackets.{IsSound, put-out, AreNext, put-next, next-rest, next-first}

@@ -4,8 +4,8 @@ use Rattle.std.specs.Prelude.{IfOk, OnOk, OnErr, MatchOption}
 use Rattle.std.specs.Option.{ForSome, IsSomeAnd}
 use Rattle.state_transfer.specs.Meanings.{Meaning}
 use Rattle.world_step.specs.Worlds.{WorldModel}
-use Rattle.settling.specs.Settles.{IsSettled}
-use Rattle.settling.specs.Completing.{completing_at, Completes}
+use Rattle.world.specs.Settles.{IsSettled}
+use Rattle.world.specs.Completing.{completing_at, Completes}
 use Rattle.world.specs.Settled.{SettlesAt}
 
 -- of an outcome that went well: what holds of it holds of the view

@@ -2,8 +2,8 @@
 use Rattle.std.specs.Prelude.{◌≡◌, ℕ, MatchOption}
 use Rattle.state_transfer.specs.Meanings.{Meaning}
 use Rattle.world_step.specs.Worlds.{WorldModel}
-use Rattle.settling.specs.Settles.{IsSettled}
-use Rattle.settling.specs.Completing.{completing_at, Completes}
+use Rattle.world.specs.Settles.{IsSettled}
+use Rattle.world.specs.Completing.{completing_at, Completes}
 
 -- the change of view of the member at a node completes, if it can: all of the view's members are in it then; else nothing is done
 abbrev pub SettlesAt : {S : Type 0} → Meaning S → ℕ → WorldModel S → WorldModel S → Type 0

@@ -1,4 +1,5 @@
-//! A world of members: it carries out events one after another and records what happened.
+//! A world of members: it carries out events one after another and records what happened. And a change of view completes in it: whether members can complete
+//! the one that a member has begun, or go into the one that a member is in, the law that they do, for every world, and that two lone views come into one.
 #![tactic(auto)]
 
 ghost use Rattle.std.specs.Prelude.{◌≡◌, ◌+◌, ◌<◌, ◌≤◌, ℕ, true, length, take, Some, IfOk, OnOk, OnErr, vec_len, vec_capacity};
@@ -17,13 +18,21 @@ ghost use Rattle.world_step.specs.NodeStates.{deployment_of};
 ghost use Rattle.world_step.specs.Turns.{Carries};
 ghost use Rattle.world.specs.Known.{IsStableAt, MembersKnow, stable_at};
 
+mod followers;
 mod gaps;
+mod installs;
+mod law;
 mod plays;
+mod rounds;
 mod settle;
 
 use address::limits::{Refusal, STEP_EVENTS};
 use address::{Address, Bytes, Node};
+pub use followers::{begun, is_settling};
+pub use installs::{awaited, awaits_install};
+pub use law::{lone_views_meet, low_proposals_rise, views_complete, views_settle};
 use law_processes::deployments_are_synchronous;
+pub use rounds::{Round, Rounds, overtaking, round_at};
 use state_transfer::Receiver;
 use std::alloc::{AllocError, Global};
 use std::collections::BTreeMap;

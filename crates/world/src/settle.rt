@@ -11,15 +11,16 @@ ghost use Rattle.world_model.specs.Packets.{world_group};
 ghost use Rattle.law_processes.specs.Deployments.{IsPlayed};
 ghost use Rattle.world_step.specs.NodeStates.{deployment_of};
 ghost use Rattle.world_step.specs.Worlds.{shown, IsLonger};
-ghost use Rattle.settling.specs.Settles.{Settles, SettlesShort, EndsSettling, IsSettled};
-ghost use Rattle.settling.specs.LostInstalls.{BringsIn, BringsInShort, BringsAll, BringsShort};
-ghost use Rattle.settling.specs.LowProposals.{overtaking_at, Raises, RaisesShort, RaisesTwice, RaisesTwiceShort, OvertakesAndSettles, OvertakesShort};
-ghost use Rattle.settling.specs.Completing.{completing_at, most_events, Completes, CompletesShort, IsUntried};
+ghost use Rattle.world.specs.Settles.{Settles, SettlesShort, EndsSettling, IsSettled};
+ghost use Rattle.world.specs.LostInstalls.{BringsIn, BringsInShort, BringsAll, BringsShort};
+ghost use Rattle.world.specs.LowProposals.{overtaking_at, Raises, RaisesShort, RaisesTwice, RaisesTwiceShort, OvertakesAndSettles, OvertakesShort};
+ghost use Rattle.world.specs.Completing.{completing_at, most_events, Completes, CompletesShort, IsUntried};
 ghost use Rattle.world.specs.Known.{MembersKnow};
 
-use crate::World;
+use crate::{
+    Rounds, World, awaited, awaits_install, begun, is_settling, overtaking, views_complete,
+};
 use address::{Address, Node};
-use settling::{Rounds, awaited, awaits_install, begun, is_settling, overtaking, views_complete};
 use state_transfer::Receiver;
 use std::alloc::AllocError;
 use wire_values::Roster;

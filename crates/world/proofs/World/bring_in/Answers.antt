@@ -3,8 +3,8 @@ use Rattle.world_model.specs.declared.WorldEvent.TheVariants.{Tick}
 use Rattle.world_step.specs.Worlds.{WorldValue, shown}
 use Rattle.world_step.specs.Plays.{Plays, Fails}
 use Rattle.world_step.proofs.Deliveries.{on-err-map, on-ok-map}
-use Rattle.settling.specs.LostInstalls.BringsInShort.{AtTick}
-use Rattle.settling.proofs.BringingIsRun.{at-report, at-install, all-of-it}
+use Rattle.world.specs.LostInstalls.BringsInShort.{AtTick}
+use Rattle.world.proofs.BringingIsRun.{at-report, at-install, all-of-it}
 use Rattle.address.proofs.Plain.{on-err}
 use Rattle.world.proofs.World.bring_in.Goals as goal
 

@@ -1,9 +1,9 @@
 use Rattle.std.proofs.Common.{◌≡◌, ◌<◌, true, false, List, length, get_or, sym, ap, subst, ◌∙◌, refl}
 use Rattle.address.specs.Ids.{Address}
 use Rattle.world_step.specs.Worlds.{WorldValue, shown}
-use Rattle.settling.specs.LostInstalls.{awaits_install}
-use Rattle.settling.specs.LostInstalls.BringsAll.{Nobody}
-use Rattle.settling.proofs.BringingIsRun.{one-more, stops-at}
+use Rattle.world.specs.LostInstalls.{awaits_install}
+use Rattle.world.specs.LostInstalls.BringsAll.{Nobody}
+use Rattle.world.proofs.BringingIsRun.{one-more, stops-at}
 use Rattle.address.proofs.Plain.{on-err}
 use Rattle.world.proofs.World.bring_in_all.Goals as goal
 use Rattle.world.proofs.World.bring_in_all.Goals.{then-awaits_install+in_ok-bring_in, else-awaits_install}

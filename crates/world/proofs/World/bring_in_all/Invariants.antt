@@ -1,6 +1,6 @@
 use Rattle.std.proofs.Common.{take}
 use Rattle.world_step.specs.Worlds.{shown}
-use Rattle.settling.specs.LostInstalls.{BringsAll}
+use Rattle.world.specs.LostInstalls.{BringsAll}
 use Rattle.world.proofs.World.bring_in_all.Given as goal
 
 -- those of the first addresses who awaited their INSTALLs are in the view

@@ -1,9 +1,9 @@
 use Rattle.std.proofs.Common.{ap, ◌∙◌, length}
 use Rattle.world_step.specs.Worlds.{WorldValue, shown}
 use Rattle.world_step.proofs.Deliveries.{on-err-map, on-ok-map}
-use Rattle.settling.specs.Settles.{begun_in}
-use Rattle.settling.specs.Settles.SettlesShort.{AtTick}
-use Rattle.settling.proofs.SettlingIsRun.{at-flush, at-report, at-install, all-of-it}
+use Rattle.world.specs.Settles.{begun_in}
+use Rattle.world.specs.Settles.SettlesShort.{AtTick}
+use Rattle.world.proofs.SettlingIsRun.{at-flush, at-report, at-install, all-of-it}
 use Rattle.address.proofs.Plain.{on-err}
 use Rattle.world.proofs.World.bring_together.Goals as goal
 

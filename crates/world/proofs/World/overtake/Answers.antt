@@ -5,9 +5,9 @@ use Rattle.std.proofs.lemmas.Option.{none-some}
 use Rattle.world_step.specs.Invariant.{IsWorld}
 use Rattle.world_step.specs.Worlds.{WorldValue, shown}
 use Rattle.world_step.proofs.KeepOfWorlds.{reached-keeps}
-use Rattle.settling.specs.declared.rounds.Rounds.{Rounds}
-use Rattle.settling.specs.LowProposals.{overtaking_at, round_at, asked_past}
-use Rattle.settling.proofs.OvertakingEnds.{rounds-stop, settling-stops, overtaken}
+use Rattle.world.specs.declared.rounds.Rounds.{Rounds}
+use Rattle.world.specs.LowProposals.{overtaking_at, round_at, asked_past}
+use Rattle.world.proofs.OvertakingEnds.{rounds-stop, settling-stops, overtaken}
 use Rattle.address.proofs.Plain.{on-err}
 use Rattle.world.proofs.World.overtake.Goals as goal
 

@@ -1,7 +1,7 @@
 use Rattle.world_step.specs.Worlds.{shown}
 use Rattle.world_step.proofs.Deliveries.{on-err-map, on-ok-map}
-use Rattle.settling.specs.LowProposals.RaisesTwiceShort.{InFirst}
-use Rattle.settling.proofs.OvertakingIsRun.{alone, once-more, once-short}
+use Rattle.world.specs.LowProposals.RaisesTwiceShort.{InFirst}
+use Rattle.world.proofs.OvertakingIsRun.{alone, once-more, once-short}
 use Rattle.address.proofs.Plain.{on-err}
 use Rattle.world.proofs.World.raise_twice.Goals as goal
 

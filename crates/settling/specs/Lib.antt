@@ -1,5 +1,0 @@
-pub mod Settles
-pub mod Meets
-pub mod LostInstalls
-pub mod LowProposals
-pub mod Completing
