@@ -221,7 +221,7 @@ impl fmt::Display for ViewId {
 }
 
 /// The refusal 8: a counter or a number is used up.
-#[derive(Clone, Copy, Debug, PartialEq, Eq)]
+#[derive(Clone, Copy, Debug)]
 pub struct Exhausted;
 
 impl Exhausted {

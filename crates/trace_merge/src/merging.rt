@@ -16,7 +16,7 @@ use thiserror::Error;
 use trace_props::{Event, Trace};
 
 /// Why traces are not put together.
-#[derive(Clone, Copy, Debug, PartialEq, Eq, Error)]
+#[derive(Clone, Copy, Debug, Error)]
 pub enum MergeError {
     /// They have no such order: where all have come that can, the event of this number, of the process of this number, waits for one that can only come behind it, in its own process or behind events of others that wait so; both numbers count from 1.
     #[error("the events of the processes have no order")]

@@ -7,7 +7,7 @@ use address::limits::Refusal;
 use std::alloc::AllocError;
 
 /// Why a text gives no settings.
-#[derive(Clone, Copy, Debug, PartialEq, Eq, thiserror::Error)]
+#[derive(Clone, Copy, Debug, thiserror::Error)]
 pub enum SettingsError {
     /// 50: it is no document of settings.
     #[error("no settings")]

@@ -58,7 +58,7 @@ pub struct Place {
 }
 
 /// What words told of a node.
-#[derive(Clone, Copy, PartialEq, Eq)]
+#[derive(Clone, Copy)]
 pub struct Neighbour {
     /// The node.
     pub node: Node,

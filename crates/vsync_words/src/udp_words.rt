@@ -56,7 +56,7 @@ impl Drop for MemberWords<'_> {
 }
 
 /// What is wrong with the words of `member` that clap takes.
-#[derive(Clone, Copy, Debug, PartialEq, Eq, Error)]
+#[derive(Clone, Copy, Debug, Error)]
 pub enum MemberMistake {
     /// ADDR is no address.
     #[error("invalid value for '--contact <ADDR>': it is no address, such as 3.1")]

@@ -50,7 +50,7 @@ impl Drop for WorldEvent {
 }
 
 /// Whom an event concerns.
-#[derive(Clone, Copy, PartialEq, Eq)]
+#[derive(Clone, Copy)]
 pub enum Target {
     /// The member of this node.
     Member(Node),
@@ -126,7 +126,7 @@ pub enum Answer {
 }
 
 /// The answer to a world event, and its place: how many events stand in the trace after it.
-#[derive(Clone, Copy, PartialEq, Eq)]
+#[derive(Clone, Copy)]
 pub struct Reply {
     pub answer: Answer,
     pub place: usize,
