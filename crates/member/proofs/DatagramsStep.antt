@@ -1,7 +1,7 @@
 -- What comes of a datagram.
 use Rattle.std.proofs.Common.{◌≡◌, ℕ, ◌+◌, Bool, true, false, cond, not, ◌&&◌, Option, Some, None, List, [], is_some, Result, Ok, Err, refl, sym, ap, ◌∙◌, subst, arith, Bor}
 use Rattle.std.specs.Prelude.{MatchBool, MatchOption}
-use Rattle.std.specs.Option.{option_map, option_map_or, option_and_then}
+use Rattle.std.specs.Option.{option_map, option_map_or}
 use Rattle.std.proofs.lemmas.Bool.{and_parts}
 use Rattle.address.specs.declared.limits.TheConstants.{WINDOW}
 use Rattle.address.specs.Ids.{Address, same_address}
@@ -27,7 +27,7 @@ use Rattle.membership.specs.declared.stop.Stop.TheVariants as stop
 use Rattle.membership.specs.MemberStates.{is_connected}
 use Rattle.membership.specs.Changes.{StaysAs, Enters, would_enter}
 use Rattle.membership.specs.Doing.{Did}
-use Rattle.member.specs.Hearing.{FollowsRule, ignores, entry_of, is_unreadable_by}
+use Rattle.member.specs.Hearing.{FollowsRule, ignores, is_unreadable_by}
 use Rattle.member.specs.Running.{IsRunning}
 use Rattle.member.specs.declared.error.Error.{Error}
 use Rattle.member.specs.declared.error.Error.TheVariants.{Refused, Wire}
@@ -60,22 +60,11 @@ module _ {S : Type 0} (meaning : Meaning S) (p : Address) (group : List ℕ) whe
       (h.0 ∙ ap (λ (q : Address). Some (packet k.source k.body q)) (same_address-true k.destination p h.2), h.1, h.3)
 
   module _ (q : Address) (body : Body) (o : Option Posted) (came : o ≡ Some (packet q body p)) (old new : MemberState S) (out later : Output) where
-    pub take-does : FollowsRule meaning (who p group) q body (in_step old out) (in_step new later)
-        → MatchOption o (StaysAs (in_step old out) (in_step new later)) (λ m. FollowsRule meaning (who p group) m.source m.body (in_step old out) (in_step new later))
-    take-does x = subst (λ (k : Option Posted). MatchOption k (StaysAs (in_step old out) (in_step new later)) (λ m. FollowsRule meaning (who p group) m.source m.body (in_step old out) (in_step new later))) (sym came) x
-
     pub take-did : Did meaning (Some (packet q body p)) (who p group) (in_step old out) (in_step new later) → Did meaning o (who p group) (in_step old out) (in_step new later)
     take-did x = subst (λ (k : Option Posted). Did meaning k (who p group) (in_step old out) (in_step new later)) (sym came) x
 
-    pub take-unreadable : is_unreadable_by meaning p old (packet q body p) ≡ true → option_map_or (is_unreadable_by meaning p old) o false ≡ true
-    take-unreadable x = ap (λ (k : Option Posted). option_map_or (is_unreadable_by meaning p old) k false) came ∙ x
-
     pub take-ignored : ignores_packet p o old ≡ true → ignores p q body old ≡ true
     take-ignored x = sym (ap (λ (k : Option Posted). ignores_packet p k old) came) ∙ x
-
-  module _ (o : Option Posted) (none : o ≡ None) (old : MemberState S) (out : Output) where
-    pub pass-does : MatchOption o (StaysAs (in_step old out) (in_step old out)) (λ m. FollowsRule meaning (who p group) m.source m.body (in_step old out) (in_step old out))
-    pass-does = subst (λ (k : Option Posted). MatchOption k (StaysAs (in_step old out) (in_step old out)) (λ m. FollowsRule meaning (who p group) m.source m.body (in_step old out) (in_step old out))) (sym none) (refl, refl)
 
   -- ---- an INSTALL by which it entered could be read
 

@@ -20,7 +20,7 @@ use Rattle.next_view.specs.ViewNotes.{having_heard, suspecting}
 use Rattle.membership.specs.MemberStates.{core_of, is_complete, recording, anew_proposal, would_hold}
 use Rattle.membership.specs.Changes.{StaysAs, TakesBy, TakesFlush, Begins, BeginsAndGoesOn, FinishesAndProposes, GoesOn, Regroups, TakesReport, TakesBehind, TakesSuspicion, TakesInstall, TakesChunk, would_enter, Enters}
 use Rattle.membership.specs.HeldChunks.{given_in}
-use Rattle.member_rules.specs.Views.{OnJoin, OnRedirect, OnSuspect, OnFlush, OnBehind, OnReport, OnMerge, Asks, Redirects, SaysAgain, Admits, Meets, AnnouncesView, outdated, joined, merged, leads_now, has_member, is_less, is_suspectable, is_proposing, expects, is_in}
+use Rattle.member_rules.specs.Views.{OnJoin, OnSuspect, OnFlush, OnBehind, OnReport, OnMerge, Redirects, SaysAgain, Admits, Meets, AnnouncesView, outdated, joined, merged, leads_now, has_member, is_less, is_suspectable, is_proposing, expects, is_in}
 use Rattle.step_output.specs.Steps.{Who}
 use Rattle.membership.specs.InSteps.{InStep, in_step}
 
@@ -119,18 +119,6 @@ module _ {S : Type 0} (who : Who) where
 
     pub join-steady : (q : Address) (old new : InStep S) → OnJoin meaning who q old new → Steady who.address old.member new.member
     join-steady q old new x = join-by (is_some old.member.view_state) q old new x
-
-    redirect-in : (b : Bool) (c : Address) (old new : InStep S) → MatchBool b (AnnouncesView who c old new) (Asks who c old new) → Steady who.address old.member new.member
-    redirect-in true c old new x = announces c old new x
-    redirect-in false c old new x = Same (ap (λ (l : MemberState S). l.view_state) x.member_state)
-
-    redirect-by : (b : Bool) (c : Address) (old new : InStep S)
-        → MatchBool b (StaysAs old new) (MatchBool (is_some old.member.view_state) (AnnouncesView who c old new) (Asks who c old new)) → Steady who.address old.member new.member
-    redirect-by true c old new x = stays old new x
-    redirect-by false c old new x = redirect-in (is_some old.member.view_state) c old new x
-
-    pub redirect-steady : (c : Address) (old new : InStep S) → OnRedirect who c old new → Steady who.address old.member new.member
-    redirect-steady c old new x = redirect-by (same_address c who.address) c old new x
 
     suspect-by : (b : Bool) (p : Address) (old new : InStep S) → MatchBool b (TakesSuspicion meaning who p old new) (StaysAs old new) → Steady who.address old.member new.member
     suspect-by true p old new x =

@@ -20,10 +20,6 @@ pub same-keeps : {O : Type 0} (once once' : O) (o o' : OutboxModel) (u u' : Unsa
 same-keeps once once' o o' u u' s start came x =
     subst (λ (v : UnsaidModel). Owes start came o' v) (sym s.2) (subst (λ (q : OutboxModel). Owes start came q u) (sym s.1) x)
 
--- and what is kept from then on
-pub after-same : {O : Type 0} (once once' : O) (o o' o'' : OutboxModel) (u u' u'' : UnsaidModel) → AreSame once o u once' o' u' → Keeps o' u' o'' u'' → Keeps o u o'' u''
-after-same once once' o o' o'' u u' u'' s k start came x = k start came (same-keeps once once' o o' u u' s start came x)
-
 -- lines that came back come first
 pub back-keeps : (o o' : OutboxModel) (u u' : UnsaidModel) → o' ≡ record o { waiting = u.back ++ o.waiting } → u' ≡ record u { back = [] } → Keeps o u o' u'
 back-keeps o o' u u' first gone start came x =
