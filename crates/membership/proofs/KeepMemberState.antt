@@ -259,12 +259,12 @@ module _ {S : Type 0} (who : Who) where
       (λ g. MatchBool (is_complete g) (MatchOption old.member.view_state ⊥ (λ u. FinishesAndProposes meaning who g u old new)) (StaysAs old new))) (sym flush) done
 
   -- it enters the view of another
-  pub entered-member_state : (meaning : Meaning S) (q : Address) (i : wire.Install) (given : Option (List ℕ)) (view_state : Option ViewState) (l old new : MemberState S) (out later : Output)
-      → IsMemberState who l → is_entry (core_of who.address l) q i ≡ true → old.promise ≡ l.promise → Enters meaning who view_state i given (in_step old out) (in_step new later) → IsMemberState who new
-  entered-member_state meaning q i given view_state l old new out later kept enters same z =
+  pub entered-member_state : (meaning : Meaning S) (q : Address) (i : wire.Install) (given : Option (List ℕ)) (l new : MemberState S) (out later : Output)
+      → IsMemberState who l → is_entry (core_of who.address l) q i ≡ true → Enters meaning who l.view_state i given (in_step l out) (in_step new later) → IsMemberState who new
+  entered-member_state meaning q i given l new out later kept enters z =
       let parts = and_parts (same_address q i.view.id.creator && may_install i.view l.promise) (is_fitting (view_in l.view_state) (view_core_in l.view_state).delivered i) enters in
       let may : may_install i.view l.promise ≡ true = (and_parts (same_address q i.view.id.creator) (may_install i.view l.promise) parts.0).1 in
-      let promise : after_install i.view old.promise ≡ installed_as who.address i.view = ap (after_install i.view) same ∙ other-installed who.address i.view l.promise kept.own may in
+      let promise : after_install i.view l.promise ≡ installed_as who.address i.view = other-installed who.address i.view l.promise kept.own may in
       gone-member_state new i.view (ap (λ (n : MemberState S). n.view_state) z.member_state) (ap (λ (n : MemberState S). n.promise) z.member_state ∙ promise) (ap (λ (n : MemberState S). n.flush) z.member_state) (ap (λ (n : MemberState S). n.notes.suspects) z.member_state) (ap (λ (n : MemberState S). n.chunks) z.member_state)
       (kept.listed i.view (only-the-promised i.view l.promise may).0) (nothing-kept who new z.sent_installs
       (subst (λ (o : Option (List ℕ)). IfSome o (λ bytes. IsTotal (length bytes))) (sym (ap (λ (n : MemberState S). n.sent_state) z.member_state)) tt))

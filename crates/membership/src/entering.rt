@@ -7,7 +7,6 @@ ghost use Rattle.law_acts.specs.Cores.{applied, id_of};
 ghost use Rattle.law_acts.specs.Decisions.{is_readable, gives_some, is_fitting};
 ghost use Rattle.membership.specs.HeldChunks.{given_in};
 ghost use Rattle.sequencer.specs.Forwards.{AreShort};
-ghost use Rattle.traffic.specs.ViewStates.{view_of};
 ghost use Rattle.trace_props.specs.declared.event.Event.TheVariants as event;
 ghost use Rattle.step_output.specs.Outputs.{Grows};
 ghost use Rattle.membership.specs.declared.stop.Stop.TheVariants as stop;
@@ -17,7 +16,7 @@ ghost use Rattle.membership.specs.Changes.{Arrives, Enters};
 ghost use Rattle.step_output.specs.Steps.{who_of};
 ghost use Rattle.membership.specs.InSteps.{in_step};
 
-use crate::finishing::{behind, deliver_all, own_of};
+use crate::finishing::deliver_behind;
 use crate::{MemberState, Stop};
 use address::{Bytes, ViewId};
 use state_transfer::Receiver;
@@ -81,29 +80,7 @@ fn take_state<R: Receiver>(receiver: &mut R, given: &Option<Bytes>) -> Result<()
     }
 }
 
-// Delivers what a member lacks of its view by an INSTALL. The answer is how many of these are its own.
-fn deliver_lacking<R: Receiver>(
-    who: &Identity,
-    view_state: &ViewState,
-    install: &Install<'_>,
-    receiver: &mut R,
-    out: &mut Output,
-) -> Result<usize, AllocError>
-    ensures state { OnOk result (receiver.new ≡ applied R.meaning receiver.old (lacking (Some view_state.now) install.now)) }
-    ensures out { OnOk result (Grows who.now.group out.old out.new [] (deliveries who.now.address (Some (view_of view_state.now)) (lacking (Some view_state.now) install.now))) }
-    ensures own { IfOk result (λ n. n ≡ own_of who.now.address (lacking (Some view_state.now) install.now)) }
-{
-    let entries = all_of(who.alloc, install.items())?;
-    let skip = view_state
-        .delivered()
-        .get()
-        .saturating_sub(install.base().get()) as usize;
-    let lacking = behind(entries.as_slice(), skip);
-    deliver_all(who, view_state.view().id(), lacking, receiver, out)?;
-    Ok(own_of(&who.address, lacking))
-}
-
-// The same of one who may have no view.
+// Delivers what a member lacks of its view by an INSTALL, if it has one. The answer is how many of these are its own.
 fn deliver_last<R: Receiver>(
     who: &Identity,
     view_state: &Option<ViewState>,
@@ -117,7 +94,11 @@ fn deliver_last<R: Receiver>(
 {
     match view_state {
         None => Ok(0),
-        Some(view_state) => deliver_lacking(who, view_state, install, receiver, out),
+        Some(view_state) => {
+            let entries = all_of(who.alloc, install.items())?;
+            let (base, entries) = (install.base(), entries.as_slice());
+            deliver_behind(who, view_state, base, entries, receiver, out)
+        }
     }
 }
 
@@ -195,19 +176,18 @@ impl<R: Receiver> MemberState<R> {
     pub(crate) fn enter(
         &mut self,
         who: &Identity,
-        view_state: Option<ViewState>,
         install: &Install<'_>,
         out: &mut Output,
     ) -> Result<(), Stop>
-        ensures enters { OnOk result (Enters R.meaning (who_of who.now) view_state install.now (given_in install.now.state self.old.chunks) (in_step self.old out.old) (in_step self.new out.new)) }
+        ensures enters { OnOk result (Enters R.meaning (who_of who.now) self.old.view_state install.now (given_in install.now.state self.old.chunks) (in_step self.old out.old) (in_step self.new out.new)) }
         ensures readable { OnOk result (is_readable R.meaning (given_in install.now.state self.old.chunks) ≡ true) }
         ensures unreadable { result ≡ Err stop.Unreadable → is_readable R.meaning (given_in install.now.state self.old.chunks) ≡ false }
     {
         let given = self.chunks.given(who.alloc, install.state())?;
         self.chunks.clear();
-        let own = deliver_last(who, &view_state, install, &mut self.receiver, out)?;
+        let own = deliver_last(who, &self.view_state, install, &mut self.receiver, out)?;
         take_state(&mut self.receiver, &given)?;
-        self.arrive(who, view_state, install, given, own, out)?;
+        self.arrive(who, install, given, own, out)?;
         Ok(())
     }
 
@@ -215,15 +195,14 @@ impl<R: Receiver> MemberState<R> {
     fn arrive(
         &mut self,
         who: &Identity,
-        view_state: Option<ViewState>,
         install: &Install<'_>,
         given: Option<Bytes>,
         own: usize,
         out: &mut Output,
     ) -> Result<(), AllocError>
-        ensures { OnOk result (Arrives (who_of who.now) view_state install.now given own (in_step self.old out.old) (in_step self.new out.new)) }
+        ensures { OnOk result (Arrives (who_of who.now) self.old.view_state install.now given own (in_step self.old out.old) (in_step self.new out.new)) }
     {
-        install_promised(who, &view_state, install, given, own, out)?;
+        install_promised(who, &self.view_state, install, given, own, out)?;
         let view = view_from(who.alloc, install.view())?;
         let _ = self.promise.install(install.view());
         self.notes.clear();

@@ -8,10 +8,10 @@ ghost use Rattle.wire_values.specs.Fields.{entry_bytes, IsEntry};
 ghost use Rattle.flush.specs.Flushes.{together_of, previous_of};
 ghost use Rattle.wire_values.specs.Chunks.{IsTotal};
 ghost use Rattle.wire_values.specs.declared.packet.Body.TheVariants as bodies;
-ghost use Rattle.law_acts.specs.Acts.{others_of, base_for, items_for, delivery, packet, chunk_packets};
+ghost use Rattle.law_acts.specs.Acts.{others_of, base_for, items_for, delivery, undelivered, packet, chunk_packets};
 ghost use Rattle.law_acts.specs.Cores.{applied};
 ghost use Rattle.law_acts.specs.Decisions.{cuts_of, kept_of};
-ghost use Rattle.traffic.specs.ViewStates.{view_of};
+ghost use Rattle.traffic.specs.ViewStates.{view_of, view_core_of};
 ghost use Rattle.step_output.specs.Outputs.{Grows};
 ghost use Rattle.membership.specs.Installs.{SpellsCut, IsSayable, instruction_to, instructing, delivered_by, own_of, going, finished_state, finished_given, finish_packets, finish_sent, finish_events};
 ghost use Rattle.membership.specs.MemberStates.{sent_install};
@@ -98,7 +98,7 @@ fn deliver_lent<R: Receiver>(
 }
 
 // Delivers messages, one after the other.
-pub(crate) fn deliver_all<R: Receiver>(
+fn deliver_all<R: Receiver>(
     who: &Identity,
     view: ViewId,
     entries: &[Entry<'_>],
@@ -199,12 +199,11 @@ fn instruct(
     ensures sent { OnOk result (sent.new.items ≡ sent.old.items ++ sent_install (who_of who.now) (member, instruction_to flush.now view given.now member) ∷ []) }
     ensures out { OnOk result (Grows who.now.group out.old out.new (instructing who.now.address flush.now view given.now member) []) }
 {
+    put_needed(who, flush, view, given, member, out)?;
     let cut = cut_text(who.alloc, flush, &flush.previous(&member))?;
     let together = flush.together(who.alloc, &member)?;
     let install = instruction(flush, view, &member, &together, &cut, given);
-    put_needed(who, flush, view, given, member, out)?;
-    put_install(who, member, install, sent, out)?;
-    Ok(())
+    put_install(who, member, install, sent, out)
 }
 
 // Puts out the INSTALLs for some of the list, in order.
@@ -233,14 +232,14 @@ fn instruct_all(
 }
 
 // What is left of entries behind the first so many.
-pub(crate) fn behind<'a, 'b>(entries: &'b [Entry<'a>], skip: usize) -> &'b [Entry<'a>]
+fn behind<'a, 'b>(entries: &'b [Entry<'a>], skip: usize) -> &'b [Entry<'a>]
     ensures { result.now ≡ drop skip entries.now }
 {
     &entries[skip.min(entries.len())..]
 }
 
 // How many of these are its own.
-pub(crate) fn own_of(me: &Address, entries: &[Entry<'_>]) -> usize
+fn own_of(me: &Address, entries: &[Entry<'_>]) -> usize
     ensures value { result ≡ own_of me.now entries.now }
     ensures few { result ≤ length entries.now }
 {
@@ -257,6 +256,25 @@ pub(crate) fn own_of(me: &Address, entries: &[Entry<'_>]) -> usize
     }
 }
 
+// Delivers what a member lacks of entries of its view that begin at a base. The answer is how many of these are its own.
+pub(crate) fn deliver_behind<R: Receiver>(
+    who: &Identity,
+    view_state: &ViewState,
+    base: Count,
+    entries: &[Entry<'_>],
+    receiver: &mut R,
+    out: &mut Output,
+) -> Result<usize, AllocError>
+    ensures state { OnOk result (receiver.new ≡ applied R.meaning receiver.old (undelivered (view_core_of view_state.now).delivered base entries.now)) }
+    ensures out { OnOk result (Grows who.now.group out.old out.new [] (map (delivery who.now.address (view_of view_state.now).id) (undelivered (view_core_of view_state.now).delivered base entries.now))) }
+    ensures own { IfOk result (λ n. n ≡ own_of who.now.address (undelivered (view_core_of view_state.now).delivered base entries.now)) }
+{
+    let skip = view_state.delivered().get().saturating_sub(base.get()) as usize;
+    let lacking = behind(entries, skip);
+    deliver_all(who, view_state.view().id(), lacking, receiver, out)?;
+    Ok(own_of(&who.address, lacking))
+}
+
 // Delivers to the creator of a flush what it lacks of its own view's cut. The answer is how many of these are its own.
 fn deliver_cut<R: Receiver>(
     who: &Identity,
@@ -269,12 +287,9 @@ fn deliver_cut<R: Receiver>(
     ensures out { OnOk result (Grows who.now.group out.old out.new [] (map (delivery who.now.address (view_of view_state.now).id) (delivered_by flush.now view_state.now))) }
     ensures own { IfOk result (λ n. n ≡ own_of who.now.address (delivered_by flush.now view_state.now)) }
 {
-    let view = view_state.view().id();
-    let cut = flush.cut(who.alloc, &Some(view))?;
-    let skip = view_state.delivered().get().saturating_sub(cut.base.get()) as usize;
-    let lacking = behind(cut.entries.as_slice(), skip);
-    deliver_all(who, view, lacking, receiver, out)?;
-    Ok(own_of(&who.address, lacking))
+    let cut = flush.cut(who.alloc, &Some(view_state.view().id()))?;
+    let entries = cut.entries.as_slice();
+    deliver_behind(who, view_state, cut.base, entries, receiver, out)
 }
 
 // The creator of a flush installs the view that it proposed.
@@ -299,6 +314,28 @@ fn install_proposed(
     install_view(who, install, out)
 }
 
+// The creator of a flush installs the view that it proposed, and says to the others how to.
+fn install_and_instruct(
+    who: &Identity,
+    flush: &Flush,
+    view_state: &ViewState,
+    own: usize,
+    given: &Option<Bytes>,
+    sent: &mut Vec<SentInstall>,
+    out: &mut Output,
+) -> Result<(), AllocError>
+    requires list { view_refusal flush.now.proposal flush.now.members ≡ None }
+    requires short { IfSome given.now (λ s. length s ≤ STATE) }
+    requires sound { AllByRecursion (IsSayable flush.now (view_of view_state.now).id given.now) (others_of who.now.address flush.now.members) }
+    ensures sent { OnOk result (sent.new.items ≡ sent.old.items ++ finish_sent (who_of who.now) flush.now view_state.now given.now) }
+    ensures out { OnOk result (Grows who.now.group out.old out.new (finish_packets who.now.address flush.now view_state.now given.now) (going who.now.address flush.now view_state.now own ∷ [])) }
+{
+    let view = view_state.view().id();
+    let others = others_of(who.alloc, &who.address, flush.members().as_slice())?;
+    install_proposed(who, flush, view_state, own, out)?;
+    instruct_all(who, flush, view, given, others.as_slice(), sent, out)
+}
+
 // Finishes a flush to which all of its list have reported: what its creator delivers and installs, and what it says to the others. The INSTALLs go
 // behind those that are kept; the answer is what is kept of the state that they give.
 pub(crate) fn finish<R: Receiver>(
@@ -317,11 +354,8 @@ pub(crate) fn finish<R: Receiver>(
     ensures sent { OnOk result (sent.new.items ≡ sent.old.items ++ finish_sent (who_of who.now) flush.now view_state.now (finished_given R.meaning flush.now view_state.now receiver.old)) }
     ensures out { OnOk result (Grows who.now.group out.old out.new (finish_packets who.now.address flush.now view_state.now (finished_given R.meaning flush.now view_state.now receiver.old)) (finish_events who.now.address flush.now view_state.now)) }
 {
-    let view = view_state.view().id();
     let own = deliver_cut(who, flush, view_state, receiver, out)?;
-    let given = given_state(who, flush, view, receiver)?;
-    let others = others_of(who.alloc, &who.address, flush.members().as_slice())?;
-    install_proposed(who, flush, view_state, own, out)?;
-    instruct_all(who, flush, view, &given, others.as_slice(), sent, out)?;
+    let given = given_state(who, flush, view_state.view().id(), receiver)?;
+    install_and_instruct(who, flush, view_state, own, &given, sent, out)?;
     Ok(kept_of(given))
 }

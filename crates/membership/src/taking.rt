@@ -163,8 +163,7 @@ impl<R: Receiver> MemberState<R> {
         if !self.would_enter(&who.address, &source, install) {
             return Ok(());
         }
-        let view_state = self.view_state.take();
-        self.enter(who, view_state, install, out)
+        self.enter(who, install, out)
     }
 }
 
