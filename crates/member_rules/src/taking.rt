@@ -72,9 +72,6 @@ pub fn on_status<R: Receiver>(
     }
     match &mut member_state.view_state {
         None | Some(ViewState::Coordinator(_)) => unreachable!(),
-        Some(ViewState::Follower(follower)) => {
-            follower.status(who, progress, out)?;
-            Ok(())
-        }
+        Some(ViewState::Follower(follower)) => { follower.status(who, progress, out) }
     }
 }
