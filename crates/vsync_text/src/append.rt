@@ -96,20 +96,17 @@ pub fn put_hex(out: &mut Vec<u8>, bytes: &[u8]) -> Result<(), AllocError>
     ensures text { OnOk result (out.new.items ≡ out.old.items ++ hex_of bytes.now) }
     ensures kept { GoesOnFrom out.old.items out.new.items }
 {
-    let from = out.len();
     out.reserve(2 * bytes.len())?;
-    out.resize(from + 2 * bytes.len(), 0)?;
-    for (index, byte) in bytes.iter().enumerate() {
-        let place = from + 2 * index;
-        out[place] = hex_digit(*byte / 16);
-        out[place + 1] = hex_digit(*byte % 16);
+    for byte in bytes {
+        out.push_reserved(hex_digit(*byte / 16));
+        out.push_reserved(hex_digit(*byte % 16));
     }
     Ok(())
 }
 
 /// Appends bytes in lower case hexadecimal, behind one byte.
 #[tactic(auto, using(crate::proofs::KeepFront::goes_on))]
-fn put_hex_behind(out: &mut Vec<u8>, before: u8, bytes: &[u8]) -> Result<(), AllocError>
+pub(crate) fn put_hex_behind(out: &mut Vec<u8>, before: u8, bytes: &[u8]) -> Result<(), AllocError>
     ensures text { OnOk result (out.new.items ≡ out.old.items ++ before ∷ hex_of bytes.now) }
     ensures kept { GoesOnFrom out.old.items out.new.items }
 {

@@ -1,8 +1,10 @@
 //! The fields of a line, read from the left.
 
-ghost use Rattle.std.specs.Prelude.{◌≡◌, ◌≤◌, length, Some, IfOk};
+ghost use Rattle.std.specs.Prelude.{◌≡◌, ◌≤◌, length, Some, Ok, Err, IfOk, MatchOption, MatchResult};
 ghost use Rattle.std.specs.Option.{option_copied};
 ghost use Rattle.address.specs.declared.limits.TheConstants.{PAYLOAD};
+ghost use Rattle.vsync_text.specs.declared.fault.Fault.TheVariants.{BadNumber};
+ghost use Rattle.vsync_text.specs.declared.fault.Unheard.TheVariants as unheard;
 ghost use Rattle.vsync_text.specs.AddressText.{address_of_text};
 ghost use Rattle.vsync_text.specs.Spelling.{number_of_text, view_id_of_text, previous_of_text, payload_of_text, view_of_text, together_of_text, handed_back_of_text, given_of_text, AreShort};
 ghost use Rattle.vsync_text.specs.Fields.{field_at, spelled_at, end_at};
@@ -13,10 +15,21 @@ use crate::spelling::{given_in, handed_back_in, payload_in, previous_in, togethe
 use crate::{Fault, Unheard, first_field};
 use address::limits::GREATEST_NUMBER;
 use address::{Address, Bytes, ViewId};
-use std::alloc::Global;
+use std::alloc::{AllocError, Global};
 use std::marker::Model;
 use trace_props::HandedBack;
 use view::{Addresses, View};
+
+/// What a field was read as: a bad number where it spells nothing.
+fn spelled<T>(read: Result<Option<T>, AllocError>) -> Result<T, Unheard>
+    ensures { MatchResult read (λ spelled. MatchOption spelled (result ≡ Err (unheard.Fault BadNumber)) (λ x. result ≡ Ok x)) (λ _. result ≡ Err unheard.Memory) }
+{
+    match read {
+        Ok(Some(value)) => Ok(value),
+        Ok(None) => Err(Unheard::Fault(Fault::BadNumber)),
+        Err(_) => Err(Unheard::Memory),
+    }
+}
 
 /// What is left of a line. Each call reads the next field, or answers why it cannot.
 #[derive(Drop)]
@@ -101,10 +114,7 @@ impl<'a> Fields<'a> {
         ensures { IsReadUnlessRefused (λ x. (x, self.new)) result (spelled_at previous_of_text self.old) }
     {
         let field = self.field()?;
-        match previous_in(field) {
-            None => Err(Unheard::Fault(Fault::BadNumber)),
-            Some(previous) => Ok(previous),
-        }
+        spelled(Ok(previous_in(field)))
     }
 
     #[tactic(auto)]
@@ -130,10 +140,7 @@ impl<'a> Fields<'a> {
         ensures short { IfOk result (λ x. length x ≤ PAYLOAD) }
     {
         let field = self.field()?;
-        match payload_in(alloc, field)? {
-            None => Err(Unheard::Fault(Fault::BadNumber)),
-            Some(payload) => Ok(payload),
-        }
+        spelled(payload_in(alloc, field))
     }
 
     #[tactic(auto, unfolding(crate::specs::Fields::spelled_at))]
@@ -141,10 +148,7 @@ impl<'a> Fields<'a> {
         ensures { IsReadUnlessRefused (λ x. (x, self.new)) result (spelled_at (view_of_text id) self.old) }
     {
         let field = self.field()?;
-        match view_in(alloc, id, field)? {
-            None => Err(Unheard::Fault(Fault::BadNumber)),
-            Some(view) => Ok(view),
-        }
+        spelled(view_in(alloc, id, field))
     }
 
     #[tactic(auto, unfolding(crate::specs::Fields::spelled_at))]
@@ -152,10 +156,7 @@ impl<'a> Fields<'a> {
         ensures { IsReadUnlessRefused (λ x. (x, self.new)) result (spelled_at together_of_text self.old) }
     {
         let field = self.field()?;
-        match together_in(alloc, field)? {
-            None => Err(Unheard::Fault(Fault::BadNumber)),
-            Some(together) => Ok(together),
-        }
+        spelled(together_in(alloc, field))
     }
 
     #[tactic(auto, unfolding(crate::specs::Fields::spelled_at))]
@@ -164,10 +165,7 @@ impl<'a> Fields<'a> {
         ensures short { IfOk result AreShort }
     {
         let field = self.field()?;
-        match handed_back_in(alloc, field)? {
-            None => Err(Unheard::Fault(Fault::BadNumber)),
-            Some(handed_back) => Ok(handed_back),
-        }
+        spelled(handed_back_in(alloc, field))
     }
 
     #[tactic(auto, unfolding(crate::specs::Fields::spelled_at))]
@@ -175,9 +173,6 @@ impl<'a> Fields<'a> {
         ensures { IsReadUnlessRefused (λ x. (x, self.new)) result (spelled_at given_of_text self.old) }
     {
         let field = self.field()?;
-        match given_in(alloc, field)? {
-            None => Err(Unheard::Fault(Fault::BadNumber)),
-            Some(given) => Ok(given),
-        }
+        spelled(given_in(alloc, field))
     }
 }

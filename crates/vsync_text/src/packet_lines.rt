@@ -6,7 +6,8 @@ ghost use Rattle.wire.specs.Packets.{packet_of};
 ghost use Rattle.vsync_text.specs.TraceText.{GoesOnFrom, field, hex_of};
 ghost use Rattle.vsync_text.specs.PacketText.{kind_name, kind_in, packet_fields, packet_line, packet_lines};
 
-use crate::{put, put_address, put_decimal, put_hex};
+use crate::append::put_hex_behind;
+use crate::{Part, put, put_decimal, put_parts};
 use address::Bytes;
 use std::alloc::AllocError;
 use wire::decode;
@@ -35,16 +36,20 @@ fn kind_name(body: &Body<'_>) -> &'static [u8]
 }
 
 /// Appends what a packet says, by its name, who sent it and to whom, each behind a space.
-#[tactic(auto, using(crate::proofs::KeepFront::goes_on))]
 fn put_named(out: &mut Vec<u8>, kind: &[u8], packet: &Packet<'_>) -> Result<(), AllocError>
     requires kind { kind.now ≡ kind_name packet.now.body }
     ensures text { OnOk result (out.new.items ≡ out.old.items ++ packet_fields (Ok packet.now)) }
     ensures kept { GoesOnFrom out.old.items out.new.items }
 {
-    put(out, b" ")?;
-    put(out, kind)?;
-    put_address(out, b' ', &packet.source)?;
-    put_address(out, b' ', &packet.destination)
+    let parts = [
+        Part::Text(b" "),
+        Part::Text(kind),
+        Part::Text(b" "),
+        Part::Address(packet.source),
+        Part::Text(b" "),
+        Part::Address(packet.destination),
+    ];
+    put_parts(out, &parts)
 }
 
 /// Appends what bytes say as a packet, who sent it and to whom, `-` for each where they spell none. Answers the first of these.
@@ -72,8 +77,7 @@ fn put_bytes(out: &mut Vec<u8>, bytes: &[u8]) -> Result<(), AllocError>
     ensures text { OnOk result (out.new.items ≡ out.old.items ++ (field (hex_of bytes.now) ++ 10 ∷ [])) }
     ensures kept { GoesOnFrom out.old.items out.new.items }
 {
-    put(out, b" ")?;
-    put_hex(out, bytes)?;
+    put_hex_behind(out, b' ', bytes)?;
     put(out, b"\n")
 }
 

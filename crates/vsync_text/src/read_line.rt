@@ -2,9 +2,10 @@
 
 ghost use Rattle.std.specs.Prelude.{◌≡◌, ◌≤◌, length, None, Some, Ok, IfOk, IfSome};
 ghost use Rattle.address.specs.declared.limits.TheConstants.{PAYLOAD};
+ghost use Rattle.trace_props.specs.declared.event.Event.TheVariants as event;
 ghost use Rattle.trace_props.specs.Recorded.{IsShort};
 ghost use Rattle.vsync_text.specs.Texts.{IsReadUnlessRefused};
-ghost use Rattle.vsync_text.specs.Fields.{spelled_at, last};
+ghost use Rattle.vsync_text.specs.Fields.{spelled_at, last, made};
 ghost use Rattle.vsync_text.specs.AddressText.{address_of_text};
 ghost use Rattle.vsync_text.specs.Spelling.{AreShort};
 ghost use Rattle.vsync_text.specs.LineFields.{sending_at, delivery_at, view_at, install_at, stable_at};
@@ -133,33 +134,33 @@ fn lone_address(mut fields: Fields<'_>) -> Result<Address, Unheard>
 }
 
 #[tactic(auto, unfolding(crate::specs::Fields::last))]
-fn lone_sending(alloc: Global, mut fields: Fields<'_>) -> Result<Sending, Unheard>
-    ensures gives { IsReadUnlessRefused (λ x. x) result (last (sending_at fields.entry)) }
-    ensures short { IfOk result (λ x. length x.message.payload ≤ PAYLOAD) }
+fn sent(alloc: Global, mut fields: Fields<'_>) -> Result<Event, Unheard>
+    ensures gives { IsReadUnlessRefused (λ x. x) result (made event.Sent (last (sending_at fields.entry))) }
+    ensures short { IfOk result IsShort }
 {
     let sending = sending(alloc, &mut fields)?;
     fields.end()?;
-    Ok(sending)
+    Ok(Event::Sent(sending))
 }
 
 #[tactic(auto, unfolding(crate::specs::Fields::last))]
-fn lone_delivery(alloc: Global, mut fields: Fields<'_>) -> Result<Delivery, Unheard>
-    ensures gives { IsReadUnlessRefused (λ x. x) result (last (delivery_at fields.entry)) }
-    ensures short { IfOk result (λ x. length x.message.payload ≤ PAYLOAD) }
+fn delivered(alloc: Global, mut fields: Fields<'_>) -> Result<Event, Unheard>
+    ensures gives { IsReadUnlessRefused (λ x. x) result (made event.Delivered (last (delivery_at fields.entry))) }
+    ensures short { IfOk result IsShort }
 {
     let delivery = delivery(alloc, &mut fields)?;
     fields.end()?;
-    Ok(delivery)
+    Ok(Event::Delivered(delivery))
 }
 
 #[tactic(auto, unfolding(crate::specs::Fields::last))]
-fn lone_install(alloc: Global, mut fields: Fields<'_>) -> Result<Install, Unheard>
-    ensures gives { IsReadUnlessRefused (λ x. x) result (last (install_at fields.entry)) }
-    ensures short { IfOk result (λ x. AreShort x.handed_back) }
+fn installed(alloc: Global, mut fields: Fields<'_>) -> Result<Event, Unheard>
+    ensures gives { IsReadUnlessRefused (λ x. x) result (made event.Installed (last (install_at fields.entry))) }
+    ensures short { IfOk result IsShort }
 {
     let install = install(alloc, &mut fields)?;
     fields.end()?;
-    Ok(install)
+    Ok(Event::Installed(BoxedInstall::new(alloc, install)?))
 }
 
 /// The event of a word and of what is left behind it.
@@ -169,16 +170,13 @@ fn event_of(alloc: Global, word: Word, fields: Fields<'_>) -> Result<Event, Unhe
     ensures short { IfOk result IsShort }
 {
     match word {
-        Word::Started => Ok(Event::Started(lone_address(fields)?)),
-        Word::Sent => Ok(Event::Sent(lone_sending(alloc, fields)?)),
-        Word::Delivered => Ok(Event::Delivered(lone_delivery(alloc, fields)?)),
-        Word::Blocked => Ok(Event::Blocked(lone_address(fields)?)),
-        Word::Installed => Ok(Event::Installed(BoxedInstall::new(
-            alloc,
-            lone_install(alloc, fields)?,
-        )?)),
-        Word::Left => Ok(Event::Left(lone_address(fields)?)),
-        Word::Crashed => Ok(Event::Crashed(lone_address(fields)?)),
+        Word::Sent => sent(alloc, fields),
+        Word::Delivered => delivered(alloc, fields),
+        Word::Installed => installed(alloc, fields),
+        Word::Started => lone_address(fields).map(Event::Started),
+        Word::Blocked => lone_address(fields).map(Event::Blocked),
+        Word::Left => lone_address(fields).map(Event::Left),
+        Word::Crashed => lone_address(fields).map(Event::Crashed),
     }
 }
 

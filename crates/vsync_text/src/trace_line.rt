@@ -8,6 +8,7 @@ use crate::append::{
     put, put_address, put_addresses, put_given, put_handed_back, put_number, put_payload,
     put_previous, put_view_id,
 };
+use crate::{Part, put_parts};
 use address::{Address, ViewId};
 use std::alloc::AllocError;
 use trace_props::{Delivery, Event, Install, Sending};
@@ -143,25 +144,19 @@ fn put_event(out: &mut Vec<u8>, event: &Event) -> Result<(), AllocError>
     put(out, b"\n")
 }
 
-/// Appends two numbers, each behind a space.
-#[tactic(auto, using(crate::proofs::KeepFront::goes_on))]
-fn put_two_numbers(out: &mut Vec<u8>, first: u64, second: u64) -> Result<(), AllocError>
-    ensures text { OnOk result (out.new.items ≡ out.old.items ++ (field (decimal first) ++ field (decimal second))) }
-    ensures kept { GoesOnFrom out.old.items out.new.items }
-{
-    put_number(out, b' ', first)?;
-    put_number(out, b' ', second)
-}
-
 /// Appends the refusal of the event of a line or a part of it.
-#[tactic(auto, using(crate::proofs::KeepFront::goes_on))]
 fn put_refusal(out: &mut Vec<u8>, line: u64, number: u8) -> Result<(), AllocError>
     ensures text { OnOk result (out.new.items ≡ out.old.items ++ refusal_line line number) }
     ensures kept { GoesOnFrom out.old.items out.new.items }
 {
-    put(out, b"# refused")?;
-    put_two_numbers(out, line, u64::from(number))?;
-    put(out, b"\n")
+    let parts = [
+        Part::Text(b"# refused "),
+        Part::Number(line),
+        Part::Text(b" "),
+        Part::Number(u64::from(number)),
+        Part::Text(b"\n"),
+    ];
+    put_parts(out, &parts)
 }
 
 /// Appends the line of an event with its line feed, as `sent 1.1 1@1.1 1 6869`.
