@@ -64,12 +64,12 @@ fn rows_and_lines(
     ensures rows { IfOk result (λ both. both.0.items ≡ rows_of (level_of asides.now) events.now) }
     ensures lines { IfOk result (λ both. both.1.items ≡ member_lines (level_of asides.now) events.now) }
 {
-    let mut known = Known::new(alloc);
     let mut rows: Vec<Row> = Vec::with_capacity(alloc, events.len())?;
+    let mut known = Known::new(alloc);
     let mut passed = 0;
     for (index, event) in events.iter().enumerate() {
         passed = above(asides, passed, index);
-        rows.push(known.note(event, index as u32, (index + passed) as u32)?)?;
+        rows.push_reserved(known.note(event, index as u32, (index + passed) as u32)?);
     }
     let lines = lines(alloc, &known)?;
     Ok((rows, lines))

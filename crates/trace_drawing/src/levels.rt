@@ -117,13 +117,13 @@ pub fn aside_rows(
     requires small { length events.now < 4294967296 }
     ensures { IfOk result (λ out. out.items ≡ aside_rows rows.now events.now asides.now) }
 {
-    let mut nodes = HashMap::new(alloc);
     let mut out: Vec<AsideRow> = Vec::with_capacity(alloc, asides.len())?;
+    let mut nodes = HashMap::new(alloc);
     let mut front = 0;
     for (count, one) in asides.iter().enumerate() {
         let next = later(front, one.place);
         note_nodes(&mut nodes, events, front, next)?;
-        out.push(aside_row(rows, &nodes, count, next, one)?)?;
+        out.push_reserved(aside_row(rows, &nodes, count, next, one)?);
         front = next;
     }
     Ok(out)

@@ -10,10 +10,15 @@ use std::collections::HashMap;
 
 /// A row for each packet of which one is known. Those of the packets that there are stand in a list by their numbers; those of other
 /// numbers are looked up.
-#[derive(Drop)]
 pub struct PacketRows {
     pub near: Vec<Option<u32>>,
     pub far: HashMap<u64, u32>,
+}
+
+impl Drop for PacketRows {
+    fn drop(self) {
+        let PacketRows { near: _, far: _ } = self;
+    }
 }
 
 impl PacketRows {

@@ -52,16 +52,19 @@ fn in_the_air(row: &AsideRow) -> Place
     }
 }
 
-// Keeps the next row.
+// Keeps the next row. Refused behind 2^32 rows.
 fn note_row(
     sources: &mut PacketRows,
     ends: &mut PacketRows,
     row: &AsideRow,
-    number: u32,
+    index: usize,
 ) -> Result<(), AllocError>
-    ensures { OnOk result ((rows : List AsideRow) → number ≡ length rows
+    ensures { OnOk result ((rows : List AsideRow) → index ≡ length rows
         → KnowsWays (row_in sources.old) (row_in ends.old) rows → KnowsWays (row_in sources.new) (row_in ends.new) (rows ++ row.now ∷ [])) }
 {
+    let Ok(number) = u32::try_from(index) else {
+        return Err(AllocError);
+    };
     match row.kind {
         AsideKind::Refused { .. } => Ok(()),
         AsideKind::PutOut(packet) => sources.put(packet, number),
@@ -77,10 +80,7 @@ impl Ways {
         let mut sources = PacketRows::new(alloc, packets)?;
         let mut ends = PacketRows::new(alloc, packets)?;
         for (index, row) in rows.iter().enumerate() {
-            match u32::try_from(index) {
-                Err(_) => return Err(AllocError),
-                Ok(number) => note_row(&mut sources, &mut ends, row, number)?,
-            }
+            note_row(&mut sources, &mut ends, row, index)?;
         }
         Ok(Ways { sources, ends })
     }

@@ -1,4 +1,4 @@
-use Rattle.std.proofs.Common.{◌∙◌, take, ap, subst, List, arith}
+use Rattle.std.proofs.Common.{◌∙◌, take, ap, subst, List, arith, rules}
 use Rattle.std.specs.HashMap.{get}
 use Rattle.std.proofs.lemmas.List.{take_all}
 use Rattle.trace_props.specs.declared.event.Event.{Event}
@@ -11,7 +11,7 @@ use Rattle.trace_drawing.proofs.layout.rows_and_lines.Goals as goal
 
 -- nothing is laid out, and no aside is passed
 pub loop-index-init : goal.loop-index-init
-loop-index-init c = (c.in_ok-rows.ensures.items, c.new-known.ensures (level_of c.args.asides.now), omega arith)
+loop-index-init c = (c.in_ok-rows.ensures.items, c.new-known.ensures (level_of c.args.asides.now), omega arith, search rules)
 
 -- one row more
 pub loop-index-preserved : goal.loop-index-preserved
@@ -20,12 +20,13 @@ loop-index-preserved c =
     let past = take c.loop-index.index c.args.events.now in
     let here = level-here c.args.asides.now c.args.events.now c.loop-index.index c.above-passed.result c.loop-index-test.true c.above-passed.ensures.is in
     let is = c.in_ok-note.ensures.row at past here c.loop-index.invariant.1 in (
-      rows-next at c.args.events.now c.loop-index.index c.index-events-index.result c.loop-index.rows.items c.push.new.self.items c.in_ok-note.field-0 c.index-events-index.is c.loop-index-test.true c.loop-index.invariant.0 is c.in_ok-push.ensures.items,
+      rows-next at c.args.events.now c.loop-index.index c.index-events-index.result c.loop-index.rows.items c.push_reserved.new.self.items c.in_ok-note.field-0 c.index-events-index.is c.loop-index-test.true c.loop-index.invariant.0 is c.push_reserved.ensures.items,
       known-next c.args.events.now c.loop-index.index c.index-events-index.result
           (λ t. Knows at c.note.new.self.members.items (get same_address c.note.new.self.lifelines) (get same_message c.note.new.self.sends) (get same_view_id c.note.new.self.installs) t)
           c.index-events-index.is c.loop-index-test.true
           (λ number. c.in_ok-note.ensures.known at past number here c.loop-index.invariant.1),
       above-next c.args.asides.now c.loop-index.index c.above-passed.result c.above-passed.ensures.is,
+      search rules,
     )
 
 -- all rows, and the lines of all members

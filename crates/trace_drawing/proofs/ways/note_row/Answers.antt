@@ -1,3 +1,4 @@
+use Rattle.std.proofs.Common.{◌∙◌}
 use Rattle.std.proofs.lemmas.Result.{on_ok_weaker}
 use Rattle.trace_drawing.proofs.PacketsWay.{ways-left, ways-begun, ways-ended}
 use Rattle.trace_drawing.proofs.ways.note_row.Goals as goal
@@ -8,7 +9,7 @@ returns-in-Refused c = λ rows at was. ways-left _ _ rows c.args.row.now _ _ c.i
 
 -- a packet is put out
 pub returns-in-PutOut : goal.returns-in-PutOut
-returns-in-PutOut c = on_ok_weaker c.put.result (λ is rows at was. ways-begun _ _ _ rows c.args.row.now _ _ c.in-PutOut.is at is was) c.put.ensures
+returns-in-PutOut c = on_ok_weaker c.put.result (λ is rows at was. ways-begun _ _ _ rows c.args.row.now _ _ c.in-PutOut.is (c.in-Ok.ensures.1 ∙ at) is was) c.put.ensures
 
 -- a packet is handed over
 pub returns-in-HandedOver : goal.returns-in-HandedOver

@@ -1,4 +1,4 @@
-use Rattle.std.proofs.Common.{◌∙◌, take, refl, sym, subst, List, arith}
+use Rattle.std.proofs.Common.{take, refl, sym, subst, List, arith}
 use Rattle.std.proofs.lemmas.List.{take_all}
 use Rattle.trace_drawing.specs.declared.aside.AsideRow.{AsideRow}
 use Rattle.trace_drawing.specs.Packets.{row_in, KnowsWays}
@@ -10,7 +10,7 @@ pub loop-index-preserved : goal.loop-index-preserved
 loop-index-preserved c =
     subst (λ (rs : List AsideRow). KnowsWays (row_in c.note_row.new.sources) (row_in c.note_row.new.ends) rs)
     (sym (next-take-at c.args.rows.now c.loop-index.index _ _ refl c.loop-index-test.true))
-    (c.in_ok-note_row-in-Ok.ensures (take c.loop-index.index c.args.rows.now) (c.in-Ok.ensures.1 ∙ length-front c.args.rows.now c.loop-index.index c.loop-index-test.true) c.loop-index.invariant)
+    (c.in_ok-note_row.ensures (take c.loop-index.index c.args.rows.now) (length-front c.args.rows.now c.loop-index.index c.loop-index-test.true) c.loop-index.invariant)
 
 -- all rows
 pub returns : goal.returns
