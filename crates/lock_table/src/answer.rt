@@ -1,13 +1,13 @@
 //! Who waits for a lock, and what each is told.
 
-ghost use Rattle.std.specs.Prelude.{◌≡◌, ◌+◌, ◌≤◌, ◌++◌, vec_len, vec_capacity, length, map};
+ghost use Rattle.std.specs.Prelude.{◌≡◌, ◌+◌, ◌<◌, ◌≤◌, ◌++◌, vec_len, vec_capacity, length, map, OnOk};
 ghost use Rattle.std.specs.List.{filter, flat_map};
 ghost use Rattle.lock_table.specs.Keeping.{late_fate, still_waits, told, back};
 
 use crate::standing::is_waiting;
 use crate::{LockTable, Standing, Token, standing_of};
 use address::{Address, Bytes, ViewId};
-use application::Waiting;
+use application::{FollowedMember, Waiting};
 use std::alloc::{AllocError, Global};
 
 /// What became of a request for a lock.
@@ -81,32 +81,40 @@ fn tell_one(
     }
 }
 
-// Tells all who wait what became of it, where that is known.
-pub(crate) fn tell_all(
-    own: &Address,
-    copy: &LockTable,
+// Tells who waits what became of it, where that is known; the others wait on.
+pub(crate) fn tell_late(
+    followed: &FollowedMember<LockTable>,
     view: ViewId,
-    place: u64,
-    queued: &[Queued],
+    queued: &mut Vec<Queued>,
     answers: &mut Vec<Answer>,
 )
-    requires { vec_len answers.old + length queued.now ≤ vec_capacity answers.old }
-    ensures items { answers.new.items ≡ answers.old.items ++ flat_map (told own.now copy.now view place) queued.now }
-    ensures room { vec_capacity answers.old ≤ vec_capacity answers.new }
-    ensures few { vec_len answers.new ≤ vec_len answers.old + length queued.now }
+    requires { vec_len answers.old + vec_len queued.old ≤ vec_capacity answers.old }
+    ensures answers { answers.new.items ≡ answers.old.items ++ flat_map (told followed.now.own followed.now.copy view followed.now.place) queued.old.items }
+    ensures queued { queued.new.items ≡ filter (still_waits followed.now.own followed.now.copy) queued.old.items }
+    ensures room { (vec_capacity answers.old ≤ vec_capacity answers.new) × (vec_capacity queued.old ≤ vec_capacity queued.new) }
+    ensures few { (vec_len answers.new ≤ vec_len answers.old + vec_len queued.old) × (vec_len queued.new ≤ vec_len queued.old) }
 {
-    for waits in queued {
-        tell_one(own, copy, view, place, waits, answers);
+    let own = followed.own();
+    let copy = followed.copy();
+    let place = followed.place();
+    for waits in queued.as_slice() {
+        tell_one(&own, copy, view, place, waits, answers);
     }
+    queued.retain(|waits| is_waiting(&standing_of(&own, waits.name.as_slice(), copy)));
 }
 
-// Only those wait on for whose lock the member waits.
-pub(crate) fn keep_waiting(own: &Address, copy: &LockTable, queued: &mut Vec<Queued>)
-    ensures items { queued.new.items ≡ filter (still_waits own.now copy.now) queued.old.items }
-    ensures room { vec_capacity queued.old ≤ vec_capacity queued.new }
-    ensures few { vec_len queued.new ≤ vec_len queued.old }
+// Makes room for one who waits more, and for an answer to each who waits then.
+pub(crate) fn make_room(
+    queued: &mut Vec<Queued>,
+    answers: &mut Vec<Answer>,
+) -> Result<(), AllocError>
+    ensures queued { queued.new.items ≡ queued.old.items }
+    ensures answers { answers.new.items ≡ answers.old.items }
+    ensures room { OnOk result ((vec_len queued.new < vec_capacity queued.new) × (vec_len answers.new + vec_len queued.new < vec_capacity answers.new)) }
 {
-    queued.retain(|waits| is_waiting(&standing_of(own, waits.name.as_slice(), copy)));
+    queued.reserve(1)?;
+    let room = queued.len().saturating_add(1);
+    answers.reserve(room)
 }
 
 // Answers all that wait for a message that it is handed back.

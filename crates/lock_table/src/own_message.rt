@@ -7,15 +7,24 @@ ghost use Rattle.lock_table.specs.Keeping.{early, early_by, first_verdict, relea
 use crate::standing::is_waiting;
 use crate::{Answer, Command, Fate, LockTable, Queued, Standing, standing_of};
 use address::{Address, Bytes, ViewId};
+use application::FollowedMember;
 use std::alloc::{AllocError, Global};
 
 // What an own message comes to, as far as the table right before it says so.
-#[derive(Drop)]
 pub(crate) enum Early {
     // Its ticket is told so.
     Told(Fate),
     // It asks for the lock of this name.
     Asks(Bytes),
+}
+
+impl Drop for Early {
+    fn drop(self) {
+        match self {
+            Early::Told(_) => {}
+            Early::Asks(_) => {}
+        }
+    }
 }
 
 // What is told to who asks for a lock, by how the member stands there right after the request; `None` if it waits.
@@ -77,41 +86,42 @@ pub(crate) fn early_in(
     }
 }
 
-// Who asked by an own message is told what it came to, or waits for the lock.
-pub(crate) fn settle(
-    own: &Address,
-    copy: &LockTable,
-    ticket: u64,
-    view: ViewId,
-    place: u64,
-    early: Early,
-    queued: &mut Vec<Queued>,
-    answers: &mut Vec<Answer>,
-)
-    requires answers { vec_len answers.old < vec_capacity answers.old }
-    requires queued { vec_len queued.old < vec_capacity queued.old }
-    ensures queued { queued.new.items ≡ queued.old.items ++ queue_by own.now copy.now ticket early }
-    ensures answers { answers.new.items ≡ answers.old.items ++ told_of ticket view place (verdict own.now copy.now early) }
-{
-    match early {
-        Early::Told(fate) => answers.push_reserved(Answer {
-            ticket,
-            view,
-            place,
-            fate,
-        }),
-        Early::Asks(name) => {
-            let stands = standing_of(own, name.as_slice(), copy);
-            if is_waiting(&stands) {
-                queued.push_reserved(Queued { ticket, name });
-            }
-            if let Some(fate) = first_verdict(&stands) {
-                answers.push_reserved(Answer {
-                    ticket,
-                    view,
-                    place,
-                    fate,
-                });
+impl Early {
+    // Who asked by an own message is told what it came to, or waits for the lock.
+    pub(crate) fn settle(
+        self,
+        followed: &FollowedMember<LockTable>,
+        ticket: u64,
+        view: ViewId,
+        queued: &mut Vec<Queued>,
+        answers: &mut Vec<Answer>,
+    )
+        requires answers { vec_len answers.old < vec_capacity answers.old }
+        requires queued { vec_len queued.old < vec_capacity queued.old }
+        ensures queued { queued.new.items ≡ queued.old.items ++ queue_by followed.now.own followed.now.copy ticket self }
+        ensures answers { answers.new.items ≡ answers.old.items ++ told_of ticket view followed.now.place (verdict followed.now.own followed.now.copy self) }
+    {
+        let place = followed.place();
+        match self {
+            Early::Told(fate) => answers.push_reserved(Answer {
+                ticket,
+                view,
+                place,
+                fate,
+            }),
+            Early::Asks(name) => {
+                let stands = standing_of(&followed.own(), name.as_slice(), followed.copy());
+                if is_waiting(&stands) {
+                    queued.push_reserved(Queued { ticket, name });
+                }
+                if let Some(fate) = first_verdict(&stands) {
+                    answers.push_reserved(Answer {
+                        ticket,
+                        view,
+                        place,
+                        fate,
+                    });
+                }
             }
         }
     }

@@ -2,8 +2,8 @@ ghost use Rattle.std.specs.Prelude.{◌≡◌, ◌==◌, [], not, length, IfOk, 
 ghost use Rattle.std.specs.List.{list_any};
 ghost use Rattle.lock_table.specs.Keeping.{delivered, heard, installed, kept_of, noted, nothing_heard};
 
-use crate::answer::{hand_back, keep_waiting, tell_all};
-use crate::own_message::{early_in, settle};
+use crate::answer::{hand_back, make_room, tell_late};
+use crate::own_message::early_in;
 use crate::{Answer, LockTable, Queued};
 use address::{Address, ViewId};
 use application::FollowedMember;
@@ -92,7 +92,12 @@ impl LockService {
     pub fn is_queued(&self, ticket: u64) -> bool
         ensures { result ≡ list_any (λ q. q.ticket == ticket) self.now.queued }
     {
-        self.queued.iter().any(|waits| waits.ticket == ticket)
+        for waits in self.queued.iter() {
+            if waits.ticket == ticket {
+                return true;
+            }
+        }
+        false
     }
 
     /// A message of this number was sent in the view for this ticket: its fate will be the ticket's answer.
@@ -149,27 +154,19 @@ impl LockService {
         let own = self.followed.own();
         let payload = delivery.message.payload.as_slice();
         let early = early_in(self.alloc, &own, self.followed.copy(), payload)?;
-        self.queued.reserve(1)?;
-        let room = self.queued.len().saturating_add(1);
-        self.answers.reserve(room)?;
+        make_room(&mut self.queued, &mut self.answers)?;
         let ticket = self.followed.deliver(delivery)?;
-        tell_all(
-            &own,
-            self.followed.copy(),
+        tell_late(
+            &self.followed,
             delivery.view,
-            self.followed.place(),
-            self.queued.as_slice(),
+            &mut self.queued,
             &mut self.answers,
         );
-        keep_waiting(&own, self.followed.copy(), &mut self.queued);
         if let Some(ticket) = ticket {
-            settle(
-                &own,
-                self.followed.copy(),
+            early.settle(
+                &self.followed,
                 ticket,
                 delivery.view,
-                self.followed.place(),
-                early,
                 &mut self.queued,
                 &mut self.answers,
             );
@@ -182,21 +179,12 @@ impl LockService {
         ensures ok { OnOk result (self.new ≡ installed install.now self.old) }
         ensures err { OnErr result (self.new ≡ self.old) }
     {
-        let own = self.followed.own();
         let view = install.view.id();
         let room = self.followed.waits().saturating_add(self.queued.len());
         self.answers.reserve(room)?;
         let waiting = self.followed.install(install)?;
         hand_back(view, waiting.as_slice(), &mut self.answers);
-        tell_all(
-            &own,
-            self.followed.copy(),
-            view,
-            0,
-            self.queued.as_slice(),
-            &mut self.answers,
-        );
-        keep_waiting(&own, self.followed.copy(), &mut self.queued);
+        tell_late(&self.followed, view, &mut self.queued, &mut self.answers);
         Ok(())
     }
 }

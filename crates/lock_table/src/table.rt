@@ -87,22 +87,22 @@ impl LockTable {
     }
 
     // Carries out a command. Where memory is refused, the table is as before.
-    fn carry_out(&mut self, from: Address, command: Command<'_>) -> Result<(), AllocError>
-        ensures ok { OnOk result (self.new ≡ carried_out from command.entry self.old) }
+    fn carry_out(&mut self, from: Address, command: &Command<'_>) -> Result<(), AllocError>
+        ensures ok { OnOk result (self.new ≡ carried_out from command.now self.old) }
         ensures err { OnErr result (self.new ≡ self.old) }
     {
         if self.is_used_up(command.view()) {
             return Ok(());
         }
         match command {
-            Command::Acquire { view, name } => self.held.acquire(from, view, &name),
+            Command::Acquire { view, name } => self.held.acquire(from, *view, name),
             Command::Release { view, name } => {
-                self.held.release(from, view, &name);
+                self.held.release(from, *view, name);
                 Ok(())
             }
             Command::Roll(view) => {
                 if view.first() == from {
-                    self.held.roll(&view);
+                    self.held.roll(view);
                 }
                 Ok(())
             }
@@ -143,7 +143,7 @@ impl Receiver for LockTable {
     {
         match Command::decode(*self.held.entries.allocator(), payload)? {
             None => Ok(()),
-            Some(command) => self.carry_out(from, command),
+            Some(command) => self.carry_out(from, &command),
         }
     }
 
