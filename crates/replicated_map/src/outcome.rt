@@ -1,8 +1,9 @@
 //! What becomes of a command at a map.
 
-ghost use Rattle.std.specs.Prelude.{◌≡◌, IfOk};
+ghost use Rattle.std.specs.Prelude.{◌≡◌, IfOk, Some};
 ghost use Rattle.replicated_map.specs.Commands.{command_of};
 ghost use Rattle.replicated_map.specs.Entries.{held_lent, held_of};
+ghost use Rattle.replicated_map.specs.declared.outcome.Outcome.TheVariants.{Differs};
 ghost use Rattle.replicated_map.specs.Outcomes.{put_outcome, remove_outcome, outcome_of};
 
 use crate::changing::{has_room, size_with};
@@ -44,15 +45,16 @@ impl Drop for Outcome {
     }
 }
 
-fn copy_of(alloc: Global, found: Option<&Held>) -> Result<Option<Held>, AllocError>
-    ensures { IfOk result (λ copy. copy ≡ held_lent found.entry) }
+// It has not what is expected, but this.
+fn differing(alloc: Global, found: Option<&Held>) -> Result<Outcome, AllocError>
+    ensures { IfOk result (λ o. o ≡ Differs (held_lent found.entry)) }
 {
     match found {
-        None => Ok(None),
-        Some(held) => Ok(Some(Held {
+        None => Ok(Outcome::Differs(None)),
+        Some(held) => Ok(Outcome::Differs(Some(Held {
             version: held.version,
             value: held.value.copied(alloc)?,
-        })),
+        }))),
     }
 }
 
@@ -80,15 +82,11 @@ impl ReplicatedMap {
         }
     }
 
-    /// What becomes of the command that a payload encodes, if the map receives it next. It changes nothing.
-    pub fn outcome(&self, alloc: Global, payload: &[u8]) -> Result<Outcome, AllocError>
-        ensures { IfOk result (λ o. o ≡ outcome_of self.now (command_of payload.now)) }
+    fn outcome_of(&self, alloc: Global, command: &Command<'_>) -> Result<Outcome, AllocError>
+        ensures { IfOk result (λ o. o ≡ outcome_of self.now (Some command.now)) }
     {
-        let Some(command) = Command::decode(payload) else {
-            return Ok(Outcome::NoCommand);
-        };
         match command {
-            Command::Put { view, key, value } => Ok(self.outcome_of_put(view, &key, &value)),
+            Command::Put { view, key, value } => Ok(self.outcome_of_put(*view, key, value)),
             Command::Remove(key) => Ok(outcome_of_removal(self.get(key.as_slice()))),
             Command::Replace {
                 view,
@@ -97,10 +95,10 @@ impl ReplicatedMap {
                 value,
             } => {
                 let found = self.get(key.as_slice());
-                if is_as_expected(found, &expected) {
-                    return Ok(self.outcome_of_put(view, &key, &value));
+                if is_as_expected(found, expected) {
+                    return Ok(self.outcome_of_put(*view, key, value));
                 }
-                Ok(Outcome::Differs(copy_of(alloc, found)?))
+                differing(alloc, found)
             }
             Command::Clear => Ok(Outcome::Cleared),
             Command::ReplaceAt {
@@ -110,18 +108,28 @@ impl ReplicatedMap {
                 value,
             } => {
                 let found = self.get(key.as_slice());
-                if is_of_version(found, &version) {
-                    return Ok(self.outcome_of_put(view, &key, &value));
+                if is_of_version(found, version) {
+                    return Ok(self.outcome_of_put(*view, key, value));
                 }
-                Ok(Outcome::Differs(copy_of(alloc, found)?))
+                differing(alloc, found)
             }
             Command::RemoveAt { version, key } => {
                 let found = self.get(key.as_slice());
-                if is_of_version(found, &version) {
+                if is_of_version(found, version) {
                     return Ok(outcome_of_removal(found));
                 }
-                Ok(Outcome::Differs(copy_of(alloc, found)?))
+                differing(alloc, found)
             }
+        }
+    }
+
+    /// What becomes of the command that a payload encodes, if the map receives it next. It changes nothing.
+    pub fn outcome(&self, alloc: Global, payload: &[u8]) -> Result<Outcome, AllocError>
+        ensures { IfOk result (λ o. o ≡ outcome_of self.now (command_of payload.now)) }
+    {
+        match Command::decode(payload) {
+            None => Ok(Outcome::NoCommand),
+            Some(command) => self.outcome_of(alloc, &command),
         }
     }
 }
