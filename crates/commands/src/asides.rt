@@ -1,6 +1,6 @@
 //! What stands between the events of a script's run, for its picture: what was refused, and the packets.
 
-ghost use Rattle.std.specs.Prelude.{◌≡◌, ◌++◌, [], true, false, length, drop, option_and_then, OnOk};
+ghost use Rattle.std.specs.Prelude.{◌≡◌, ◌++◌, [], true, false, length, drop, option_and_then, slice_get, OnOk};
 ghost use Rattle.std.specs.Option.{option_copied};
 ghost use Rattle.std.specs.List.{cons_option};
 ghost use Rattle.trace_props.specs.Places.{EachPlace};
@@ -60,11 +60,11 @@ fn refused_at(line: u64, place: usize, target: Target, answer: Answer) -> Option
     }
 }
 
-// What was refused of the event of a line.
-fn refused_of(line: u64, event: &WorldEvent, reply: Option<&Reply>) -> Option<Aside>
-    ensures { result ≡ option_and_then (refused_of line event.now) (option_copied reply.entry) }
+// What was refused of the event of a line, whose reply stands behind so many.
+fn refused_of(line: u64, event: &WorldEvent, replies: &[Reply], past: usize) -> Option<Aside>
+    ensures { result ≡ option_and_then (refused_of line event.now) (slice_get replies.now past) }
 {
-    match reply {
+    match replies.get(past) {
         None => None,
         Some(reply) => refused_at(line, reply.place, event.target(), reply.answer),
     }
@@ -223,10 +223,7 @@ fn play_alone<R: Receiver>(
 {
     let replied = world.replies().len();
     step(world, event)?;
-    add(
-        asides,
-        refused_of(line, event, world.replies().get(replied)),
-    )
+    add(asides, refused_of(line, event, world.replies(), replied))
 }
 
 // Carries out the event of a line, and adds what was refused, and which packets were handed over and put out.

@@ -1,14 +1,14 @@
-ghost use Rattle.std.specs.Prelude.{◌≡◌};
+ghost use Rattle.std.specs.Prelude.{◌≡◌, ◌++◌, OnOk};
 ghost use Rattle.endings.specs.Outcomes.{Written};
-ghost use Rattle.commands.specs.Checks.{rule_code, IsVerdictText, IsJudgedText, ChecksTrace};
+ghost use Rattle.commands.specs.Checks.{rule_code, broken_line, IsVerdictText, IsJudgedText, ChecksTrace};
 
 use endings::{Status, Unreadable, end_in_fault, end_in_memory, end_with, read_all};
 use state_transfer::Receiver;
-use std::alloc::Global;
+use std::alloc::{AllocError, Global};
 use std::io::{Read, Write};
 use trace_checker::check;
 use trace_props::{Rule, Trace, Verdict};
-use vsync_text::{Untold, read_trace_from};
+use vsync_text::{Part, Untold, put_parts, read_trace_from};
 
 /// The code under which a broken rule is printed (docs/GUARANTEES.md, "What check prints").
 pub fn code_of(rule: Rule) -> &'static str
@@ -26,6 +26,20 @@ pub fn code_of(rule: Rule) -> &'static str
     }
 }
 
+/// Appends the line of a broken rule.
+pub(crate) fn put_broken_line(out: &mut Vec<u8>, rule: Rule, place: u64) -> Result<(), AllocError>
+    ensures { OnOk result (out.new.items ≡ out.old.items ++ broken_line rule place) }
+{
+    let parts = [
+        Part::Text(b"broken "),
+        Part::Text(code_of(rule).as_bytes()),
+        Part::Text(b" "),
+        Part::Number(place),
+        Part::Text(b"\n"),
+    ];
+    put_parts(out, &parts)
+}
+
 /// Writes a verdict.
 fn print_verdict<W: Write>(alloc: Global, writer: &mut W, verdict: Verdict) -> Status
     ensures { Written (IsVerdictText verdict) (W.contents writer.old) (W.contents writer.new) result }
@@ -33,9 +47,9 @@ fn print_verdict<W: Write>(alloc: Global, writer: &mut W, verdict: Verdict) -> S
     match verdict {
         Verdict::Holds => end_with(writer, b"holds\n", Status::Done),
         Verdict::Breaks { rule, place } => {
-            let code = code_of(rule);
-            match format!(in alloc; "broken {code} {place}\n") {
-                Ok(text) => end_with(writer, text.as_bytes(), Status::Broken),
+            let mut text = Vec::new(alloc);
+            match put_broken_line(&mut text, rule, place) {
+                Ok(()) => end_with(writer, text.as_slice(), Status::Broken),
                 Err(_) => end_in_memory(writer),
             }
         }

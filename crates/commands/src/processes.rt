@@ -8,7 +8,7 @@ ghost use Rattle.endings.specs.Outcomes.{Written};
 ghost use Rattle.commands.specs.Checks.{broken_line};
 ghost use Rattle.commands.specs.Processes.{texts_of, AreTracesOf, unread_at, IsPlacedText, event_at, line_with, IsUnorderedText, IsFaultyText, IsJoinedText, IsUnreadIn, IsProcessesText, ChecksProcesses};
 
-use crate::checks::code_of;
+use crate::checks::put_broken_line;
 use crate::member_texts::read_member_trace;
 use endings::{Status, end_in_memory, end_with};
 use state_transfer::Receiver;
@@ -76,9 +76,8 @@ fn broken_text(
 ) -> Result<Vec<u8>, AllocError>
     ensures { IfOk result (λ text. text.items ≡ broken_line rule place ++ line_with (event_at events.now place)) }
 {
-    let code = code_of(rule);
-    let line = format!(in alloc; "broken {code} {place}\n")?;
-    let mut text = Vec::from_slice(alloc, line.as_bytes())?;
+    let mut text = Vec::new(alloc);
+    put_broken_line(&mut text, rule, place)?;
     if let Some(event) = event_at(events, place) {
         append_event(&mut text, event)?;
     }

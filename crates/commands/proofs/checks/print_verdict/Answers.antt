@@ -1,5 +1,4 @@
-use Rattle.std.proofs.Common.{◌≡◌, ◌∙◌, ap, sym, subst, List, ℕ, codes, ◌++◌, ◌∷◌, []}
-use Rattle.std.specs.Fmt.{decimal}
+use Rattle.std.proofs.Common.{◌≡◌, ◌∙◌, sym, subst, List, ℕ, codes, rules}
 use Rattle.trace_props.specs.declared.verdict.Verdict.{Verdict}
 use Rattle.trace_props.specs.declared.verdict.Verdict.TheVariants.{Breaks}
 use Rattle.endings.specs.declared.status.Status.TheVariants.{Done, Broken, Memory}
@@ -14,15 +13,14 @@ returns-in-Holds g c =
 
 pub returns-in-Ok : goal.returns-in-Ok
 returns-in-Ok g c =
-    let line : c.as_bytes.result.now ≡ broken_line c.in-Breaks.rule c.in-Breaks.place =
-    c.as_bytes.ensures.value ∙ c.in-Ok.ensures.ok ∙ ap (λ (code : List ℕ). codes "broken " ++ (code ++ 32 ∷ (decimal c.in-Breaks.place ++ 10 ∷ []))) c.code_of-code.ensures in
+    let line : c.as_slice.result.now ≡ broken_line c.in-Breaks.rule c.in-Breaks.place = c.as_slice.ensures.value ∙ search rules in
     record {
       meant = Broken;
-      text = c.as_bytes.result.now;
-      says = subst (λ (v : Verdict). IsVerdictText v Broken c.as_bytes.result.now) (sym c.in-Breaks.is)
+      text = c.as_slice.result.now;
+      says = subst (λ (v : Verdict). IsVerdictText v Broken c.as_slice.result.now) (sym c.in-Breaks.is)
           (subst (λ (x : List ℕ). IsVerdictText (Breaks c.in-Breaks.rule c.in-Breaks.place) Broken x) (sym line) (Broke c.in-Breaks.rule c.in-Breaks.place));
       ends = c.end_with-in-Ok.ensures;
     }
 
-pub returns-in-Err : goal.returns-in-Err
-returns-in-Err g c = record { meant = Memory; text = memory_line; says = Unprinted c.args.verdict; ends = c.end_in_memory.ensures }
+pub returns : goal.returns
+returns g c = record { meant = Memory; text = memory_line; says = Unprinted c.args.verdict; ends = c.end_in_memory.ensures }

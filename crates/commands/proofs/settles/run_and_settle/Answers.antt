@@ -20,3 +20,13 @@ loop-before-preserved g c =
       longer-then c.run.new.self.history c.loop-before.world.history c.settle_at.new.world.history c.loop-before.invariant.1 c.settle_at.ensures.longer,
       c.settle_at.ensures.rules c.loop-before.invariant.2,
     )
+
+pub returns-in_err-settle_at-clause-some : goal.returns-in_err-settle_at-clause-some
+returns-in_err-settle_at-clause-some g c =
+    let (count, ran) = c.run.ensures.some in
+    let longer = longer-then c.run.new.self.history c.loop-before.world.history c.settle_at.new.world.history c.loop-before.invariant.1 c.settle_at.ensures.longer in
+    record { mid = shown c.run.new.self; count = count; ran = ran; longer = longer }
+
+pub returns-clause-some : goal.returns-clause-some
+returns-clause-some g c =
+    let (count, ran) = c.run.ensures.some in record { mid = shown c.run.new.self; count = count; ran = ran; longer = c.loop-before.invariant.1 }
