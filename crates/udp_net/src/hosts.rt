@@ -1,10 +1,10 @@
-ghost use Rattle.std.specs.Prelude.{◌≡◌, ◌++◌, ◌∷◌, [], OnOk, IfOk, MatchOption};
+ghost use Rattle.std.specs.Prelude.{◌≡◌, [], IfOk, MatchOption};
 ghost use Rattle.udp_net.specs.declared.hosts.TheConstants.{LOCAL};
 ghost use Rattle.udp_net.specs.Hosts.{host_of, IsHostOf, AreHostsOf};
 
 use crate::BindError;
 use address::Node;
-use std::alloc::{AllocError, Global};
+use std::alloc::Global;
 use std::io::ErrorKind;
 use std::marker::Model;
 use std::net::{IpAddr, Ipv4Addr, ToSocketAddrs};
@@ -56,23 +56,19 @@ impl Hosts {
         ensures own { IfOk result (λ h. MatchOption bind.entry (h.own ≡ LOCAL) (λ text. IsHostOf text.now h.own)) }
         ensures peers { IfOk result (λ h. AreHostsOf peers.now h.peers) }
     {
-        let mut hosts = Hosts::local(alloc);
-        if let Some(text) = bind {
-            hosts.own = address_of(network, text)?;
-        }
+        let own = match bind {
+            Some(text) => address_of(network, text)?,
+            None => LOCAL,
+        };
+        let mut hosts = Vec::new(alloc);
         for (node, text) in peers {
             let host = address_of(network, text)?;
-            hosts.add(*node, host)?;
+            match hosts.push(NodeHost { node: *node, host }) {
+                Ok(()) => (),
+                Err(_) => return Err(BindError::Memory),
+            }
         }
-        Ok(hosts)
-    }
-
-    // Adds the host of a node, behind the others.
-    fn add(&mut self, node: Node, host: IpAddr) -> Result<(), AllocError>
-        ensures ok { OnOk result (self.new ≡ record self.old { peers = self.old.peers ++ record { node = node; host = host } ∷ [] }) }
-    {
-        self.peers.push(NodeHost { node, host })?;
-        Ok(())
+        Ok(Hosts { own, peers: hosts })
     }
 
     /// The host of this node.
