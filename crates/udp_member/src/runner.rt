@@ -1,5 +1,5 @@
 ghost use Rattle.std.specs.Prelude.{◌≡◌, IfOk};
-ghost use Rattle.std.specs.Result.{result_err, result_ok};
+ghost use Rattle.std.specs.Result.{result_err};
 ghost use Rattle.std.specs.Borrow.{sem};
 ghost use Rattle.udp_member.specs.Offers.{Offers};
 ghost use Rattle.udp_net.specs.Logs.{Lists};
@@ -57,16 +57,14 @@ impl<N: Net, R: Receiver> Model for Runner<N, R> {
     ghost view = { λ r. driven r.net r.channel r.faults r.notes };
 }
 
-// What the channel answered, where the round goes on: a call that it refused with anything but 6 and 7 is passed over.
-fn passed_over<T: Drop>(answer: Result<T, Error>) -> Result<Option<T>, Error>
-    ensures error { PassesOver (result_err answer) (result_err result) }
-    ensures value { IfOk result (λ value. value ≡ result_ok answer) }
+// Whether the round goes on: a call that the channel refused with anything but 6 and 7 is passed over.
+fn passed_over(answer: Result<(), Error>) -> Result<(), Error>
+    ensures { PassesOver (result_err answer) (result_err result) }
 {
     match answer {
-        Ok(value) => Ok(Some(value)),
         Err(Error::Refused(Refusal::Closed)) => Err(Error::Refused(Refusal::Closed)),
         Err(Error::Refused(Refusal::Memory)) => Err(Error::Refused(Refusal::Memory)),
-        Err(_) => Ok(None),
+        _ => Ok(()),
     }
 }
 
@@ -80,8 +78,10 @@ fn hand_in<R: Receiver>(
 {
     let answer = channel.incoming(bytes);
     notes.note(&answer);
-    passed_over(answer)?;
-    Ok(())
+    match answer {
+        Ok(_) => Ok(()),
+        Err(error) => passed_over(Err(error)),
+    }
 }
 
 impl<N: Net, R: Receiver> Runner<N, R> {
@@ -292,10 +292,10 @@ impl<N: Net, R: Receiver> Runner<N, R> {
             return Ok(());
         };
         let standing = standing_of(&self.channel);
-        if self.notes.pass(&standing, watched.as_slice()).is_err() {
-            return Ok(());
+        match self.notes.pass(&standing, watched.as_slice()) {
+            Ok(()) => self.suspect_all(watched.as_slice()),
+            Err(_) => Ok(()),
         }
-        self.suspect_all(watched.as_slice())
     }
 
     // Hands in those of the watched that are silent; then the counts begin anew, if there was one.
@@ -321,9 +321,7 @@ impl<N: Net, R: Receiver> Runner<N, R> {
         ensures net { self.new.net ≡ self.old.net }
         ensures faults { self.new.faults ≡ self.old.faults }
     {
-        let answer = self.channel.suspect(address);
-        passed_over(answer)?;
-        Ok(())
+        passed_over(self.channel.suspect(address))
     }
 
     // Tells the channel that time passes.
@@ -334,8 +332,7 @@ impl<N: Net, R: Receiver> Runner<N, R> {
     {
         self.pace.begin();
         let answer = self.channel.tick();
-        passed_over(answer)?;
-        Ok(())
+        passed_over(answer)
     }
 
     // Whom to seek, if anybody.
@@ -357,8 +354,6 @@ impl<N: Net, R: Receiver> Runner<N, R> {
         ensures net { self.new.net ≡ self.old.net }
         ensures faults { self.new.faults ≡ self.old.faults }
     {
-        let answer = self.channel.merge_hint(address);
-        passed_over(answer)?;
-        Ok(())
+        passed_over(self.channel.merge_hint(address))
     }
 }

@@ -2,18 +2,18 @@ use Rattle.std.proofs.Common.{refl, rules}
 use Rattle.std.specs.Result.{result_err}
 use Rattle.udp_member.proofs.runner.hand_in.Goals as goal
 
-pub returns-in_err-passed_over : goal.returns-in_err-passed_over
-returns-in_err-passed_over g c = record {
+pub returns-in-Ok : goal.returns-in-Ok
+returns-in-Ok g c = record {
   answer = result_err c.incoming-answer.result;
   noted = search rules;
   why = search rules;
   turn = record { calls = record { lent = c.args.bytes; same = refl; calls = c.incoming-answer.ensures.calls }; left = search rules };
 }
 
-pub returns : goal.returns
-returns g c = record {
+pub returns-in-Err : goal.returns-in-Err
+returns-in-Err g c = record {
   answer = result_err c.incoming-answer.result;
   noted = search rules;
-  why = c.in_ok-passed_over.ensures.error;
+  why = search rules;
   turn = record { calls = record { lent = c.args.bytes; same = refl; calls = c.incoming-answer.ensures.calls }; left = search rules };
 }
