@@ -18,8 +18,8 @@ ghost use Rattle.node_turns.specs.Processes.{all_told, net_of, state_text};
 
 use crate::NodeMachine;
 use crate::calls::{Call, do_call};
-use address::Address;
 use address::limits::Refusal;
+use address::{Address, Node};
 use application::{Application, append_line};
 use channel::{Channel, Error};
 use std::alloc::{AllocError, Global};
@@ -37,6 +37,15 @@ pub struct Process<N: Net, C: Application> {
     pub runner: Runner<N, C>,
 }
 
+// The nodes of the settings.
+fn nodes_of(alloc: Global, settings: &Settings) -> Result<Vec<Node>, AllocError> {
+    let mut nodes = Vec::with_capacity(alloc, settings.nodes().len())?;
+    for place in settings.nodes() {
+        nodes.push(place.node)?;
+    }
+    Ok(nodes)
+}
+
 /// The member of an address over a net, not connected yet, which may seek others at the nodes of the settings.
 pub fn member_at<N: Net, C: Application>(
     alloc: Global,
@@ -48,10 +57,7 @@ pub fn member_at<N: Net, C: Application>(
     ensures net { IfOk result (λ runner. runner.net ≡ net) }
 {
     let channel = Channel::new(alloc, address, C::opening(alloc)?);
-    let mut nodes = Vec::with_capacity(alloc, settings.nodes().len())?;
-    for place in settings.nodes() {
-        nodes.push(place.node)?;
-    }
+    let nodes = nodes_of(alloc, settings)?;
     let silent = u32::from(settings.silent());
     Runner::new(alloc, net, channel, nodes.as_slice(), silent)
 }

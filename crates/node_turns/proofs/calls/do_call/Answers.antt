@@ -3,23 +3,38 @@ use Rattle.law_runners.specs.Runs.{Create, Join, Hand}
 use Rattle.node_turns.proofs.ProcessesTurn.{left-so}
 use Rattle.node_turns.proofs.calls.do_call.Goals as goal
 
-pub returns-in-Create-clause-called : goal.returns-in-Create-clause-called
-returns-in-Create-clause-called g c = record { call = Create _ _ (rw c.channel.ensures.value at c.connect_new.ensures.connects) (left-so _ _ _ (rw c.channel.ensures.value at c.connect_new.ensures.left)); no_offer = refl; says = tt }
+pub returns-in-Create : goal.returns-in-Create
+returns-in-Create g c =
+    let made = rw c.channel.ensures.value at c.connect_new.ensures.connects in let left = left-so _ _ _ (rw c.channel.ensures.value at c.connect_new.ensures.left) in
+    record { makes = rw c.in-Create.is (made, left, refl); called = record { call = Create _ _ made left; no_offer = refl; says = tt }; uncalled = tt; plain = λ _. refl }
 
-pub returns-in-Join-clause-called : goal.returns-in-Join-clause-called
-returns-in-Join-clause-called g c = record { call = Join _ _ _ (rw c.channel-in-Join.ensures.value at c.connect_to.ensures.connects) (left-so _ _ _ (rw c.channel-in-Join.ensures.value at c.connect_to.ensures.left)); no_offer = refl; says = tt }
+pub returns-in-Join : goal.returns-in-Join
+returns-in-Join g c =
+    let made = rw c.channel-in-Join.ensures.value at c.connect_to.ensures.connects in let left = left-so _ _ _ (rw c.channel-in-Join.ensures.value at c.connect_to.ensures.left) in
+    record { makes = rw c.in-Join.is (made, left, refl); called = record { call = Join _ _ _ made left; no_offer = refl; says = tt }; uncalled = tt; plain = λ _. refl }
 
-pub returns-in-Tick-clause-called : goal.returns-in-Tick-clause-called
-returns-in-Tick-clause-called g c = record { call = Hand _ _ _ refl (rw c.channel-in-Tick.ensures.value at c.tick.ensures.calls) (left-so _ _ _ (rw c.channel-in-Tick.ensures.value at c.tick.ensures.left)); no_offer = refl; says = (λ v at. tt) }
+pub returns-in-Tick : goal.returns-in-Tick
+returns-in-Tick g c =
+    let made = rw c.channel-in-Tick.ensures.value at c.tick.ensures.calls in let left = left-so _ _ _ (rw c.channel-in-Tick.ensures.value at c.tick.ensures.left) in
+    record { makes = rw c.in-Tick.is (made, left, refl); called = record { call = Hand _ _ _ refl made left; no_offer = refl; says = (λ v at. tt) }; uncalled = tt; plain = λ _. refl }
 
-pub returns-in-Suspect-clause-called : goal.returns-in-Suspect-clause-called
-returns-in-Suspect-clause-called g c = record { call = Hand _ _ _ refl (rw c.channel-in-Suspect.ensures.value at c.suspect.ensures.calls) (left-so _ _ _ (rw c.channel-in-Suspect.ensures.value at c.suspect.ensures.left)); no_offer = refl; says = (λ v at. tt) }
+pub returns-in-Suspect : goal.returns-in-Suspect
+returns-in-Suspect g c =
+    let made = rw c.channel-in-Suspect.ensures.value at c.suspect.ensures.calls in let left = left-so _ _ _ (rw c.channel-in-Suspect.ensures.value at c.suspect.ensures.left) in
+    record { makes = rw c.in-Suspect.is (made, left, refl); called = record { call = Hand _ _ _ refl made left; no_offer = refl; says = (λ v at. tt) }; uncalled = tt; plain = λ _. refl }
 
-pub returns-in-MergeHint-clause-called : goal.returns-in-MergeHint-clause-called
-returns-in-MergeHint-clause-called g c = record { call = Hand _ _ _ refl (rw c.channel-in-MergeHint.ensures.value at c.merge_hint.ensures.calls) (left-so _ _ _ (rw c.channel-in-MergeHint.ensures.value at c.merge_hint.ensures.left)); no_offer = refl; says = (λ v at. tt) }
+pub returns-in-MergeHint : goal.returns-in-MergeHint
+returns-in-MergeHint g c =
+    let made = rw c.channel-in-MergeHint.ensures.value at c.merge_hint.ensures.calls in let left = left-so _ _ _ (rw c.channel-in-MergeHint.ensures.value at c.merge_hint.ensures.left) in
+    record { makes = rw c.in-MergeHint.is (made, left, refl); called = record { call = Hand _ _ _ refl made left; no_offer = refl; says = (λ v at. tt) }; uncalled = tt; plain = λ _. refl }
 
-pub returns-in-Leave-clause-called : goal.returns-in-Leave-clause-called
-returns-in-Leave-clause-called g c = record { call = Hand _ _ _ refl (rw c.channel-in-Leave.ensures.value at c.disconnect.ensures.calls) (left-so _ _ _ (rw c.channel-in-Leave.ensures.value at c.disconnect.ensures.left)); no_offer = refl; says = (λ v at. tt) }
+pub returns-in-Leave : goal.returns-in-Leave
+returns-in-Leave g c =
+    let made = rw c.channel-in-Leave.ensures.value at c.disconnect.ensures.calls in let left = left-so _ _ _ (rw c.channel-in-Leave.ensures.value at c.disconnect.ensures.left) in
+    record { makes = rw c.in-Leave.is (made, left, refl); called = record { call = Hand _ _ _ refl made left; no_offer = refl; says = (λ v at. tt) }; uncalled = tt; plain = λ _. refl }
+
+pub returns-in-Send-clause-makes : goal.returns-in-Send-clause-makes
+returns-in-Send-clause-makes g c = rw c.in-Send.is c.send.ensures.makes
 
 pub returns-in-Send-clause-called : goal.returns-in-Send-clause-called
 returns-in-Send-clause-called g c = rw c.in-Send.is (c.send.ensures.called c.args.group.now)
