@@ -2,7 +2,7 @@
 use Rattle.std.proofs.Common.{◌≡◌, ℕ, Bool, true, false, cond, nat_eq, is_some, Option, None, Some, Result, Ok, Err, OnOk, OnErr, IsErr, List, [], ◌∷◌, ◌++◌, map, take, drop, length, get_or, option_to_list, slice_get, slice_set, inl, inr, ◌⊎◌, ◌+◌, ◌<◌, ◌≤◌, arith, refl, sym, ap, ◌∙◌, subst}
 use Rattle.std.specs.List.{concat, list_any}
 use Rattle.std.specs.Option.{ForSome, option_map_or}
-use Rattle.std.proofs.lemmas.List.{append-nil, append_assoc, map-append, take-append-drop}
+use Rattle.std.proofs.lemmas.List.{append-nil, append_assoc, map-append, take-append-drop, take_all}
 use Rattle.std.proofs.lemmas.List.Elements.{filter_map-append}
 use Rattle.address.specs.Ids.{Address}
 use Rattle.state_transfer.specs.Meanings.{Meaning}
@@ -536,6 +536,10 @@ module _ {N S : Type 0} where
             ∙ ap concat (sym (map-append (state_text line_of) (processes_in (take k all)) (option_to_list x.process)) ∙ ap (map (state_text line_of)) (sym (processes-more all k x here)))),
         ap (slice_set now k) kept ∙ set-self now k x there ∙ same,
       )
+
+  pub states-all : (line_of : Address → S → List ℕ) (all now : List (NodeState N S)) (k : ℕ) (text mid : List ℕ) → Stated line_of all now k text mid → length all ≤ k
+      → mid ≡ text ++ concat (map (state_text line_of) (processes_in all))
+  states-all line_of all now k text mid (said, same) whole = said ∙ ap (λ (l : List (NodeState N S)). text ++ concat (map (state_text line_of) (processes_in l))) (take_all k all whole)
 
   pub states-some : (line_of : Address → S → List ℕ) (all now : List (NodeState N S)) (k : ℕ) (text mid text' : List ℕ) → Stated line_of all now k text mid → text' ≡ mid
       → (n : ℕ) × (text' ≡ text ++ concat (take n (map (state_text line_of) (processes_in all))))

@@ -68,6 +68,21 @@ fn goes_on(has_ended: &mut bool, answer: Result<(), Error>) -> Result<(), Cut> {
     unless_memory(answer)
 }
 
+// Whether there is more to do at once, after it sent and listened; where the node has ended, that is noted.
+fn has_more(
+    has_ended: &mut bool,
+    has_sent: bool,
+    heard: Result<usize, Error>,
+) -> Result<bool, Cut> {
+    match heard {
+        Ok(count) => Ok(has_sent || count > 0),
+        Err(error) => {
+            goes_on(has_ended, Err(error))?;
+            Ok(false)
+        }
+    }
+}
+
 // When a round is due behind one that was: a tick after that was due, or after now, if that is half a tick or more ago.
 fn due_after(due: Duration, tick: Duration, now: Duration) -> Duration {
     let late = now.saturating_sub(due);
@@ -199,13 +214,8 @@ impl<'a, N: Net, C: Application> LoneNode<'a, N, C> {
     {
         self.take_lines(lines)?;
         let has_sent = self.send_lines()?;
-        match self.member.listen() {
-            Ok(count) => Ok(has_sent || count > 0),
-            Err(error) => {
-                goes_on(&mut self.has_ended, Err(error))?;
-                Ok(false)
-            }
-        }
+        let heard = self.member.listen();
+        has_more(&mut self.has_ended, has_sent, heard)
     }
 
     // Writes what is told of it, and then offers what waits; nothing is offered where that was not written whole.
@@ -332,7 +342,7 @@ impl<'a, N: Net, C: Application> LoneNode<'a, N, C> {
             self.time = machine.now();
             self.finder.go_on(milliseconds(self.time));
             let rest = due.saturating_sub(self.time);
-            if self.has_ended || self.outbox.is_over() || rest == Duration::ZERO {
+            if self.has_ended | self.outbox.is_over() | (rest == Duration::ZERO) {
                 return Ok(());
             }
             lines.look(self.time);
@@ -381,7 +391,7 @@ impl<'a, N: Net, C: Application> LoneNode<'a, N, C> {
         ensures gone { M.gone machine.new ≡ M.gone machine.old }
     {
         for round in 0..rounds {
-            if self.has_ended || self.gives_up || self.outbox.is_over() {
+            if self.has_ended | self.gives_up | self.outbox.is_over() {
                 return Ok(());
             }
             match self.rest(round, lines, machine, writer) {

@@ -94,7 +94,7 @@ impl<'a, N: Net, C: Application> LoneNode<'a, N, C> {
         ensures voice { self.new.teller.voice ≡ self.old.teller.voice }
         ensures texts { AreSame self.old.once self.old.outbox self.old.teller.unsaid self.new.once self.new.outbox self.new.teller.unsaid }
     {
-        if !self.manner.finds || self.has_ended || self.round == 0 {
+        if !self.manner.finds | self.has_ended | (self.round == 0) {
             return Ok(());
         }
         match self.next_step() {

@@ -1,17 +1,19 @@
 //! What a member sends that runs by itself, and when.
 
-ghost use Rattle.std.specs.Prelude.{◌≡◌, ◌++◌, ℕ, List, [], Option, Some, OnOk, IfOk, IfSome};
+ghost use Rattle.std.specs.Prelude.{◌≡◌, ◌++◌, ◌⊎◌, ℕ, List, [], Option, Some, OnOk, IfOk, IfSome};
 ghost use Rattle.std.specs.Option.{option_copied};
 ghost use Rattle.view.specs.Members.{View as ViewValue};
 ghost use Rattle.channel.specs.Channels.{view_in};
 ghost use Rattle.node_turns.specs.Telling.{Quietly};
 ghost use Rattle.node_turns.specs.Said.{AreSame, IsId, MaySay};
+ghost use Rattle.node_turns.specs.Outboxes.{without_next};
 ghost use Rattle.node_turns.specs.Came.{Fills, IsEarlier, IsLineOf, IsSentOf, IsText, Keeps, Owes};
 
 use crate::lone::{LoneNode, unless_memory};
+use crate::watch::Watch;
 use address::{Bytes, ViewId};
 use application::Application;
-use node_turns::{Cut, LineTrouble, Lines, LinesError, Notice, OutboxError, Sent, send};
+use node_turns::{Cut, LineTrouble, Lines, LinesError, Notice, Outbox, OutboxError, Sent, send};
 use udp_net::Net;
 use vsync_text::{Fault, Unheard};
 
@@ -26,6 +28,24 @@ enum Said {
     Waits,
     // It says no payload: this is wrong with it.
     Bad(Fault),
+}
+
+// What was said is at the head of the lines that wait: unless it waits on, it is taken from there. Answers whether it was sent.
+fn take_said(outbox: &mut Outbox, watch: &mut Watch, said: Said) -> bool
+    ensures { (outbox.new ≡ outbox.old) ⊎ (outbox.new ≡ without_next outbox.old) }
+{
+    match said {
+        Said::Taken => {
+            outbox.take();
+            true
+        }
+        Said::Waits => false,
+        Said::Bad(fault) => {
+            outbox.take();
+            watch.note(Notice::BadLine(fault));
+            false
+        }
+    }
 }
 
 // It does nothing: its clause is what the type of a view's id says of it.
@@ -131,11 +151,8 @@ impl<'a, N: Net, C: Application> LoneNode<'a, N, C> {
         is_id(id);
         match C::payload_in_view(self.alloc, id, text) {
             Ok(payload) => {
-                if self.sends(&payload, sent)? {
-                    Ok(Said::Taken)
-                } else {
-                    Ok(Said::Waits)
-                }
+                let is_taken = self.sends(&payload, sent)?;
+                Ok(if is_taken { Said::Taken } else { Said::Waits })
             }
             Err(Unheard::Memory) => Err(Cut::Memory),
             Err(Unheard::Fault(fault)) => Ok(Said::Bad(fault)),
@@ -212,18 +229,8 @@ impl<'a, N: Net, C: Application> LoneNode<'a, N, C> {
             return Ok(false);
         };
         let copy = Vec::from_slice(self.alloc, line.as_slice())?;
-        match self.says(line.as_slice(), Sent::Line(copy))? {
-            Said::Taken => {
-                self.outbox.take();
-                Ok(true)
-            }
-            Said::Waits => Ok(false),
-            Said::Bad(fault) => {
-                self.outbox.take();
-                self.watch.note(Notice::BadLine(fault));
-                Ok(false)
-            }
-        }
+        let said = self.says(line.as_slice(), Sent::Line(copy))?;
+        Ok(take_said(&mut self.outbox, &mut self.watch, said))
     }
 
     // Sends the lines that wait, as many as it may, where it holds none back; answers whether it sent any.

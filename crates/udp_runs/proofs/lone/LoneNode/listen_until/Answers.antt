@@ -28,3 +28,9 @@ loop-preserved g c =
       earlier-trans _ _ _ grows (rw c.look.ensures at c.listen_for.ensures.grows),
       λ start owed. c.in-Ok.ensures.owes start (rw c.look.ensures (owes start owed)),
     )
+
+pub returns-then-self-is_over-clause-owes : goal.returns-then-self-is_over-clause-owes
+returns-then-self-is_over-clause-owes g c = let (told, voice, gone, once, grows, owes) = c.loop.invariant in owes
+
+pub returns-clause-owes : goal.returns-clause-owes
+returns-clause-owes g c = let (told, voice, gone, once, grows, owes) = c.loop.invariant in owes

@@ -1,4 +1,4 @@
-use Rattle.std.proofs.Common.{◌∙◌, sym, subst}
+use Rattle.std.proofs.Common.{sym, subst}
 use Rattle.node_turns.specs.Outboxes.{OutboxModel}
 use Rattle.node_turns.specs.Came.{Owes}
 use Rattle.node_turns.proofs.LinesKept.{owes-without-long}
@@ -23,3 +23,6 @@ returns-in_ok-from_slice-in-Ok-Some-clause-owes g c = λ start came x. subst (λ
 
 pub returns-in-Ok-None-clause-owes : goal.returns-in-Ok-None-clause-owes
 returns-in-Ok-None-clause-owes g c = λ start came x. subst (λ (q : OutboxModel). Owes start came q c.args.self.now.teller.unsaid) (sym c.see_end.ensures) x
+
+pub returns-then-has_notice-clause-owes : goal.returns-then-has_notice-clause-owes
+returns-then-has_notice-clause-owes g c = λ start came x. x

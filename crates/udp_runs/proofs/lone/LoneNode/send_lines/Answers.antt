@@ -40,3 +40,6 @@ loop-sent-preserved g c = let (drives, voice, once, keeps) = c.loop-sent.invaria
   c.send_line.ensures.same.1 ∙ once,
   λ start came owed. c.in_ok-send_line.ensures.owes start came (keeps start came owed),
 )
+
+pub returns-clause-owes : goal.returns-clause-owes
+returns-clause-owes g c = let (drives, voice, once, keeps) = c.loop-sent.invariant in keeps
