@@ -71,7 +71,11 @@ fn tokens_of(alloc: Global, events: &Events) -> Result<Vec<usize>, AllocError> {
 impl Door {
     pub(crate) fn bind<R: Net>(alloc: Global, rt: &R, at: SocketAddr) -> io::Result<Door> {
         let poll = Poll::new(rt)?;
-        let mut listener = TcpListener::bind(rt, at)?;
+        let listener = TcpListener::bind(rt, at)?;
+        Door::of(alloc, poll, listener)
+    }
+
+    fn of(alloc: Global, poll: Poll, mut listener: TcpListener) -> io::Result<Door> {
         poll.registry()
             .register(&mut listener, Token(LISTENER), Interest::READABLE)?;
         Ok(Door {
@@ -93,9 +97,7 @@ impl Door {
         self.poll.poll(&mut self.events, Some(Duration::ZERO))?;
         // First: a listener says only once that somebody came, and memory may be refused then.
         for event in self.events.iter() {
-            if event.token().0 == LISTENER {
-                self.has_callers = true;
-            }
+            self.has_callers |= event.token().0 == LISTENER;
         }
         Ok(tokens_of(alloc, &self.events)?)
     }

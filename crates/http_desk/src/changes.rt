@@ -81,7 +81,10 @@ impl Changes {
     }
 
     // Whether a text names a place, with or without quotes.
-    fn names(&self, tag: &Tag, text: &[u8]) -> Result<bool, AllocError> {
+    fn names(&self, tag: Option<&Tag>, text: &[u8]) -> Result<bool, AllocError> {
+        let Some(tag) = tag else {
+            return Ok(false);
+        };
         let mut quoted = Text::new(self.alloc);
         put_tag(&mut quoted, tag);
         let quoted = quoted.whole()?;
@@ -95,15 +98,13 @@ impl Changes {
 
     // From which change on those stand that are behind the place that a text names.
     fn index_of(&self, text: &[u8]) -> Result<Option<usize>, AllocError> {
-        if let Some(first) = &self.first {
-            if self.names(first, text)? {
-                return Ok(Some(0));
-            }
+        if self.names(self.first.as_ref(), text)? {
+            return Ok(Some(0));
         }
         let mut index = 0usize;
         for change in self.log.iter() {
             index = index.saturating_add(1);
-            if self.names(&change.tag, text)? {
+            if self.names(Some(&change.tag), text)? {
                 return Ok(Some(index));
             }
         }
@@ -121,10 +122,8 @@ impl Changes {
 
     /// What changed behind the place that a text names.
     pub(crate) fn since(&self, text: &[u8]) -> Result<Since, AllocError> {
-        if let Some(last) = &self.last {
-            if self.names(last, text)? {
-                return Ok(Since::Nothing);
-            }
+        if self.names(self.last(), text)? {
+            return Ok(Since::Nothing);
         }
         let Some(index) = self.index_of(text)? else {
             return Ok(Since::Unknown);

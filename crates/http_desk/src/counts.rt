@@ -52,6 +52,17 @@ impl Drop for Counts {
     }
 }
 
+// How many of these members are not among the others.
+fn count_missing(members: &[Address], others: &[Address]) -> u64 {
+    let mut count = 0u64;
+    for member in members {
+        if !others.contains(member) {
+            count = count.saturating_add(1);
+        }
+    }
+    count
+}
+
 impl Counts {
     pub(crate) fn new(alloc: Global, own: Address) -> Counts {
         Counts {
@@ -83,9 +94,7 @@ impl Counts {
     fn see(&mut self, address: Address) -> Result<(), AllocError> {
         for known in self.seen.iter_mut() {
             if known.node() == address.node() {
-                if known.incarnation() < address.incarnation() {
-                    *known = address;
-                }
+                *known = (*known).max(address);
                 return Ok(());
             }
         }
@@ -93,22 +102,24 @@ impl Counts {
         Ok(())
     }
 
+    // Notes the incarnations of the nodes of a view.
+    fn see_all(&mut self, members: &[Address]) -> Result<(), AllocError> {
+        for member in members {
+            self.see(*member)?;
+        }
+        Ok(())
+    }
+
     // Its member installed a view.
     fn install(&mut self, install: &Install) -> Result<(), AllocError> {
         let members = install.view.members().copied(self.alloc)?;
-        for member in members.as_slice() {
-            self.see(*member)?;
-        }
+        self.see_all(members.as_slice())?;
         let before = self.members.as_slice();
         let after = members.as_slice();
         if !before.is_empty() {
-            let came = after.iter().any(|member| !before.contains(member));
+            let came = count_missing(after, before) > 0;
             self.merges = self.merges.saturating_add(u64::from(came));
-            let gone = before
-                .iter()
-                .filter(|member| !after.contains(*member))
-                .count();
-            self.lost = self.lost.saturating_add(gone as u64);
+            self.lost = self.lost.saturating_add(count_missing(before, after));
         }
         self.members = members;
         self.view = Some(install.view.id());

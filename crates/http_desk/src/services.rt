@@ -78,7 +78,7 @@ fn add_fields(alloc: Global, reply: &Reply, response: &mut Response) -> Result<(
         add(alloc, response, name, place.as_slice())?;
     }
     if reply.status == StatusCode::SERVICE_UNAVAILABLE {
-        add(alloc, response, header::RETRY_AFTER, b"1")?;
+        return add(alloc, response, header::RETRY_AFTER, b"1");
     }
     Ok(())
 }

@@ -65,8 +65,7 @@ fn awaited(alloc: Global, clients: &[Client]) -> Result<Vec<u64>, AllocError> {
 fn serve_all(desk: &mut Desk, clients: &mut Vec<Client>) -> bool {
     let mut has_more = false;
     for client in clients.iter_mut() {
-        let more = desk.serve_one(client);
-        has_more = has_more || more;
+        has_more |= desk.serve_one(client);
     }
     has_more
 }
