@@ -5,14 +5,14 @@ ghost use Rattle.std.specs.Prelude.{◌≡◌, ◌≤◌, ◌<◌, IfOk, IfSome}
 use address::Address;
 use address::limits::GREATEST_INCARNATION;
 use endings::{Unreadable, read_all};
-use std::alloc::Global;
+use std::alloc::{AllocError, Global};
 use std::fs::{self, OpenFile};
 use std::io::{self, ErrorKind, Write};
 use std::rt::Clock;
 use vsync_text::number_in;
 
 /// Why a node has no next incarnation.
-#[derive(Clone, Copy, Debug, PartialEq, Eq, thiserror::Error)]
+#[derive(Clone, Copy, Debug, thiserror::Error)]
 pub(crate) enum IncarnationError {
     /// The file's text is no incarnation.
     #[error("no incarnation in")]
@@ -64,6 +64,11 @@ fn write_synced(rt: &HostRuntime, path: &str, text: &[u8]) -> io::Result<()> {
     file.sync_all()
 }
 
+/// The path of the new file beside one, whose place it is to take.
+pub(crate) fn beside(alloc: Global, path: &str) -> Result<String, AllocError> {
+    format!(in alloc; "{path}.new")
+}
+
 // Has the names in the folder of a path be there also after the machine has failed.
 fn sync_folder(rt: &HostRuntime, path: &str) -> io::Result<()> {
     let folder = match path.rsplit_once('/') {
@@ -74,6 +79,15 @@ fn sync_folder(rt: &HostRuntime, path: &str) -> io::Result<()> {
     fs::open(rt, folder)?.sync_all()
 }
 
+// Writes a text to a new file, which then takes the place of another. Both the file and its name are synced.
+fn replace_synced(rt: &HostRuntime, new: &str, path: &str, text: &[u8]) -> io::Result<()> {
+    write_synced(rt, new, text)?;
+    fs::rename(rt, new, path)?;
+    // Some file systems cannot sync a folder: there the last file may come back when the machine fails.
+    let _ = sync_folder(rt, path);
+    Ok(())
+}
+
 // Writes the incarnation of an address to a file: to a new one beside it, which then takes its place. Both the file and its name are synced before it is used.
 fn write(
     rt: &HostRuntime,
@@ -81,22 +95,17 @@ fn write(
     path: &str,
     address: Address,
 ) -> Result<(), IncarnationError> {
-    let Ok(new) = format!(in alloc; "{path}.new") else {
+    let Ok(new) = beside(alloc, path) else {
         return Err(IncarnationError::Memory);
     };
     let incarnation = address.incarnation();
     let Ok(text) = format!(in alloc; "{incarnation}\n") else {
         return Err(IncarnationError::Memory);
     };
-    if write_synced(rt, new.as_str(), text.as_bytes()).is_err() {
-        return Err(IncarnationError::Unwritten);
+    match replace_synced(rt, new.as_str(), path, text.as_bytes()) {
+        Ok(()) => Ok(()),
+        Err(_) => Err(IncarnationError::Unwritten),
     }
-    if fs::rename(rt, new.as_str(), path).is_err() {
-        return Err(IncarnationError::Unwritten);
-    }
-    // Some file systems cannot sync a folder: there the last file may come back when the machine fails.
-    let _ = sync_folder(rt, path);
-    Ok(())
 }
 
 // The seconds of the system's clock, as an incarnation; 0 where there is no clock, or it is past all incarnations.

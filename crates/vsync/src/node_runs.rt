@@ -5,7 +5,7 @@ use crate::http_lines::{HttpLines, Stable};
 use crate::incarnations::{IncarnationError, next_start, start_by_clock};
 use crate::kept_lines::KeptLines;
 use crate::output::Output;
-use crate::programs::{mistaken, without_memory};
+use crate::programs::{complain, mistaken, say, without_memory};
 use crate::udp_programs::ended;
 use crate::watched::Watched;
 use address::Address;
@@ -106,12 +106,22 @@ fn start_of(
     }
 }
 
+// Says, on the standard error, how often what happened at a member that has ended.
+fn report_counts(rt: &HostRuntime, tally: &Tally) {
+    let (sent, delivered, installed) = (tally.sent, tally.delivered, tally.installed);
+    let (garbled, foreign) = (tally.garbled, tally.foreign);
+    let (unsent, unreceived) = (tally.unsent, tally.unreceived);
+    let (strange, sieved) = (tally.strange, tally.sieved);
+    let _ = eprintln!(rt; "sent {sent}, delivered {delivered}, views {installed}");
+    let _ = eprintln!(rt;
+        "datagrams: no packets {garbled}, for others {foreign}, not sent {unsent}, receives that failed {unreceived}, from elsewhere {strange}, dropped else {sieved}"
+    );
+}
+
 // Says, on the standard error, what a member did that has ended, where it is asked for, and why it ended where that was not to be.
 fn report(rt: &HostRuntime, tally: &Tally, stats: bool) {
     match tally.trouble {
-        Some(LineTrouble::NoLines) => {
-            let _ = eprintln!(rt; "vsync: the lines to send cannot be read any more");
-        }
+        Some(LineTrouble::NoLines) => say(rt, "the lines to send cannot be read any more"),
         Some(LineTrouble::NoPayload(fault)) => {
             let number = fault.number();
             let _ = eprintln!(rt; "vsync: what is to be sent says no command: {number}");
@@ -119,19 +129,13 @@ fn report(rt: &HostRuntime, tally: &Tally, stats: bool) {
         None => (),
     }
     if tally.has_ended {
-        let _ = eprintln!(rt;
-            "vsync: the member has ended: it cannot read the state that it was given"
+        say(
+            rt,
+            "the member has ended: it cannot read the state that it was given",
         );
     }
     if stats {
-        let (sent, delivered, installed) = (tally.sent, tally.delivered, tally.installed);
-        let (garbled, foreign) = (tally.garbled, tally.foreign);
-        let (unsent, unreceived) = (tally.unsent, tally.unreceived);
-        let (strange, sieved) = (tally.strange, tally.sieved);
-        let _ = eprintln!(rt; "sent {sent}, delivered {delivered}, views {installed}");
-        let _ = eprintln!(rt;
-            "datagrams: no packets {garbled}, for others {foreign}, not sent {unsent}, receives that failed {unreceived}, from elsewhere {strange}, dropped else {sieved}"
-        );
+        report_counts(rt, tally);
     }
 }
 
@@ -156,7 +160,7 @@ fn next_of(
     match address.next_incarnation() {
         Some(next) => start_of(rt, next, options),
         None => {
-            let _ = eprintln!(rt; "vsync: the incarnations are used up");
+            say(rt, "the incarnations are used up");
             Err(Status::Outside)
         }
     }
@@ -232,31 +236,21 @@ fn machine_of<'x, 'y>(
     )
 }
 
-// Runs a member of a node on a machine, and says what is to be said of it on the standard error. Answers the plan of the next, which has what this one did not say
-// of what is sent once; or the status with which the program ends.
-fn run_one<'a, A: Application, L: Lines, W: Write + Drop>(
+// Says what is to be said of a member that has ended, on the standard error. Answers the plan of the next, which has what this one did not say of what is sent once;
+// or the status with which the program ends.
+fn next_plan<'a>(
     rt: &HostRuntime,
-    run: NodeRun<'_, '_>,
+    options: &MemberOptions<'_>,
     plan: &MemberPlan<'a>,
+    status: Status,
     pauses: &mut u32,
-    lines: &mut L,
-    machine: &mut Watched<'_, '_>,
-    output: &mut Output<W>,
+    machine: &Watched<'_, '_>,
+    is_unwritten: bool,
 ) -> Result<MemberPlan<'a>, Status> {
-    let options = run.options;
-    let status = run_member::<A, _, _, _>(
-        rt.alloc(),
-        run.settings,
-        plan,
-        manner_of(options),
-        lines,
-        machine,
-        output,
-    );
     let tally = machine.tally().unwrap_or(Tally::new());
     report(rt, &tally, options.stats);
     if tally.trouble.is_some() || !begins_again(status, &tally, options) {
-        return Err(end_of(rt, status, &tally, machine, output.has_failed()));
+        return Err(end_of(rt, status, &tally, machine, is_unwritten));
     }
     *pauses = pause(rt, plan.address, status, &tally, *pauses);
     Ok(MemberPlan {
@@ -278,8 +272,27 @@ fn run_members<A: Application, L: Lines, W: Write + Drop>(
 ) -> Status {
     let mut plan = MemberPlan { ..*plan };
     let mut pauses = 0;
+    let options = run.options;
     for _ in 0..u64::MAX {
-        match run_one::<A, _, _>(rt, run, &plan, &mut pauses, lines, machine, output) {
+        let status = run_member::<A, _, _, _>(
+            rt.alloc(),
+            run.settings,
+            &plan,
+            manner_of(options),
+            lines,
+            machine,
+            output,
+        );
+        let is_unwritten = output.has_failed();
+        match next_plan(
+            rt,
+            options,
+            &plan,
+            status,
+            &mut pauses,
+            machine,
+            is_unwritten,
+        ) {
             Ok(next) => plan = next,
             Err(status) => return status,
         }

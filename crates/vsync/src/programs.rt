@@ -23,6 +23,11 @@ use std::io::{Read, Write};
 use std::{env, fs, io};
 use vsync_words::{Invocation, Kept, Task, TextCommand, command};
 
+/// Says something on the standard error.
+pub(crate) fn say(rt: &HostRuntime, what: &str) {
+    let _ = eprintln!(rt; "vsync: {what}");
+}
+
 /// Says on the standard error why the program ends with status 5.
 pub(crate) fn complain(rt: &HostRuntime, what: &str, path: &str) -> Status
     ensures { result ≡ Status.Outside }
@@ -166,6 +171,19 @@ fn explained(
     status
 }
 
+/// Does a command on its input, which has a name, to the standard output.
+fn answer_input<I: Read>(
+    rt: &HostRuntime,
+    command: TextCommand<'_>,
+    reader: &mut I,
+    name: &str,
+) -> Status {
+    let drawing = is_drawing(command.task);
+    let mut output = Output::new(io::writer(rt));
+    let status = answer(rt.alloc(), command, reader, &mut output);
+    explained(rt, status, drawing, output.has_failed(), name)
+}
+
 /// Does a command on the file of its path; `-` is the standard input. A mistake in its words is said on the standard error, with status 2.
 fn answer_at(rt: &HostRuntime, command: TextCommand<'_>) -> Status
     ensures { flags_keep_two command.entry.flags ≡ true → result ≡ Status.Usage }
@@ -174,19 +192,13 @@ fn answer_at(rt: &HostRuntime, command: TextCommand<'_>) -> Status
         return mistaken(rt, MAP_AND_LOCKS);
     }
     let path = command.path;
-    let drawing = is_drawing(command.task);
-    let mut output = Output::new(io::writer(rt));
     if path == "-" {
-        let mut input = rt.reader();
-        let status = answer(rt.alloc(), command, &mut input, &mut output);
-        let is_unwritten = output.has_failed();
-        return explained(rt, status, drawing, is_unwritten, "the standard input");
+        return answer_input(rt, command, &mut rt.reader(), "the standard input");
     }
     match fs::open(rt, path) {
         Ok(file) => {
             let mut file = file;
-            let status = answer(rt.alloc(), command, &mut file, &mut output);
-            explained(rt, status, drawing, output.has_failed(), path)
+            answer_input(rt, command, &mut file, path)
         }
         Err(error) => failed(rt, &error, "cannot open", path),
     }

@@ -10,7 +10,7 @@ use crate::hosts::{PeersError, peers_in};
 use crate::keys::key_of;
 use crate::node_runs::{NodeRun, run_from};
 use crate::output::Output;
-use crate::programs::{bytes_at, failed, mistaken, outside, without_memory};
+use crate::programs::{bytes_at, failed, mistaken, outside, say, without_memory};
 use crate::said::Appended;
 use address::{Address, Node};
 use chat_log::ChatLog;
@@ -120,11 +120,9 @@ fn hosts_of(
         Ok(hosts) => Ok(hosts),
         Err(BindError::Memory) => Err(without_memory(rt)),
         Err(error) => {
-            let _ = eprintln!(rt; "vsync: a host has no address");
+            say(rt, "a host has no address");
             let number = error.number();
-            if println!(rt; "fault 0 {number}").is_err() {
-                return Err(Status::Outside);
-            }
+            let _ = println!(rt; "fault 0 {number}");
             Err(Status::Outside)
         }
     }
@@ -154,7 +152,7 @@ fn run_plan(
         Ok(key) => key,
         Err(status) => return status,
     };
-    let key = key.as_ref().map(|key| key.as_slice());
+    let key = key.as_deref();
     let run = NodeRun::new(settings, options, hosts, key);
     let Some(path) = options.say else {
         return run_from(rt, run, plan, &mut NoLines);

@@ -4,6 +4,8 @@ ghost use Rattle.std.specs.Prelude.{◌≡◌, [], None, IfOk};
 ghost use Rattle.std.specs.Option.{ForSome};
 
 use crate::http_lines::Stable;
+use crate::incarnations::beside;
+use crate::programs::{complain, say};
 use address::{Address, Node, ViewId};
 use std::alloc::{AllocError, Global};
 use std::fs;
@@ -128,7 +130,7 @@ fn status_text(
 
 // Writes a text to a file: to a new one beside it, which then takes its place. Answers whether it is there.
 fn replace(rt: &HostRuntime, alloc: Global, path: &str, text: &[u8]) -> bool {
-    let Ok(new) = format!(in alloc; "{path}.new") else {
+    let Ok(new) = beside(alloc, path) else {
         return false;
     };
     fs::write(rt, new.as_str(), text).is_ok() && fs::rename(rt, new.as_str(), path).is_ok()
@@ -205,19 +207,14 @@ impl<'a, 'b> NodeMachine for Watched<'a, 'b> {
         };
         if !is_written && !self.is_unwritten {
             self.is_unwritten = true;
-            let rt = self.rt;
-            let _ = eprintln!(rt; "vsync: cannot write {path}");
+            complain(self.rt, "cannot write", path);
         }
     }
 
     fn notice(&mut self, notice: Notice) {
         let rt = self.rt;
         match notice {
-            Notice::LongLine => {
-                let _ = eprintln!(rt;
-                    "vsync: a line to send has more than 512 bytes: it is not sent"
-                );
-            }
+            Notice::LongLine => say(rt, "a line to send has more than 512 bytes: it is not sent"),
             Notice::BadLine(fault) => {
                 let number = fault.number();
                 let _ = eprintln!(rt;
