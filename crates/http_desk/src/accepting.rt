@@ -2,7 +2,7 @@
 
 use mio::net::{TcpListener, TcpStream};
 use mio::{Events, Interest, Poll, Token};
-use std::alloc::{AllocError, Global};
+use std::alloc::Global;
 use std::io;
 use std::io::Write;
 use std::net::{Net, SocketAddr};
@@ -59,15 +59,6 @@ impl Drop for Door {
     }
 }
 
-// The tokens of all that is ready.
-fn tokens_of(alloc: Global, events: &Events) -> Result<Vec<usize>, AllocError> {
-    let mut tokens = Vec::new(alloc);
-    for event in events.iter() {
-        tokens.push(event.token().0)?;
-    }
-    Ok(tokens)
-}
-
 impl Door {
     pub(crate) fn bind<R: Net>(alloc: Global, rt: &R, at: SocketAddr) -> io::Result<Door> {
         let poll = Poll::new(rt)?;
@@ -92,14 +83,21 @@ impl Door {
         self.poll.as_raw_fd()
     }
 
-    /// Which connections are ready. It does not wait.
-    pub(crate) fn look(&mut self, alloc: Global) -> io::Result<Vec<usize>> {
+    /// Looks what is ready. It does not wait.
+    pub(crate) fn look(&mut self) -> io::Result<()> {
         self.poll.poll(&mut self.events, Some(Duration::ZERO))?;
-        // First: a listener says only once that somebody came, and memory may be refused then.
+        self.has_callers |= self.is_ready(LISTENER);
+        Ok(())
+    }
+
+    /// Whether the last look found that the socket of an id is ready.
+    pub(crate) fn is_ready(&self, id: usize) -> bool {
         for event in self.events.iter() {
-            self.has_callers |= event.token().0 == LISTENER;
+            if event.token().0 == id {
+                return true;
+            }
         }
-        Ok(tokens_of(alloc, &self.events)?)
+        false
     }
 
     /// The next connection.

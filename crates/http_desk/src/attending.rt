@@ -3,20 +3,18 @@
 ghost use Rattle.replicated_map.specs.Entries.{held_of};
 ghost use Rattle.http_desk.specs.Replies.{AnswersValue};
 
-use crate::changes::Since;
-use crate::client::{Client, Hold, Step};
+use crate::PATIENCE;
+use crate::changes::Change;
+use crate::client::{Client, Found, Hold, Step};
 use crate::desk::{Answer, Desk};
 use crate::history::Tag;
-use crate::json::{put_entries, put_keys, put_lock, put_locks};
-use crate::kept::Kept;
+use crate::json::{put_changes, put_entries, put_lock, put_locks};
 use crate::metrics::metrics;
 use crate::page::page;
 use crate::reply::{Media, Reply};
 use crate::request::{Asked, Order};
 use crate::status::status;
-use crate::{IDLE, PATIENCE};
 use http::StatusCode;
-use lock_table::{Lock, LockTable};
 use replicated_map::ReplicatedMap;
 use std::alloc::Global;
 use std::mem::replace;
@@ -40,20 +38,17 @@ fn value_reply(alloc: Global, map: &ReplicatedMap, key: &[u8]) -> Reply
 
 // The answer for a ticket, if it is there.
 fn taken(replies: &mut Vec<Answer>, ticket: u64) -> Option<Answer> {
-    let index = replies.iter().position(|answer| answer.ticket == ticket)?;
-    Some(replies.swap_remove(index))
+    for (i, answer) in replies.iter().enumerate() {
+        if answer.ticket == ticket {
+            return Some(replies.swap_remove(i));
+        }
+    }
+    None
 }
 
 // All that there is of something.
 fn whole(media: Media, body: Text) -> Reply {
     Reply::of(StatusCode::OK, media, body)
-}
-
-// What there is at once for a request, or what it waits for.
-#[derive(Drop)]
-enum Found {
-    Reply(Reply),
-    Hold(Hold),
 }
 
 impl Desk {
@@ -65,23 +60,9 @@ impl Desk {
         }
     }
 
-    fn map(&self) -> Option<&ReplicatedMap> {
-        match &self.kept {
-            Kept::Map(service) => Some(service.copy()),
-            _ => None,
-        }
-    }
-
-    fn table(&self) -> Option<&LockTable> {
-        match &self.kept {
-            Kept::Locks(service) => Some(service.copy()),
-            _ => None,
-        }
-    }
-
     // The value of a key.
     fn value(&self, key: &[u8]) -> Reply {
-        let reply = match self.map() {
+        let reply = match self.kept.map() {
             Some(map) => value_reply(self.alloc, map, key),
             None => Reply::plain(self.alloc, StatusCode::NOT_FOUND),
         };
@@ -90,23 +71,23 @@ impl Desk {
 
     // Entries of this node's copy, whose tag is the place of the last change.
     fn of_entries(&self, body: Text) -> Reply {
-        self.of_copy(whole(Media::Json, body).since(self.alloc, self.changes.last()))
+        self.of_copy(whole(Media::Json, body).since(self.alloc, self.changes.last))
     }
 
     // All entries.
     fn entries(&self) -> Reply {
         let mut body = Text::new(self.alloc);
-        if let Some(map) = self.map() {
+        if let Some(map) = self.kept.map() {
             put_entries(&mut body, map);
         }
         self.of_entries(body)
     }
 
-    // These keys, with what each has now.
-    fn changed(&self, keys: &[Vec<u8>]) -> Reply {
+    // The keys of these changes, with what each has now.
+    fn changed(&self, changes: &[Change]) -> Reply {
         let mut body = Text::new(self.alloc);
-        if let Some(map) = self.map() {
-            put_keys(&mut body, map, keys);
+        if let Some(map) = self.kept.map() {
+            put_changes(&mut body, map, changes);
         }
         self.of_entries(body)
     }
@@ -114,29 +95,21 @@ impl Desk {
     // What changed behind a place, if anything did.
     fn changes_after(&self, tag: &[u8]) -> Option<Reply> {
         match self.changes.since(tag) {
-            Ok(Since::Nothing) => None,
-            Ok(Since::Keys(keys)) => Some(self.changed(keys.as_slice())),
-            Ok(Since::Unknown) => { Some(self.of_copy(Reply::plain(self.alloc, StatusCode::GONE))) }
-            Err(_) => Some(Reply::short(self.alloc)),
+            Some([]) => None,
+            Some(changes) => Some(self.changed(changes)),
+            None => Some(self.of_copy(Reply::plain(self.alloc, StatusCode::GONE))),
         }
-    }
-
-    // A lock that is held.
-    fn held_lock(&self, lock: &Lock) -> Reply {
-        let mut body = Text::new(self.alloc);
-        put_lock(&mut body, lock);
-        body.put(b"\n");
-        whole(Media::Json, body)
     }
 
     // A lock.
     fn lock(&self, name: &[u8]) -> Reply {
-        let lock = match self.table() {
-            Some(table) => table.lock(name),
-            None => None,
-        };
-        let reply = match lock {
-            Some(lock) => self.held_lock(lock),
+        let reply = match self.kept.lock(name) {
+            Some(lock) => {
+                let mut body = Text::new(self.alloc);
+                put_lock(&mut body, lock);
+                body.put(b"\n");
+                whole(Media::Json, body)
+            }
             None => Reply::words(
                 self.alloc,
                 StatusCode::NOT_FOUND,
@@ -149,7 +122,7 @@ impl Desk {
     // All locks.
     fn locks(&self) -> Reply {
         let mut body = Text::new(self.alloc);
-        if let Some(table) = self.table() {
+        if let Some(table) = self.kept.table() {
             put_locks(&mut body, table);
         }
         self.of_copy(whole(Media::Json, body))
@@ -213,12 +186,9 @@ impl Desk {
     // Answers what a connection asks, or notes what it waits for.
     fn attend(&mut self, client: &mut Client) {
         self.counts.ask();
-        let Some(asked) = &client.asked else {
-            return;
-        };
-        match self.find(asked) {
-            Found::Reply(reply) => client.give(reply),
-            Found::Hold(hold) => client.hold = hold,
+        if let Some(asked) = &client.asked {
+            let found = self.find(asked);
+            client.give(found);
         }
     }
 
@@ -270,28 +240,12 @@ impl Desk {
         }
     }
 
-    // Gives a connection the answer that it waits for; answers whether it waits on.
-    fn waits_on(&mut self, client: &mut Client) -> bool {
-        if !client.is_held() {
-            return false;
-        }
-        let hold = replace(&mut client.hold, Hold::Nothing);
-        match self.await_one(hold) {
-            Found::Reply(reply) => {
-                client.give(reply);
-                false
-            }
-            Found::Hold(hold) => {
-                client.hold = hold;
-                true
-            }
-        }
-    }
-
     // A connection goes on as far as it can, within bounds.
     fn go_on(&mut self, client: &mut Client) -> Step {
         for _ in 0..REQUESTS {
-            if self.waits_on(client) {
+            let hold = replace(&mut client.hold, Hold::Nothing);
+            client.give(self.await_one(hold));
+            if client.is_held() {
                 return Step::Rests;
             }
             match client.go_on(self.now) {
@@ -302,37 +256,15 @@ impl Desk {
         Step::More
     }
 
-    // Whether a connection said nothing for long, and waits for nothing.
-    fn is_idle(&self, client: &Client) -> bool {
-        let silence = self.now.saturating_sub(client.heard);
-        !client.is_held() && silence > Duration::from_secs(IDLE)
-    }
-
-    // A connection goes on if it has anything to do: whether it has more to do at once; `None` if it is over.
-    fn advance(&mut self, client: &mut Client) -> Option<bool> {
-        if !client.is_due && !client.is_held() {
-            return Some(false);
-        }
-        let has_more = match self.go_on(client) {
-            Step::Over => return None,
-            Step::More | Step::Asks => true,
-            Step::Rests => false,
-        };
-        client.is_due = has_more;
-        Some(has_more)
-    }
-
-    /// Serves a connection; answers whether it has more to do at once, and notes at it whether it is over.
+    /// Serves a connection if it has anything to do; answers whether it has more to do at once, and notes at it whether it is over.
     pub(crate) fn serve_one(&mut self, client: &mut Client) -> bool {
-        match self.advance(client) {
-            Some(has_more) => {
-                client.is_over = self.is_idle(client);
-                has_more
-            }
-            None => {
-                client.is_over = true;
-                false
-            }
-        }
+        let step = if client.is_due || client.is_held() {
+            self.go_on(client)
+        } else {
+            Step::Rests
+        };
+        client.is_due = step == Step::More;
+        client.is_over = step == Step::Over || client.is_idle(self.now);
+        client.is_due
     }
 }

@@ -1,6 +1,7 @@
 //! A connection. Its requests are read ahead by one `Connection`, and answered by another one that is given the same bytes: what the second one sends are answers to
 //! the requests that came, whatever the first one makes of them.
 
+use crate::IDLE;
 use crate::accepting::Caller;
 use crate::history::Tag;
 use crate::kept::Keeps;
@@ -60,6 +61,13 @@ pub(crate) enum Hold {
     },
 }
 
+/// What there is for a connection: an answer, or what it waits for.
+#[derive(Drop)]
+pub(crate) enum Found {
+    Reply(Reply),
+    Hold(Hold),
+}
+
 // One of the two that are given what the peer sends. It is let go by a call, wherever a client is.
 struct Side {
     connection: Connection,
@@ -68,6 +76,18 @@ struct Side {
 impl Drop for Side {
     fn drop(self) {
         let Side { connection: _ } = self;
+    }
+}
+
+impl Side {
+    // It is given the bytes that came.
+    fn take(&mut self, mut came: &[u8]) -> io::Result<()> {
+        let count = came.len();
+        if self.connection.read_from(&mut came)? == count {
+            Ok(())
+        } else {
+            Err(ErrorKind::InvalidData.into())
+        }
     }
 }
 
@@ -190,14 +210,8 @@ impl Client {
         let Some(came) = self.buffer.as_slice().get(..count) else {
             return Err(ErrorKind::InvalidData.into());
         };
-        let mut first = came;
-        let mut second = came;
-        let ahead = self.ahead.connection.read_from(&mut first)?;
-        let served = self.server.connection.read_from(&mut second)?;
-        if ahead != count || served != count {
-            return Err(ErrorKind::InvalidData.into());
-        }
-        Ok(())
+        self.ahead.take(came)?;
+        self.server.take(came)
     }
 
     // Reads once; answers whether anything came.
@@ -294,11 +308,25 @@ impl Client {
         }
     }
 
-    /// Is given the answer to what it asked, which `go_on` sends.
-    pub(crate) fn give(&mut self, reply: Reply) {
+    /// Whether it said nothing for long, and waits for nothing.
+    pub(crate) fn is_idle(&self, now: Duration) -> bool {
+        let silence = now.saturating_sub(self.heard);
+        !self.is_held() && silence > Duration::from_secs(IDLE)
+    }
+
+    // Is given the answer to what it asked.
+    fn answer(&mut self, reply: Reply) {
         self.hold = Hold::Nothing;
         if let Some(asked) = self.asked.take() {
             self.advance(Some(Answered { asked, reply }));
+        }
+    }
+
+    /// Is given what there is for it: an answer, which `go_on` sends, or what it waits for.
+    pub(crate) fn give(&mut self, found: Found) {
+        match found {
+            Found::Reply(reply) => self.answer(reply),
+            Found::Hold(hold) => self.hold = hold,
         }
     }
 }

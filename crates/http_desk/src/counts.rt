@@ -102,18 +102,12 @@ impl Counts {
         Ok(())
     }
 
-    // Notes the incarnations of the nodes of a view.
-    fn see_all(&mut self, members: &[Address]) -> Result<(), AllocError> {
-        for member in members {
-            self.see(*member)?;
-        }
-        Ok(())
-    }
-
     // Its member installed a view.
     fn install(&mut self, install: &Install) -> Result<(), AllocError> {
+        for member in install.view.members().as_slice() {
+            self.see(*member)?;
+        }
         let members = install.view.members().copied(self.alloc)?;
-        self.see_all(members.as_slice())?;
         let before = self.members.as_slice();
         let after = members.as_slice();
         if !before.is_empty() {

@@ -11,7 +11,7 @@ use crate::{CLIENTS, PATIENCE};
 use address::{Address, ViewId};
 use http::StatusCode;
 use keyed_state::Token;
-use replicated_map::{Command, ReplicatedMap};
+use replicated_map::Command;
 use std::alloc::{AllocError, Global};
 use std::time::Duration;
 use trace_props::{Delivery, Event, Sending};
@@ -70,20 +70,24 @@ impl Drop for Desk {
     }
 }
 
-// The keys that a message may change.
-#[derive(Drop)]
-enum Touched {
+// The keys of the map that an event may change: one, which has this version before, or all.
+#[derive(Clone, Copy)]
+enum Touched<'a> {
     Nothing,
-    Key(Vec<u8>, Option<Token>),
+    Key(&'a [u8], Option<Token>),
     All,
 }
 
-// The version of what a key has.
-fn version_of(map: &ReplicatedMap, key: &[u8]) -> Option<Token> {
-    match map.get(key) {
-        Some(held) => Some(held.version),
-        None => None,
-    }
+// The key of the map that a message may change; all for a `clear`.
+fn touched_by<'a>(kept: &Kept, delivery: &'a Delivery) -> Touched<'a> {
+    let key = match Command::decode(delivery.message.payload.as_slice()) {
+        Some(Command::Put { key, .. } | Command::Replace { key, .. } | Command::Remove(key)) => key,
+        Some(Command::ReplaceAt { key, .. } | Command::RemoveAt { key, .. }) => key,
+        Some(Command::Clear) => return Touched::All,
+        None => return Touched::Nothing,
+    };
+    let key = key.as_slice();
+    Touched::Key(key, kept.version(key))
 }
 
 impl Desk {
@@ -128,60 +132,30 @@ impl Desk {
         self.writes.tell(text)
     }
 
-    // What a message may change in the map.
-    fn touched(&self, delivery: &Delivery) -> Result<Touched, AllocError> {
-        let Kept::Map(service) = &self.kept else {
-            return Ok(Touched::Nothing);
-        };
-        let Some(command) = Command::decode(delivery.message.payload.as_slice()) else {
-            return Ok(Touched::Nothing);
-        };
-        let key = match &command {
-            Command::Put { key, .. } => key.as_slice(),
-            Command::Replace { key, .. } => key.as_slice(),
-            Command::Remove(key) => key.as_slice(),
-            Command::ReplaceAt { key, .. } => key.as_slice(),
-            Command::RemoveAt { key, .. } => key.as_slice(),
-            Command::Clear => return Ok(Touched::All),
-        };
-        let before = version_of(service.copy(), key);
-        Ok(Touched::Key(Vec::from_slice(self.alloc, key)?, before))
-    }
-
-    // What an event may change in the map.
-    fn touched_by(&mut self, event: &Event) -> Touched {
-        let Event::Delivered(delivery) = event else {
-            return Touched::Nothing;
-        };
-        match self.touched(delivery) {
-            Ok(touched) => touched,
-            Err(error) => {
-                self.note(Err(error));
-                Touched::Nothing
-            }
+    // What an event may change in the map: with a state all, and with the first view.
+    fn touched<'a>(&self, event: &'a Event) -> Touched<'a> {
+        match (&self.kept, event) {
+            (Kept::Map(_), Event::Delivered(delivery)) => touched_by(&self.kept, delivery),
+            (Kept::Map(_), Event::Installed(install))
+                if install.get().given.is_some() | self.changes.last.is_none() => Touched::All,
+            _ => Touched::Nothing,
         }
     }
 
     // Notes that a key changed, if its version is another one.
-    fn note_key(&mut self, at: Tag, key: Vec<u8>, before: Option<Token>) {
-        let Kept::Map(service) = &self.kept else {
-            return;
-        };
-        if version_of(service.copy(), key.as_slice()) != before {
-            let noted = self.changes.note(at, key);
-            self.note(noted);
+    fn note_key(&mut self, key: &[u8], before: Option<Token>) {
+        if self.kept.version(key) != before {
+            if let Some(at) = self.counts.at() {
+                let noted = self.changes.note(at, key);
+                self.note(noted);
+            }
         }
     }
 
-    // Notes what a message changed in the map.
-    fn note_change(&mut self, touched: Touched) {
-        let Some(at) = self.counts.at() else {
-            return;
-        };
-        match touched {
-            Touched::Nothing => (),
-            Touched::Key(key, before) => self.note_key(at, key, before),
-            Touched::All => self.changes.begin(at),
+    // All may have changed.
+    fn begin_changes(&mut self) {
+        if let Some(at) = self.counts.at() {
+            self.changes.begin(at);
         }
     }
 
@@ -190,27 +164,6 @@ impl Desk {
         self.history.hear(event)?;
         self.counts.hear(event, self.now)?;
         self.kept.hear(event)
-    }
-
-    // With a state all may have changed, and with the first view.
-    fn begin_changes(&mut self, event: &Event) {
-        let Event::Installed(install) = event else {
-            return;
-        };
-        if install.get().given.is_some() || self.changes.last().is_none() {
-            if let Some(at) = self.counts.at() {
-                self.changes.begin(at);
-            }
-        }
-    }
-
-    // What its member does next.
-    fn hear_own(&mut self, event: &Event) {
-        let touched = self.touched_by(event);
-        let followed = self.follow(event);
-        self.note(followed);
-        self.begin_changes(event);
-        self.note_change(touched);
     }
 
     // A message was sent: if a write says it, its ticket waits for what becomes of it.
@@ -235,7 +188,14 @@ impl Desk {
             let heard = self.hear_sent(sending);
             self.note(heard);
         }
-        self.hear_own(event);
+        let touched = self.touched(event);
+        let followed = self.follow(event);
+        self.note(followed);
+        match touched {
+            Touched::Nothing => (),
+            Touched::Key(key, before) => self.note_key(key, before),
+            Touched::All => self.begin_changes(),
+        }
     }
 
     // Another member of its node is there now.
@@ -250,8 +210,9 @@ impl Desk {
     /// The member has ended: all who wait are answered 503, and so is each write from now on.
     pub(crate) fn end(&mut self) {
         self.has_ended = true;
-        let tickets = self.writes.give_up(self.alloc);
-        self.refuse_all(tickets);
+        let given_up = self.writes.give_up();
+        self.note(given_up);
+        self.expire(Duration::MAX);
     }
 
     /// Whether there is something to do at once: a line to send, or an answer to give.
@@ -271,14 +232,12 @@ impl Desk {
         self.answer(ticket, reply, None);
     }
 
-    fn refuse_all(&mut self, tickets: Result<Vec<u64>, AllocError>) {
-        match tickets {
-            Ok(tickets) => {
-                for ticket in tickets.iter() {
-                    self.refuse(*ticket);
-                }
+    // Those are refused whose writes were asked for before a time and never told.
+    fn expire(&mut self, before: Duration) {
+        for _ in 0..self.writes.len() {
+            if let Some(ticket) = self.writes.expire(before) {
+                self.refuse(ticket);
             }
-            Err(error) => self.note(Err(error)),
         }
     }
 
@@ -338,9 +297,7 @@ impl Desk {
             Ok(known) => self.settle_known(known),
             Err(error) => self.note(Err(error)),
         }
-        let before = self.now.saturating_sub(Duration::from_secs(PATIENCE));
-        let tickets = self.writes.expire(self.alloc, before);
-        self.refuse_all(tickets);
+        self.expire(self.now.saturating_sub(Duration::from_secs(PATIENCE)));
     }
 
     /// How its node stands.

@@ -2,28 +2,34 @@
 
 use crate::EVENTS;
 use address::{Address, Bytes, ViewId};
+use keyed_state::token_in;
 use std::alloc::{AllocError, Global};
 use trace_props::{BoxedInstall, Delivery, Event, HandedBack, Install, Message, Numbered, Sending};
 use view::View;
 use vsync_text::{Part, Text};
 
 /// A place in the order: so many messages of a view are delivered there.
-#[derive(Drop)]
+#[derive(Clone, Copy, PartialEq, Eq)]
 pub(crate) struct Tag {
     pub(crate) view: ViewId,
     pub(crate) place: u64,
 }
 
-impl Tag {
-    /// The same place.
-    pub(crate) fn copied(&self) -> Tag {
-        let (view, place) = (self.view, self.place);
-        Tag { view, place }
-    }
+/// The place that a text names, with or without quotes: it is written as a token is.
+pub(crate) fn tag_in(text: &[u8]) -> Option<Tag> {
+    let bare = match text {
+        [b'"', bare @ .., b'"'] => bare,
+        other => other,
+    };
+    let token = token_in(bare)?;
+    Some(Tag {
+        view: token.view,
+        place: token.count,
+    })
 }
 
 /// Appends a place in quotes, such as `"3@1.1/7"`.
-pub(crate) fn put_tag(out: &mut Text, tag: &Tag) {
+pub(crate) fn put_tag(out: &mut Text, tag: Tag) {
     out.put_parts(&[
         Part::Text(b"\""),
         Part::View(tag.view),

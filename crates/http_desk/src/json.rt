@@ -3,6 +3,7 @@
 ghost use Rattle.http_desk.specs.Replies.{quoted_token};
 ghost use Rattle.vsync_text.specs.Written.{Appends};
 
+use crate::changes::Change;
 use address::{Address, ViewId};
 use keyed_state::Token;
 use lock_table::{Lock, LockTable};
@@ -81,11 +82,14 @@ pub(crate) fn put_entries(out: &mut Text, map: &ReplicatedMap) {
     out.put(b"}\n");
 }
 
-// Whether a key stands among those behind an index.
-fn stands_behind(keys: &[Vec<u8>], index: usize, key: &[u8]) -> bool {
-    keys.iter()
-        .skip(index.saturating_add(1))
-        .any(|other| other.as_slice() == key)
+// Whether one of these changes is of a key.
+fn have_key(changes: &[Change], key: &[u8]) -> bool {
+    for change in changes {
+        if change.key.as_slice() == key {
+            return true;
+        }
+    }
+    false
 }
 
 // A key, and what it has.
@@ -98,15 +102,17 @@ fn put_key(out: &mut Text, map: &ReplicatedMap, key: &[u8]) {
     }
 }
 
-/// Appends these keys of a map as an object, each once: with its value, or `null` if it has none.
-pub(crate) fn put_keys(out: &mut Text, map: &ReplicatedMap, keys: &[Vec<u8>]) {
+/// Appends the keys of these changes of a map as an object, each once: with its value, or `null` if it has none.
+pub(crate) fn put_changes(out: &mut Text, map: &ReplicatedMap, changes: &[Change]) {
     out.put(b"{");
     let mut is_first = true;
-    for (i, key) in keys.iter().enumerate() {
-        if !stands_behind(keys, i, key.as_slice()) {
+    for (i, change) in changes.iter().enumerate() {
+        let key = change.key.as_slice();
+        let later = changes.get(i.saturating_add(1)..).unwrap_or(&[]);
+        if !have_key(later, key) {
             out.put(if is_first { b"" } else { b"," });
             is_first = false;
-            put_key(out, map, key.as_slice());
+            put_key(out, map, key);
         }
     }
     out.put(b"}\n");

@@ -4,8 +4,9 @@ use crate::known::{Known, all_of_locks, all_of_map};
 use crate::lock_request::line_of;
 use crate::map_request::line_of as line_of_map;
 use address::Address;
-use lock_table::{Command as LockCommand, LockService};
-use replicated_map::{Command as MapCommand, MapService};
+use keyed_state::Token;
+use lock_table::{Command as LockCommand, Lock, LockService, LockTable};
+use replicated_map::{Command as MapCommand, MapService, ReplicatedMap};
 use std::alloc::{AllocError, Global};
 use trace_props::Event;
 
@@ -76,6 +77,33 @@ impl Kept {
             },
             Keeps::Nothing => Ok(Vec::new(alloc)),
         }
+    }
+
+    /// The map.
+    pub(crate) fn map(&self) -> Option<&ReplicatedMap> {
+        match self {
+            Kept::Map(service) => Some(service.copy()),
+            _ => None,
+        }
+    }
+
+    /// The table of locks.
+    pub(crate) fn table(&self) -> Option<&LockTable> {
+        match self {
+            Kept::Locks(service) => Some(service.copy()),
+            _ => None,
+        }
+    }
+
+    /// A lock, if it is held.
+    pub(crate) fn lock(&self, name: &[u8]) -> Option<&Lock> {
+        self.table()?.lock(name)
+    }
+
+    /// The version of what a key of the map has.
+    pub(crate) fn version(&self, key: &[u8]) -> Option<Token> {
+        let held = self.map()?.get(key)?;
+        Some(held.version)
     }
 
     pub(crate) fn note(&mut self, number: u64, ticket: u64) -> Result<(), AllocError> {

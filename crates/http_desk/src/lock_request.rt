@@ -1,13 +1,11 @@
 //! What a request asks of the table of locks.
 
 use crate::PATIENCE;
-use crate::map_request::is_field;
-use crate::query::{decoded, field_of};
+use crate::query::field_of;
 use crate::refusal::Refusal;
-use crate::request::{Asked, Order, read_only};
+use crate::request::{Asked, Order};
 use bytes::Bytes;
 use http::Request;
-use keyed_state::KeyBytes;
 use std::alloc::{AllocError, Global};
 use vsync_text::{Part, Text};
 
@@ -42,32 +40,19 @@ fn order(alloc: Global, word: &[u8], name: &[u8], patience: u64) -> Result<Asked
     }))
 }
 
-/// What is asked of the lock of a name, which is percent-encoded.
+/// What is asked of the lock of a name.
 pub(crate) fn asked_of_lock(
     alloc: Global,
     request: &Request<Bytes>,
     name: &[u8],
 ) -> Result<Asked, AllocError> {
-    let name = decoded(alloc, name)?;
-    let Some(key) = KeyBytes::new(name.as_slice()) else {
-        return Ok(Asked::Refused(Refusal::BadKey));
-    };
-    let name = key.as_slice();
-    if !is_field(name) {
-        return Ok(Asked::Refused(Refusal::BadKey));
-    }
     match request.method().as_str() {
         "POST" => match wait_of(request) {
             Some(seconds) => order(alloc, b"acquire", name, seconds),
             None => Ok(Asked::Refused(Refusal::BadWait)),
         },
         "DELETE" => order(alloc, b"release", name, PATIENCE),
-        "GET" | "HEAD" => Ok(Asked::Lock(Vec::from_slice(alloc, name)?)),
+        "GET" | "HEAD" => Vec::from_slice(alloc, name).map(Asked::Lock),
         _ => Ok(Asked::Refused(Refusal::OtherMethod)),
     }
-}
-
-/// What is asked of all locks.
-pub(crate) fn asked_of_table(request: &Request<Bytes>) -> Asked {
-    read_only(request, Asked::Locks)
 }

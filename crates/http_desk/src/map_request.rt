@@ -3,7 +3,7 @@
 use crate::PATIENCE;
 use crate::query::{decoded, field_of};
 use crate::refusal::Refusal;
-use crate::request::{Asked, Order};
+use crate::request::{Asked, Order, read_only};
 use address::limits::PAYLOAD;
 use bytes::Bytes;
 use http::{HeaderName, Request, header};
@@ -20,22 +20,13 @@ fn header_of(request: &Request<Bytes>, name: HeaderName) -> Option<&[u8]> {
     }
 }
 
-// The version that an entity tag names, in quotes; `None` where it names none.
-fn tagged(tag: &[u8]) -> Option<Version> {
-    match tag {
-        [b'"', text @ .., b'"'] => Version::new(token_in(text)?),
+// The version that an entity tag names, in quotes.
+fn tagged(tag: &[u8]) -> Result<Version, Refusal> {
+    let token = match tag {
+        [b'"', text @ .., b'"'] => token_in(text),
         _ => None,
-    }
-}
-
-// Whether bytes can stand in a line.
-fn fits_in_line(bytes: &[u8]) -> bool {
-    !bytes.iter().any(|byte| *byte == b'\n')
-}
-
-/// Whether bytes can be a field of a line.
-pub(crate) fn is_field(bytes: &[u8]) -> bool {
-    fits_in_line(bytes) && !bytes.iter().any(|byte| *byte == b' ')
+    };
+    Version::new(token.ok_or(Refusal::BadVersion)?).ok_or(Refusal::BadVersion)
 }
 
 // Adds the line of a command that names a version.
@@ -113,7 +104,7 @@ fn write_of(
     command: &Command<'_>,
 ) -> Result<Asked, AllocError> {
     let line = line_of(alloc, command)?;
-    if !fits_in_line(line.as_slice()) {
+    if line.contains(&b'\n') {
         return Ok(Asked::Refused(Refusal::BadValue));
     }
     if line.len() > PAYLOAD {
@@ -127,85 +118,67 @@ fn write_of(
 }
 
 // A put: of any value, if the key has none, or if its value is of the version that a tag names. Its line names no view: the node stamps it when it is sent.
-fn put<'a>(
-    alloc: Global,
-    request: &'a Request<Bytes>,
-    key: KeyBytes<'a>,
-) -> Result<Asked, AllocError> {
-    let Some(value) = ValueBytes::new(request.body().as_slice()) else {
-        return Ok(Asked::Refused(Refusal::LongValue));
-    };
+fn put<'a>(request: &'a Request<Bytes>, key: KeyBytes<'a>) -> Result<Command<'a>, Refusal> {
+    let value = ValueBytes::new(request.body().as_slice()).ok_or(Refusal::LongValue)?;
     let view = Token::least().view;
-    let command = match (
+    match (
         header_of(request, header::IF_MATCH),
         header_of(request, header::IF_NONE_MATCH),
     ) {
-        (None, None) => Command::Put { view, key, value },
-        (None, Some(b"*")) => Command::Replace {
+        (None, None) => Ok(Command::Put { view, key, value }),
+        (None, Some(b"*")) => Ok(Command::Replace {
             view,
             expected: None,
             key,
             value,
-        },
-        (Some(tag), None) => {
-            let Some(version) = tagged(tag) else {
-                return Ok(Asked::Refused(Refusal::BadVersion));
-            };
-            Command::ReplaceAt {
-                view,
-                version,
-                key,
-                value,
-            }
-        }
-        _ => return Ok(Asked::Refused(Refusal::BadCondition)),
-    };
-    write_of(alloc, request, &command)
+        }),
+        (Some(tag), None) => Ok(Command::ReplaceAt {
+            view,
+            version: tagged(tag)?,
+            key,
+            value,
+        }),
+        _ => Err(Refusal::BadCondition),
+    }
 }
 
 // A removal: of any value, or of one of the version that a tag names.
-fn remove(alloc: Global, request: &Request<Bytes>, key: KeyBytes<'_>) -> Result<Asked, AllocError> {
+fn remove<'a>(request: &Request<Bytes>, key: KeyBytes<'a>) -> Result<Command<'a>, Refusal> {
     if header_of(request, header::IF_NONE_MATCH).is_some() {
-        return Ok(Asked::Refused(Refusal::BadCondition));
+        return Err(Refusal::BadCondition);
     }
-    let Some(tag) = header_of(request, header::IF_MATCH) else {
-        return write_of(alloc, request, &Command::Remove(key));
-    };
-    let Some(version) = tagged(tag) else {
-        return Ok(Asked::Refused(Refusal::BadVersion));
-    };
-    write_of(alloc, request, &Command::RemoveAt { version, key })
+    match header_of(request, header::IF_MATCH) {
+        Some(tag) => Ok(Command::RemoveAt {
+            version: tagged(tag)?,
+            key,
+        }),
+        None => Ok(Command::Remove(key)),
+    }
 }
 
-/// What is asked of a key, which is percent-encoded.
-pub(crate) fn asked_of_key(
+/// What is asked of a key.
+pub(crate) fn asked_of_key<'a>(
     alloc: Global,
-    request: &Request<Bytes>,
-    name: &[u8],
+    request: &'a Request<Bytes>,
+    key: KeyBytes<'a>,
 ) -> Result<Asked, AllocError> {
-    let key = decoded(alloc, name)?;
-    let Some(key) = KeyBytes::new(key.as_slice()) else {
-        return Ok(Asked::Refused(Refusal::BadKey));
+    let command = match request.method().as_str() {
+        "PUT" => put(request, key),
+        "DELETE" => remove(request, key),
+        "GET" | "HEAD" => return Vec::from_slice(alloc, key.as_slice()).map(Asked::Value),
+        _ => Err(Refusal::OtherMethod),
     };
-    if !is_field(key.as_slice()) {
-        return Ok(Asked::Refused(Refusal::BadKey));
-    }
-    match request.method().as_str() {
-        "PUT" => put(alloc, request, key),
-        "DELETE" => remove(alloc, request, key),
-        "GET" | "HEAD" => Ok(Asked::Value(Vec::from_slice(alloc, key.as_slice())?)),
-        _ => Ok(Asked::Refused(Refusal::OtherMethod)),
+    match command {
+        Ok(command) => write_of(alloc, request, &command),
+        Err(refusal) => Ok(Asked::Refused(refusal)),
     }
 }
 
 /// What is asked of all entries: what they are, or what changed behind a tag.
 pub(crate) fn asked_of_all(alloc: Global, request: &Request<Bytes>) -> Result<Asked, AllocError> {
-    match request.method().as_str() {
-        "GET" | "HEAD" => (),
-        _ => return Ok(Asked::Refused(Refusal::OtherMethod)),
-    }
-    match field_of(request.uri().query(), "after") {
-        Some(tag) => Ok(Asked::Changes(decoded(alloc, tag.as_bytes())?)),
-        None => Ok(Asked::Entries),
-    }
+    let asked = match field_of(request.uri().query(), "after") {
+        Some(tag) => Asked::Changes(decoded(alloc, tag.as_bytes())?),
+        None => Asked::Entries,
+    };
+    Ok(read_only(request, asked))
 }

@@ -147,7 +147,7 @@ impl Reply {
     }
 
     /// The same, whose entity tag is a place.
-    pub(crate) fn since(mut self, alloc: Global, last: Option<&Tag>) -> Reply
+    pub(crate) fn since(mut self, alloc: Global, last: Option<Tag>) -> Reply
         ensures status { result.status ≡ self.status }
         ensures body { result.body ≡ self.body }
     {

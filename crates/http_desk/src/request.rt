@@ -1,11 +1,13 @@
 //! What a request asks.
 
 use crate::kept::Keeps;
-use crate::lock_request::{asked_of_lock, asked_of_table};
+use crate::lock_request::asked_of_lock;
 use crate::map_request::{asked_of_all, asked_of_key};
+use crate::query::decoded;
 use crate::refusal::Refusal;
 use bytes::Bytes;
 use http::Request;
+use keyed_state::KeyBytes;
 use std::alloc::{AllocError, Global};
 
 /// A command that is to be sent.
@@ -75,36 +77,55 @@ pub(crate) fn read_only(request: &Request<Bytes>, asked: Asked) -> Asked {
     }
 }
 
-// What is asked of what the node keeps; `None` for other paths.
-fn asked_of_kept(
+// What a path names of what a node may keep, and the name of one item, percent-encoded, unless it is all; `None` for other paths.
+fn named_by(path: &str) -> Option<(Keeps, Option<&str>)> {
+    if let Some(key) = path.strip_prefix("/map/") {
+        return Some((Keeps::Map, Some(key)));
+    }
+    if let Some(name) = path.strip_prefix("/locks/") {
+        return Some((Keeps::Locks, Some(name)));
+    }
+    match path {
+        "/map" => Some((Keeps::Map, None)),
+        "/locks" => Some((Keeps::Locks, None)),
+        _ => None,
+    }
+}
+
+// The key of these bytes, if it can be a field of a line.
+fn key_of(bytes: &[u8]) -> Option<KeyBytes<'_>> {
+    if bytes.contains(&b' ') || bytes.contains(&b'\n') {
+        return None;
+    }
+    KeyBytes::new(bytes)
+}
+
+// What is asked of an item of what the node keeps, whose name is percent-encoded.
+fn asked_of_item(
     alloc: Global,
     request: &Request<Bytes>,
     keeps: Keeps,
-) -> Result<Option<Asked>, AllocError> {
-    let path = request.uri().path();
-    let is_map = keeps == Keeps::Map;
-    let is_locks = keeps == Keeps::Locks;
-    let asked = if let Some(key) = path.strip_prefix("/map/") {
-        if is_map {
-            asked_of_key(alloc, request, key.as_bytes())
-        } else {
-            Ok(Asked::Refused(Refusal::NotKept))
-        }
-    } else if let Some(name) = path.strip_prefix("/locks/") {
-        if is_locks {
-            asked_of_lock(alloc, request, name.as_bytes())
-        } else {
-            Ok(Asked::Refused(Refusal::NotKept))
-        }
-    } else {
-        match path {
-            "/map" if is_map => asked_of_all(alloc, request),
-            "/locks" if is_locks => Ok(asked_of_table(request)),
-            "/map" | "/locks" => Ok(Asked::Refused(Refusal::NotKept)),
-            _ => return Ok(None),
-        }
+    name: &str,
+) -> Result<Asked, AllocError> {
+    let name = decoded(alloc, name.as_bytes())?;
+    match (keeps, key_of(name.as_slice())) {
+        (Keeps::Map, Some(key)) => asked_of_key(alloc, request, key),
+        (_, Some(key)) => asked_of_lock(alloc, request, key.as_slice()),
+        (_, None) => Ok(Asked::Refused(Refusal::BadKey)),
+    }
+}
+
+// What is asked of the node itself, all of which can only be read.
+fn asked_of_node(request: &Request<Bytes>) -> Asked {
+    let asked = match request.uri().path() {
+        "/status" => Asked::Status,
+        "/metrics" => Asked::Metrics,
+        "/events" => Asked::Events,
+        "/picture" => Asked::Picture,
+        "/" => Asked::Page,
+        _ => return Asked::Refused(Refusal::NoPath),
     };
-    Ok(Some(asked?))
+    read_only(request, asked)
 }
 
 /// What a request asks of a node that keeps this.
@@ -113,15 +134,11 @@ pub(crate) fn asked_by(
     request: &Request<Bytes>,
     keeps: Keeps,
 ) -> Result<Asked, AllocError> {
-    if let Some(asked) = asked_of_kept(alloc, request, keeps)? {
-        return Ok(asked);
+    match named_by(request.uri().path()) {
+        Some((kind, _)) if kind != keeps => Ok(Asked::Refused(Refusal::NotKept)),
+        Some((_, Some(name))) => asked_of_item(alloc, request, keeps, name),
+        Some((Keeps::Locks, None)) => Ok(read_only(request, Asked::Locks)),
+        Some((_, None)) => asked_of_all(alloc, request),
+        None => Ok(asked_of_node(request)),
     }
-    Ok(match request.uri().path() {
-        "/status" => read_only(request, Asked::Status),
-        "/metrics" => read_only(request, Asked::Metrics),
-        "/events" => read_only(request, Asked::Events),
-        "/picture" => read_only(request, Asked::Picture),
-        "/" => read_only(request, Asked::Page),
-        _ => Asked::Refused(Refusal::NoPath),
-    })
 }

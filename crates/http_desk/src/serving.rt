@@ -42,9 +42,9 @@ impl Drop for HttpDesk {
 }
 
 // Those of these connections that are ready may go on.
-fn wake(clients: &mut Vec<Client>, ready: &[usize]) {
+fn wake(clients: &mut Vec<Client>, door: &Door) {
     for client in clients.iter_mut() {
-        if ready.contains(&client.id) {
+        if door.is_ready(client.id) {
             client.wake();
         }
     }
@@ -162,8 +162,8 @@ impl HttpDesk {
     /// Serves all connections, each for a bounded number of steps. It does not wait.
     pub fn serve(&mut self, now: Duration) {
         self.desk.now = now;
-        if let Ok(ready) = self.door.look(self.alloc) {
-            wake(&mut self.clients, ready.as_slice());
+        if self.door.look().is_ok() {
+            wake(&mut self.clients, &self.door);
         }
         self.desk.settle_all();
         let accepted = self.accept();

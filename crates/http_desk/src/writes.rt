@@ -63,11 +63,14 @@ fn move_all(from: &mut VecDeque<Write>, to: &mut VecDeque<Write>) -> Result<(), 
     Ok(())
 }
 
-fn tickets_of(tickets: &mut Vec<u64>, writes: &VecDeque<Write>) -> Result<(), AllocError> {
-    for write in writes.iter() {
-        tickets.push(write.ticket)?;
+// Takes the first write of a queue that this line says.
+fn take_said(writes: &mut VecDeque<Write>, line: &[u8]) -> Option<Write> {
+    for (i, write) in writes.iter().enumerate() {
+        if write.line.as_slice() == line {
+            return writes.remove(i);
+        }
     }
-    Ok(())
+    None
 }
 
 impl Writes {
@@ -106,11 +109,7 @@ impl Writes {
 
     /// The node sent a message that this line says: answers who waits for it, the first if several do.
     pub(crate) fn sent(&mut self, line: &[u8]) -> Result<Option<u64>, AllocError> {
-        let mut told = self.told.iter();
-        let Some(index) = told.position(|write| write.line.as_slice() == line) else {
-            return Ok(None);
-        };
-        let Some(write) = self.told.remove(index) else {
+        let Some(write) = take_said(&mut self.told, line) else {
             return Ok(None);
         };
         let ticket = write.ticket;
@@ -120,8 +119,12 @@ impl Writes {
 
     /// What became of the write of a ticket is known: takes it off those that were sent.
     pub(crate) fn settle(&mut self, ticket: u64) -> Option<Write> {
-        let index = self.sent.iter().position(|write| write.ticket == ticket)?;
-        self.sent.remove(index)
+        for (i, write) in self.sent.iter().enumerate() {
+            if write.ticket == ticket {
+                return self.sent.remove(i);
+            }
+        }
+        None
     }
 
     /// A write that was handed back is sent again, at this index among those that are to be sent: its node says it again by itself, or is told it anew.
@@ -148,32 +151,18 @@ impl Writes {
         move_all(&mut self.sent, &mut self.told)
     }
 
-    /// Takes the writes that were asked for before a time and were never told; answers who waits for them.
-    pub(crate) fn expire(
-        &mut self,
-        alloc: Global,
-        before: Duration,
-    ) -> Result<Vec<u64>, AllocError> {
-        let mut tickets = Vec::new(alloc);
-        for _ in 0..self.asked.len() {
-            match self.asked.front() {
-                Some(write) if write.since < before => tickets.push(write.ticket)?,
-                _ => return Ok(tickets),
-            }
-            let _expired = self.asked.pop_front();
+    /// Takes the first write that was not told, if it was asked for before a time; answers who waits for it.
+    pub(crate) fn expire(&mut self, before: Duration) -> Option<u64> {
+        if self.asked.front()?.since >= before {
+            return None;
         }
-        Ok(tickets)
+        let write = self.asked.pop_front()?;
+        Some(write.ticket)
     }
 
-    /// Takes all writes: nobody will know what becomes of them. Answers who waits for them.
-    pub(crate) fn give_up(&mut self, alloc: Global) -> Result<Vec<u64>, AllocError> {
-        let mut tickets = Vec::new(alloc);
-        tickets_of(&mut tickets, &self.asked)?;
-        tickets_of(&mut tickets, &self.told)?;
-        tickets_of(&mut tickets, &self.sent)?;
-        self.asked.clear();
-        self.told.clear();
-        self.sent.clear();
-        Ok(tickets)
+    /// Nobody will know what becomes of them: all are as those that were not told.
+    pub(crate) fn give_up(&mut self) -> Result<(), AllocError> {
+        move_all(&mut self.told, &mut self.asked)?;
+        move_all(&mut self.sent, &mut self.asked)
     }
 }
