@@ -210,7 +210,7 @@ impl Desk {
             } = answer;
             return self.given(reply, at);
         }
-        if self.now >= until && self.kept.is_queued(ticket) {
+        if (self.now >= until) & self.kept.is_queued(ticket) {
             return Found::Reply(self.of_copy(Reply::plain(self.alloc, StatusCode::CONFLICT)));
         }
         if self.now >= end {
@@ -224,7 +224,7 @@ impl Desk {
         if let Some(reply) = self.changes_after(after.as_slice()) {
             return Found::Reply(reply);
         }
-        if self.now >= until || self.has_ended {
+        if (self.now >= until) | self.has_ended {
             return Found::Reply(self.changed(&[]));
         }
         Found::Hold(Hold::Change { after, until })
@@ -258,13 +258,13 @@ impl Desk {
 
     /// Serves a connection if it has anything to do; answers whether it has more to do at once, and notes at it whether it is over.
     pub(crate) fn serve_one(&mut self, client: &mut Client) -> bool {
-        let step = if client.is_due || client.is_held() {
+        let step = if client.is_due | client.is_held() {
             self.go_on(client)
         } else {
             Step::Rests
         };
         client.is_due = step == Step::More;
-        client.is_over = step == Step::Over || client.is_idle(self.now);
+        client.is_over = (step == Step::Over) | client.is_idle(self.now);
         client.is_due
     }
 }

@@ -216,10 +216,8 @@ impl Client {
 
     // Reads once; answers whether anything came.
     fn read(&mut self, now: Duration) -> io::Result<bool> {
-        if !self.is_readable
-            || !self.ahead.connection.wants_read()
-            || !self.server.connection.wants_read()
-        {
+        let both_want = self.ahead.connection.wants_read() & self.server.connection.wants_read();
+        if !(self.is_readable & both_want) {
             return Ok(false);
         }
         match self.stream.read(self.buffer.as_mut_slice()) {
@@ -261,13 +259,9 @@ impl Client {
             return Ok(Some(Step::Asks));
         }
         self.advance(None);
-        if self.server.connection.wants_write() || self.server.connection.is_done() {
-            return Ok(None);
-        }
-        if self.read(now)? {
-            return Ok(None);
-        }
-        Ok(Some(Step::Rests))
+        let server = &self.server.connection;
+        let goes_on = server.wants_write() | server.is_done() || self.read(now)?;
+        Ok(if goes_on { None } else { Some(Step::Rests) })
     }
 
     // The connection itself refuses what is no request.
@@ -311,7 +305,7 @@ impl Client {
     /// Whether it said nothing for long, and waits for nothing.
     pub(crate) fn is_idle(&self, now: Duration) -> bool {
         let silence = now.saturating_sub(self.heard);
-        !self.is_held() && silence > Duration::from_secs(IDLE)
+        !self.is_held() & (silence > Duration::from_secs(IDLE))
     }
 
     // Is given the answer to what it asked.

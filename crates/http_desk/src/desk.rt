@@ -217,7 +217,7 @@ impl Desk {
 
     /// Whether there is something to do at once: a line to send, or an answer to give.
     pub(crate) fn is_due(&self) -> bool {
-        self.writes.has_line() || self.kept.has_answers()
+        self.writes.has_line() | self.kept.has_answers()
     }
 
     // The answer of a ticket is there.
@@ -323,18 +323,17 @@ impl Desk {
         }
     }
 
-    // A write is asked for.
-    fn ask(&mut self, ticket: u64, order: &Order) -> Result<(), AllocError> {
-        self.writes
-            .ask(Write::new(self.alloc, ticket, order, self.now)?)
-    }
-
     /// A write is to be sent; answers its ticket.
     pub(crate) fn write(&mut self, order: &Order) -> u64 {
         self.tickets = self.tickets.wrapping_add(1);
         let ticket = self.tickets;
-        let is_full = self.has_ended || self.writes.len() >= CLIENTS;
-        if is_full || self.ask(ticket, order).is_err() {
+        let is_full = self.has_ended | (self.writes.len() >= CLIENTS);
+        if is_full
+            || self
+                .writes
+                .ask(self.alloc, ticket, order, self.now)
+                .is_err()
+        {
             self.refuse(ticket);
         }
         ticket

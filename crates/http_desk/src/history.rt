@@ -6,7 +6,7 @@ use keyed_state::token_in;
 use std::alloc::{AllocError, Global};
 use trace_props::{BoxedInstall, Delivery, Event, HandedBack, Install, Message, Numbered, Sending};
 use view::View;
-use vsync_text::{Part, Text};
+use vsync_text::Text;
 
 /// A place in the order: so many messages of a view are delivered there.
 #[derive(Clone, Copy, PartialEq, Eq)]
@@ -28,17 +28,6 @@ pub(crate) fn tag_in(text: &[u8]) -> Option<Tag> {
     })
 }
 
-/// Appends a place in quotes, such as `"3@1.1/7"`.
-pub(crate) fn put_tag(out: &mut Text, tag: Tag) {
-    out.put_parts(&[
-        Part::Text(b"\""),
-        Part::View(tag.view),
-        Part::Text(b"/"),
-        Part::Number(tag.place),
-        Part::Text(b"\""),
-    ]);
-}
-
 /// To whom an event happens.
 pub(crate) fn member_of(event: &Event) -> Address {
     match event {
@@ -57,12 +46,16 @@ fn numbered(alloc: Global, message: &Numbered) -> Result<Numbered, AllocError> {
     })
 }
 
-// A copy of an install, without the state that it gives.
-fn install_of(alloc: Global, install: &Install) -> Result<Option<Event>, AllocError> {
+fn handed_back(alloc: Global, messages: &[Numbered]) -> Result<HandedBack, AllocError> {
     let mut back = Vec::new(alloc);
-    for message in install.handed_back.as_slice() {
+    for message in messages {
         back.push(numbered(alloc, message)?)?;
     }
+    Ok(HandedBack::from_vec(back))
+}
+
+// A copy of an install, without the state that it gives.
+fn install_of(alloc: Global, install: &Install) -> Result<Option<Event>, AllocError> {
     let members = install.view.members().copied(alloc)?;
     let Ok(view) = View::new(install.view.id(), members) else {
         return Ok(None);
@@ -72,7 +65,7 @@ fn install_of(alloc: Global, install: &Install) -> Result<Option<Event>, AllocEr
         previous: install.previous,
         view,
         together: install.together.copied(alloc)?,
-        handed_back: HandedBack::from_vec(back),
+        handed_back: handed_back(alloc, install.handed_back.as_slice())?,
         given: None,
     };
     Ok(Some(Event::Installed(BoxedInstall::new(alloc, copy)?)))
@@ -80,16 +73,16 @@ fn install_of(alloc: Global, install: &Install) -> Result<Option<Event>, AllocEr
 
 // A copy of an event, without the state that it gives.
 fn copy_of(alloc: Global, event: &Event) -> Result<Option<Event>, AllocError> {
-    match event {
-        Event::Started(member) => Ok(Some(Event::Started(*member))),
-        Event::Blocked(member) => Ok(Some(Event::Blocked(*member))),
-        Event::Left(member) => Ok(Some(Event::Left(*member))),
-        Event::Crashed(member) => Ok(Some(Event::Crashed(*member))),
-        Event::Sent(sending) => Ok(Some(Event::Sent(Sending {
+    let copy = match event {
+        Event::Started(member) => Event::Started(*member),
+        Event::Blocked(member) => Event::Blocked(*member),
+        Event::Left(member) => Event::Left(*member),
+        Event::Crashed(member) => Event::Crashed(*member),
+        Event::Sent(sending) => Event::Sent(Sending {
             member: sending.member,
             view: sending.view,
             message: numbered(alloc, &sending.message)?,
-        }))),
+        }),
         Event::Delivered(delivery) => {
             let message = &delivery.message;
             let message = Message {
@@ -97,14 +90,15 @@ fn copy_of(alloc: Global, event: &Event) -> Result<Option<Event>, AllocError> {
                 number: message.number,
                 payload: message.payload.copied(alloc)?,
             };
-            Ok(Some(Event::Delivered(Delivery {
+            Event::Delivered(Delivery {
                 member: delivery.member,
                 view: delivery.view,
                 message,
-            })))
+            })
         }
-        Event::Installed(install) => install_of(alloc, install.get()),
-    }
+        Event::Installed(install) => return install_of(alloc, install.get()),
+    };
+    Ok(Some(copy))
 }
 
 /// The last events.

@@ -97,13 +97,18 @@ impl Kept {
 
     /// A lock, if it is held.
     pub(crate) fn lock(&self, name: &[u8]) -> Option<&Lock> {
-        self.table()?.lock(name)
+        match self {
+            Kept::Locks(service) => service.copy().lock(name),
+            _ => None,
+        }
     }
 
     /// The version of what a key of the map has.
     pub(crate) fn version(&self, key: &[u8]) -> Option<Token> {
-        let held = self.map()?.get(key)?;
-        Some(held.version)
+        match self {
+            Kept::Map(service) => Some(service.copy().get(key)?.version),
+            _ => None,
+        }
     }
 
     pub(crate) fn note(&mut self, number: u64, ticket: u64) -> Result<(), AllocError> {

@@ -26,7 +26,10 @@ fn tagged(tag: &[u8]) -> Result<Version, Refusal> {
         [b'"', text @ .., b'"'] => token_in(text),
         _ => None,
     };
-    Version::new(token.ok_or(Refusal::BadVersion)?).ok_or(Refusal::BadVersion)
+    match token {
+        Some(token) => Version::new(token).ok_or(Refusal::BadVersion),
+        None => Err(Refusal::BadVersion),
+    }
 }
 
 // Adds the line of a command that names a version.
@@ -74,7 +77,7 @@ fn put_command<'a>(line: &mut Text, command: &Command<'a>) {
                 &[key.as_slice(), expected, value.as_slice()],
             );
         }
-        Command::Clear => put_words(line, b"clear", &[]),
+        Command::Clear => line.put(b"clear"),
         Command::ReplaceAt {
             version,
             key,
@@ -82,7 +85,8 @@ fn put_command<'a>(line: &mut Text, command: &Command<'a>) {
             ..
         } => {
             put_versioned(line, b"replace_at", key.as_slice(), version.token());
-            put_words(line, b"", &[value.as_slice()]);
+            line.put(b" ");
+            line.put(value.as_slice());
         }
         Command::RemoveAt { version, key } => {
             put_versioned(line, b"remove_at", key.as_slice(), version.token())
@@ -119,7 +123,9 @@ fn write_of(
 
 // A put: of any value, if the key has none, or if its value is of the version that a tag names. Its line names no view: the node stamps it when it is sent.
 fn put<'a>(request: &'a Request<Bytes>, key: KeyBytes<'a>) -> Result<Command<'a>, Refusal> {
-    let value = ValueBytes::new(request.body().as_slice()).ok_or(Refusal::LongValue)?;
+    let Some(value) = ValueBytes::new(request.body().as_slice()) else {
+        return Err(Refusal::LongValue);
+    };
     let view = Token::least().view;
     match (
         header_of(request, header::IF_MATCH),

@@ -1,6 +1,6 @@
 //! How a node stands, in the text format that Prometheus reads.
 
-use crate::kept::Keeps;
+use crate::kept::{Keeps, Kept};
 use crate::standing::Standing;
 use std::alloc::Global;
 use vsync_text::{Part, Text};
@@ -40,8 +40,8 @@ fn put_counters(out: &mut Text, standing: &Standing<'_>) {
     );
 }
 
-// How the view stands.
-fn put_view(out: &mut Text, standing: &Standing<'_>) {
+// How the view stands, and what waits.
+fn put_gauges(out: &mut Text, standing: &Standing<'_>) {
     let counts = standing.counts;
     let blocked = match standing.blocked() {
         Some(time) => time.as_secs(),
@@ -57,13 +57,15 @@ fn put_view(out: &mut Text, standing: &Standing<'_>) {
             (b"view_delivered_messages", counts.place),
             (b"view_stable_messages", standing.stable()),
             (b"nodes_seen", counts.seen.len() as u64),
+            (b"outstanding_sends", standing.kept.waits() as u64),
+            (b"waiting_writes", standing.writes.len() as u64),
+            (b"connections", standing.clients as u64),
         ],
     );
 }
 
 // What is kept.
-fn put_kept(out: &mut Text, standing: &Standing<'_>) {
-    let kept = standing.kept;
+fn put_kept(out: &mut Text, kept: &Kept) {
     match kept.keeps() {
         Keeps::Map => put_metrics(out, b"gauge", &[(b"map_keys", kept.len() as u64)]),
         Keeps::Locks => put_metrics(
@@ -78,30 +80,13 @@ fn put_kept(out: &mut Text, standing: &Standing<'_>) {
     }
 }
 
-// What waits, what is kept, and for how long it runs.
-fn put_gauges(out: &mut Text, standing: &Standing<'_>) {
-    put_metrics(
-        out,
-        b"gauge",
-        &[
-            (b"outstanding_sends", standing.kept.waits() as u64),
-            (b"waiting_writes", standing.writes.len() as u64),
-            (b"connections", standing.clients as u64),
-        ],
-    );
-    put_kept(out, standing);
-    put_metrics(
-        out,
-        b"gauge",
-        &[(b"uptime_seconds", standing.uptime.as_secs())],
-    );
-}
-
 /// The metrics: counters only rise.
 pub(crate) fn metrics(alloc: Global, standing: &Standing<'_>) -> Text {
     let mut out = Text::new(alloc);
     put_counters(&mut out, standing);
-    put_view(&mut out, standing);
     put_gauges(&mut out, standing);
+    put_kept(&mut out, standing.kept);
+    let uptime = standing.uptime.as_secs();
+    put_metrics(&mut out, b"gauge", &[(b"uptime_seconds", uptime)]);
     out
 }

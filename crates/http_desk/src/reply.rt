@@ -3,7 +3,7 @@
 ghost use Rattle.std.specs.Prelude.{◌≡◌, false};
 ghost use Rattle.http_desk.specs.Replies.{Says, IsTagged};
 
-use crate::history::{Tag, put_tag};
+use crate::history::Tag;
 use crate::json::put_token;
 use crate::refusal::Refusal;
 use http::StatusCode;
@@ -146,17 +146,15 @@ impl Reply {
         self
     }
 
-    /// The same, whose entity tag is a place.
-    pub(crate) fn since(mut self, alloc: Global, last: Option<Tag>) -> Reply
+    /// The same, whose entity tag is a place, which is written as a token is.
+    pub(crate) fn since(self, alloc: Global, last: Option<Tag>) -> Reply
         ensures status { result.status ≡ self.status }
         ensures body { result.body ≡ self.body }
     {
-        if let Some(last) = last {
-            let mut tag = Text::new(alloc);
-            put_tag(&mut tag, last);
-            self.tag = Some(tag);
+        match last {
+            Some(Tag { view, place }) => self.of_version(alloc, &Token { view, count: place }),
+            None => self,
         }
-        self
     }
 
     /// The same, which speaks of a place, such as 2@1.1/7.

@@ -94,7 +94,7 @@ fn named_by(path: &str) -> Option<(Keeps, Option<&str>)> {
 
 // The key of these bytes, if it can be a field of a line.
 fn key_of(bytes: &[u8]) -> Option<KeyBytes<'_>> {
-    if bytes.contains(&b' ') || bytes.contains(&b'\n') {
+    if bytes.contains(&b' ') | bytes.contains(&b'\n') {
         return None;
     }
     KeyBytes::new(bytes)

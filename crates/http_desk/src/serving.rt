@@ -4,7 +4,7 @@ use crate::CLIENTS;
 use crate::accepting::{Caller, Door};
 use crate::client::Client;
 use crate::desk::Desk;
-use crate::kept::Keeps;
+use crate::kept::{Keeps, Kept};
 use address::{Address, ViewId};
 use std::alloc::{AllocError, Global};
 use std::hash::RandomState;
@@ -50,24 +50,30 @@ fn wake(clients: &mut Vec<Client>, door: &Door) {
     }
 }
 
-// The tickets for which connections wait.
-fn awaited(alloc: Global, clients: &[Client]) -> Result<Vec<u64>, AllocError> {
+// Each connection has its turn, and those that are over are let go. Answers whether one has more to do at once.
+fn give_turns(desk: &mut Desk, clients: &mut Vec<Client>) -> bool {
+    desk.connections = clients.len();
+    let mut has_more = false;
+    for client in clients.iter_mut() {
+        has_more |= desk.serve_one(client);
+    }
+    clients.retain(|client| !client.is_over);
+    has_more
+}
+
+// Nobody waits for a lock any more whose connection is over.
+fn forget(alloc: Global, kept: &mut Kept, clients: &[Client]) -> Result<(), AllocError> {
+    if kept.queued() == 0 {
+        return Ok(());
+    }
     let mut tickets = Vec::new(alloc);
     for client in clients {
         if let Some(ticket) = client.ticket() {
             tickets.push(ticket)?;
         }
     }
-    Ok(tickets)
-}
-
-// Serves these connections; answers whether one has more to do at once.
-fn serve_all(desk: &mut Desk, clients: &mut Vec<Client>) -> bool {
-    let mut has_more = false;
-    for client in clients.iter_mut() {
-        has_more |= desk.serve_one(client);
-    }
-    has_more
+    kept.keep(tickets.as_slice());
+    Ok(())
 }
 
 impl HttpDesk {
@@ -120,7 +126,7 @@ impl HttpDesk {
 
     /// Whether there is something to do at once: a line to send, or an answer to give.
     pub fn is_due(&self) -> bool {
-        self.has_more || self.desk.is_due()
+        self.has_more | self.desk.is_due()
     }
 
     // Accepts those who stand before the door.
@@ -142,23 +148,6 @@ impl HttpDesk {
         Ok(())
     }
 
-    // Each connection has its turn, and those that are over are let go.
-    fn give_turns(&mut self) -> bool {
-        self.desk.connections = self.clients.len();
-        let has_more = serve_all(&mut self.desk, &mut self.clients);
-        self.clients.retain(|client| !client.is_over);
-        has_more
-    }
-
-    // Nobody waits for a lock any more whose connection is over.
-    fn forget(&mut self) -> Result<(), AllocError> {
-        if self.desk.kept.queued() > 0 {
-            let tickets = awaited(self.alloc, self.clients.as_slice())?;
-            self.desk.kept.keep(tickets.as_slice());
-        }
-        Ok(())
-    }
-
     /// Serves all connections, each for a bounded number of steps. It does not wait.
     pub fn serve(&mut self, now: Duration) {
         self.desk.now = now;
@@ -168,9 +157,10 @@ impl HttpDesk {
         self.desk.settle_all();
         let accepted = self.accept();
         self.desk.note(accepted);
-        let has_more = self.give_turns();
+        let has_more = give_turns(&mut self.desk, &mut self.clients);
         self.desk.replies.clear();
-        let forgot = self.forget();
+        let clients = self.clients.as_slice();
+        let forgot = forget(self.alloc, &mut self.desk.kept, clients);
         self.desk.note(forgot);
         self.has_more = has_more || self.door.has_callers;
     }

@@ -8,7 +8,7 @@ use std::time::Duration;
 /// A write that was asked for: who waits for it, and the line that says it.
 #[derive(Drop)]
 pub(crate) struct Write {
-    pub(crate) ticket: u64,
+    ticket: u64,
     line: Vec<u8>,
     /// Whether it is answered only when all members of the view have delivered it.
     pub(crate) is_stable: bool,
@@ -16,24 +16,6 @@ pub(crate) struct Write {
     pub(crate) is_again: bool,
     // When it was asked for.
     since: Duration,
-}
-
-impl Write {
-    /// What is ordered now, for a ticket.
-    pub(crate) fn new(
-        alloc: Global,
-        ticket: u64,
-        order: &Order,
-        since: Duration,
-    ) -> Result<Write, AllocError> {
-        Ok(Write {
-            ticket,
-            line: Vec::from_slice(alloc, order.line.as_slice())?,
-            is_stable: order.is_stable,
-            is_again: false,
-            since,
-        })
-    }
 }
 
 /// Those whose lines the node has not taken, those that it is to send, and those that it sent, each in their order.
@@ -87,9 +69,22 @@ impl Writes {
         self.asked.len().saturating_add(self.told.len())
     }
 
-    /// A write is asked for.
-    pub(crate) fn ask(&mut self, write: Write) -> Result<(), AllocError> {
-        self.asked.push_back(write)?;
+    /// A write is asked for now, by who waits for a ticket.
+    pub(crate) fn ask(
+        &mut self,
+        alloc: Global,
+        ticket: u64,
+        order: &Order,
+        now: Duration,
+    ) -> Result<(), AllocError> {
+        let line = Vec::from_slice(alloc, order.line.as_slice())?;
+        self.asked.push_back(Write {
+            ticket,
+            line,
+            is_stable: order.is_stable,
+            is_again: false,
+            since: now,
+        })?;
         Ok(())
     }
 
