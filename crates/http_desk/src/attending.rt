@@ -12,7 +12,7 @@ use crate::json::{put_changes, put_entries, put_lock, put_locks};
 use crate::metrics::metrics;
 use crate::page::page;
 use crate::reply::{Media, Reply};
-use crate::request::{Asked, Order};
+use crate::request::Asked;
 use crate::status::status;
 use http::StatusCode;
 use replicated_map::ReplicatedMap;
@@ -92,9 +92,9 @@ impl Desk {
         self.of_entries(body)
     }
 
-    // What changed behind a place, if anything did.
-    fn changes_after(&self, tag: &[u8]) -> Option<Reply> {
-        match self.changes.since(tag) {
+    // What changed behind a place, if anything did; 410 where that is not known.
+    fn changes_after(&self, after: Option<&Tag>) -> Option<Reply> {
+        match self.changes.since(after) {
             Some([]) => None,
             Some(changes) => Some(self.changed(changes)),
             None => Some(self.of_copy(Reply::plain(self.alloc, StatusCode::GONE))),
@@ -130,45 +130,18 @@ impl Desk {
 
     // The picture of the last events.
     fn picture(&self) -> Reply {
-        let events = self.history.events();
+        let events = self.history.events.as_slice();
         match draw(self.alloc, events, &[], &[], Verdict::Holds) {
             Ok(picture) => whole(Media::Svg, Text::from_vec(picture)),
             Err(_) => Reply::short(self.alloc),
         }
     }
 
-    // Until when who asks now waits for so many seconds.
-    fn until(&self, seconds: u64) -> Duration {
-        self.now.saturating_add(Duration::from_secs(seconds))
-    }
-
-    // A write is to be sent, for whose answer its connection waits.
-    fn ordered(&mut self, order: &Order) -> Found {
-        let until = self.until(order.patience);
-        let end = self.until(PATIENCE);
-        let ticket = self.write(order);
-        Found::Hold(Hold::Ticket { ticket, until, end })
-    }
-
-    // What changed behind a place, or the wait for it.
-    fn changes(&self, tag: &[u8]) -> Found {
-        if let Some(reply) = self.changes_after(tag) {
-            return Found::Reply(reply);
-        }
-        match Vec::from_slice(self.alloc, tag) {
-            Ok(after) => Found::Hold(Hold::Change {
-                after,
-                until: self.until(PATIENCE),
-            }),
-            Err(_) => Found::Reply(Reply::short(self.alloc)),
-        }
-    }
-
     // What there is for a request.
     fn find(&mut self, asked: &Asked) -> Found {
         let reply = match asked {
-            Asked::Write(order) => return self.ordered(order),
-            Asked::Changes(tag) => return self.changes(tag.as_slice()),
+            Asked::Write(order) => return Found::Hold(self.write(order)),
+            Asked::Changes(after) => return self.of_change(*after, self.until(PATIENCE)),
             Asked::Value(key) => self.value(key.as_slice()),
             Asked::Entries => self.entries(),
             Asked::Lock(name) => self.lock(name.as_slice()),
@@ -178,7 +151,9 @@ impl Desk {
             Asked::Events => whole(Media::Text, self.history.text()),
             Asked::Picture => self.picture(),
             Asked::Page => whole(Media::Html, page(self.alloc)),
-            Asked::Refused(refusal) => Reply::refused(self.alloc, *refusal),
+            Asked::Refused(refusal) => {
+                Reply::words(self.alloc, refusal.status(), refusal.words())
+            }
         };
         Found::Reply(reply)
     }
@@ -219,9 +194,9 @@ impl Desk {
         Found::Hold(Hold::Ticket { ticket, until, end })
     }
 
-    // What changed behind a place; if nothing did in time, that.
-    fn of_change(&self, after: Vec<u8>, until: Duration) -> Found {
-        if let Some(reply) = self.changes_after(after.as_slice()) {
+    // What changed behind a place, or the wait for it; if nothing did in time, that.
+    fn of_change(&self, after: Option<Tag>, until: Duration) -> Found {
+        if let Some(reply) = self.changes_after(after.as_ref()) {
             return Found::Reply(reply);
         }
         if (self.now >= until) | self.has_ended {

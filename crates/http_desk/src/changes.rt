@@ -1,7 +1,7 @@
 //! What changed in the map, for those who wait for it.
 
 use crate::CHANGES;
-use crate::history::{Tag, tag_in};
+use crate::history::Tag;
 use std::alloc::{AllocError, Global};
 
 /// A change: the place behind which it stands, and its key.
@@ -63,15 +63,15 @@ impl Changes {
         Ok(())
     }
 
-    /// What changed behind the place that a text names, the oldest first; `None` if that is not known any more.
-    pub(crate) fn since(&self, text: &[u8]) -> Option<&[Change]> {
-        let tag = tag_in(text)?;
+    /// What changed behind a place, the oldest first; `None` if that is not known, or not any more.
+    pub(crate) fn since(&self, after: Option<&Tag>) -> Option<&[Change]> {
+        let tag = after?;
         let log = self.log.as_slice();
-        if self.first == Some(tag) {
+        if self.first.as_ref() == Some(tag) {
             return Some(log);
         }
         for (i, change) in log.iter().enumerate() {
-            if change.tag == tag {
+            if change.tag == *tag {
                 return log.get(i.saturating_add(1)..);
             }
         }

@@ -54,9 +54,9 @@ pub(crate) enum Hold {
         at: Tag,
         reply: Reply,
     },
-    /// That something changes behind the place that a text names, at most until this time.
+    /// That something changes behind a place, at most until this time.
     Change {
-        after: Vec<u8>,
+        after: Option<Tag>,
         until: Duration,
     },
 }
@@ -260,7 +260,7 @@ impl Client {
         }
         self.advance(None);
         let server = &self.server.connection;
-        let goes_on = server.wants_write() | server.is_done() || self.read(now)?;
+        let goes_on = (server.wants_write() | server.is_done()) || self.read(now)?;
         Ok(if goes_on { None } else { Some(Step::Rests) })
     }
 
@@ -308,19 +308,15 @@ impl Client {
         !self.is_held() & (silence > Duration::from_secs(IDLE))
     }
 
-    // Is given the answer to what it asked.
-    fn answer(&mut self, reply: Reply) {
-        self.hold = Hold::Nothing;
-        if let Some(asked) = self.asked.take() {
-            self.advance(Some(Answered { asked, reply }));
-        }
-    }
-
-    /// Is given what there is for it: an answer, which `go_on` sends, or what it waits for.
+    /// It waits for nothing, and is given what there is for it: the answer to what it asked, which `go_on` sends, or what it waits for.
     pub(crate) fn give(&mut self, found: Found) {
         match found {
-            Found::Reply(reply) => self.answer(reply),
             Found::Hold(hold) => self.hold = hold,
+            Found::Reply(reply) => {
+                if let Some(asked) = self.asked.take() {
+                    self.advance(Some(Answered { asked, reply }));
+                }
+            }
         }
     }
 }

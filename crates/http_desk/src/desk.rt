@@ -1,4 +1,5 @@
 use crate::changes::Changes;
+use crate::client::Hold;
 use crate::counts::Counts;
 use crate::history::{History, Tag, member_of};
 use crate::kept::{Keeps, Kept};
@@ -143,19 +144,10 @@ impl Desk {
     }
 
     // Notes that a key changed, if its version is another one.
-    fn note_key(&mut self, key: &[u8], before: Option<Token>) {
+    fn note_key(&mut self, at: Tag, key: &[u8], before: Option<Token>) {
         if self.kept.version(key) != before {
-            if let Some(at) = self.counts.at() {
-                let noted = self.changes.note(at, key);
-                self.note(noted);
-            }
-        }
-    }
-
-    // All may have changed.
-    fn begin_changes(&mut self) {
-        if let Some(at) = self.counts.at() {
-            self.changes.begin(at);
+            let noted = self.changes.note(at, key);
+            self.note(noted);
         }
     }
 
@@ -191,10 +183,12 @@ impl Desk {
         let touched = self.touched(event);
         let followed = self.follow(event);
         self.note(followed);
-        match touched {
-            Touched::Nothing => (),
-            Touched::Key(key, before) => self.note_key(key, before),
-            Touched::All => self.begin_changes(),
+        if let Some(at) = self.counts.at() {
+            match touched {
+                Touched::Nothing => (),
+                Touched::Key(key, before) => self.note_key(at, key, before),
+                Touched::All => self.changes.begin(at),
+            }
         }
     }
 
@@ -323,19 +317,24 @@ impl Desk {
         }
     }
 
-    /// A write is to be sent; answers its ticket.
-    pub(crate) fn write(&mut self, order: &Order) -> u64 {
+    /// Until when who asks now waits for so many seconds.
+    pub(crate) fn until(&self, seconds: u64) -> Duration {
+        self.now.saturating_add(Duration::from_secs(seconds))
+    }
+
+    /// A write is to be sent; answers the wait for what it comes to.
+    pub(crate) fn write(&mut self, order: &Order) -> Hold {
         self.tickets = self.tickets.wrapping_add(1);
         let ticket = self.tickets;
         let is_full = self.has_ended | (self.writes.len() >= CLIENTS);
-        if is_full
-            || self
-                .writes
-                .ask(self.alloc, ticket, order, self.now)
-                .is_err()
-        {
+        let writes = &mut self.writes;
+        if is_full || writes.ask(self.alloc, ticket, order, self.now).is_err() {
             self.refuse(ticket);
         }
-        ticket
+        Hold::Ticket {
+            ticket,
+            until: self.until(order.patience),
+            end: self.until(PATIENCE),
+        }
     }
 }

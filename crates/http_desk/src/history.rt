@@ -105,7 +105,8 @@ fn copy_of(alloc: Global, event: &Event) -> Result<Option<Event>, AllocError> {
 #[derive(Drop)]
 pub(crate) struct History {
     alloc: Global,
-    events: Vec<Event>,
+    /// They, the oldest first.
+    pub(crate) events: Vec<Event>,
 }
 
 impl History {
@@ -125,11 +126,6 @@ impl History {
             self.events.push(copy)?;
         }
         Ok(())
-    }
-
-    /// They, the oldest first.
-    pub(crate) fn events(&self) -> &[Event] {
-        self.events.as_slice()
     }
 
     /// A line for each, as in a trace.

@@ -1,6 +1,7 @@
 //! What a request asks of the map.
 
 use crate::PATIENCE;
+use crate::history::tag_in;
 use crate::query::{decoded, field_of};
 use crate::refusal::Refusal;
 use crate::request::{Asked, Order, read_only};
@@ -183,7 +184,10 @@ pub(crate) fn asked_of_key<'a>(
 /// What is asked of all entries: what they are, or what changed behind a tag.
 pub(crate) fn asked_of_all(alloc: Global, request: &Request<Bytes>) -> Result<Asked, AllocError> {
     let asked = match field_of(request.uri().query(), "after") {
-        Some(tag) => Asked::Changes(decoded(alloc, tag.as_bytes())?),
+        Some(text) => {
+            let text = decoded(alloc, text.as_bytes())?;
+            Asked::Changes(tag_in(text.as_slice()))
+        }
         None => Asked::Entries,
     };
     Ok(read_only(request, asked))

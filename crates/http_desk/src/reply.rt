@@ -5,7 +5,6 @@ ghost use Rattle.http_desk.specs.Replies.{Says, IsTagged};
 
 use crate::history::Tag;
 use crate::json::put_token;
-use crate::refusal::Refusal;
 use http::StatusCode;
 use keyed_state::Token;
 use replicated_map::Held;
@@ -117,11 +116,6 @@ impl Reply {
         let mut body = Text::new(alloc);
         body.refuse();
         Reply::of(StatusCode::SERVICE_UNAVAILABLE, Media::Text, body)
-    }
-
-    /// What is wrong with a request.
-    pub(crate) fn refused(alloc: Global, refusal: Refusal) -> Reply {
-        Reply::words(alloc, refusal.status(), refusal.words())
     }
 
     /// A value, whose entity tag is its version.

@@ -1,5 +1,6 @@
 //! What a request asks.
 
+use crate::history::Tag;
 use crate::kept::Keeps;
 use crate::lock_request::asked_of_lock;
 use crate::map_request::{asked_of_all, asked_of_key};
@@ -30,8 +31,8 @@ pub(crate) enum Asked {
     Write(Order),
     /// All entries.
     Entries,
-    /// What changed behind a tag.
-    Changes(Vec<u8>),
+    /// What changed behind a place; `None` where its text names none.
+    Changes(Option<Tag>),
     /// Who holds a lock.
     Lock(Vec<u8>),
     /// All locks.
