@@ -9,6 +9,7 @@ use crate::client::{Client, Found, Hold, Step};
 use crate::desk::{Answer, Desk};
 use crate::history::Tag;
 use crate::json::{put_changes, put_entries, put_lock, put_locks};
+use crate::kept::Kept;
 use crate::metrics::metrics;
 use crate::page::page;
 use crate::reply::{Media, Reply};
@@ -69,18 +70,20 @@ impl Desk {
         self.of_copy(reply)
     }
 
-    // Entries of this node's copy, whose tag is the place of the last change.
-    fn of_entries(&self, body: Text) -> Reply {
+    // Something of what is kept, whose tag is the place of the last change of the map.
+    fn of_kept(&self, body: Text) -> Reply {
         self.of_copy(whole(Media::Json, body).since(self.alloc, self.changes.last))
     }
 
-    // All entries.
-    fn entries(&self) -> Reply {
+    // All that is kept.
+    fn all(&self) -> Reply {
         let mut body = Text::new(self.alloc);
-        if let Some(map) = self.kept.map() {
-            put_entries(&mut body, map);
+        match &self.kept {
+            Kept::Map(service) => put_entries(&mut body, service.copy()),
+            Kept::Locks(service) => put_locks(&mut body, service.copy()),
+            Kept::Nothing => (),
         }
-        self.of_entries(body)
+        self.of_kept(body)
     }
 
     // The keys of these changes, with what each has now.
@@ -89,7 +92,7 @@ impl Desk {
         if let Some(map) = self.kept.map() {
             put_changes(&mut body, map, changes);
         }
-        self.of_entries(body)
+        self.of_kept(body)
     }
 
     // What changed behind a place, if anything did; 410 where that is not known.
@@ -119,15 +122,6 @@ impl Desk {
         self.of_copy(reply)
     }
 
-    // All locks.
-    fn locks(&self) -> Reply {
-        let mut body = Text::new(self.alloc);
-        if let Some(table) = self.kept.table() {
-            put_locks(&mut body, table);
-        }
-        self.of_copy(whole(Media::Json, body))
-    }
-
     // The picture of the last events.
     fn picture(&self) -> Reply {
         let events = self.history.events.as_slice();
@@ -143,9 +137,8 @@ impl Desk {
             Asked::Write(order) => return Found::Hold(self.write(order)),
             Asked::Changes(after) => return self.of_change(*after, self.until(PATIENCE)),
             Asked::Value(key) => self.value(key.as_slice()),
-            Asked::Entries => self.entries(),
+            Asked::All => self.all(),
             Asked::Lock(name) => self.lock(name.as_slice()),
-            Asked::Locks => self.locks(),
             Asked::Status => whole(Media::Json, status(self.alloc, &self.standing())),
             Asked::Metrics => whole(Media::Metrics, metrics(self.alloc, &self.standing())),
             Asked::Events => whole(Media::Text, self.history.text()),

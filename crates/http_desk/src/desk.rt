@@ -296,13 +296,23 @@ impl Desk {
 
     /// How its node stands.
     pub(crate) fn standing(&self) -> Standing<'_> {
+        let counts = &self.counts;
+        let stable = match self.stable {
+            Some((view, count)) if counts.view == Some(view) => count,
+            _ => 0,
+        };
+        let blocked = match counts.blocked {
+            Some(since) => Some(self.now.saturating_sub(since)),
+            None => None,
+        };
         Standing {
             own: self.own,
-            counts: &self.counts,
+            counts,
             kept: &self.kept,
-            writes: &self.writes,
+            waiting_writes: self.writes.len(),
             clients: self.connections,
-            stable: self.stable,
+            stable,
+            blocked,
             uptime: self.now,
         }
     }

@@ -46,16 +46,12 @@ fn numbered(alloc: Global, message: &Numbered) -> Result<Numbered, AllocError> {
     })
 }
 
-fn handed_back(alloc: Global, messages: &[Numbered]) -> Result<HandedBack, AllocError> {
-    let mut back = Vec::new(alloc);
-    for message in messages {
-        back.push(numbered(alloc, message)?)?;
-    }
-    Ok(HandedBack::from_vec(back))
-}
-
 // A copy of an install, without the state that it gives.
 fn install_of(alloc: Global, install: &Install) -> Result<Option<Event>, AllocError> {
+    let mut back = Vec::new(alloc);
+    for message in install.handed_back.as_slice() {
+        back.push(numbered(alloc, message)?)?;
+    }
     let members = install.view.members().copied(alloc)?;
     let Ok(view) = View::new(install.view.id(), members) else {
         return Ok(None);
@@ -65,7 +61,7 @@ fn install_of(alloc: Global, install: &Install) -> Result<Option<Event>, AllocEr
         previous: install.previous,
         view,
         together: install.together.copied(alloc)?,
-        handed_back: handed_back(alloc, install.handed_back.as_slice())?,
+        handed_back: HandedBack::from_vec(back),
         given: None,
     };
     Ok(Some(Event::Installed(BoxedInstall::new(alloc, copy)?)))

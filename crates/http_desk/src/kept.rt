@@ -5,7 +5,7 @@ use crate::lock_request::line_of;
 use crate::map_request::line_of as line_of_map;
 use address::Address;
 use keyed_state::Token;
-use lock_table::{Command as LockCommand, Lock, LockService, LockTable};
+use lock_table::{Command as LockCommand, Lock, LockService};
 use replicated_map::{Command as MapCommand, MapService, ReplicatedMap};
 use std::alloc::{AllocError, Global};
 use trace_props::Event;
@@ -83,14 +83,6 @@ impl Kept {
     pub(crate) fn map(&self) -> Option<&ReplicatedMap> {
         match self {
             Kept::Map(service) => Some(service.copy()),
-            _ => None,
-        }
-    }
-
-    /// The table of locks.
-    pub(crate) fn table(&self) -> Option<&LockTable> {
-        match self {
-            Kept::Locks(service) => Some(service.copy()),
             _ => None,
         }
     }

@@ -21,15 +21,11 @@ fn header_of(request: &Request<Bytes>, name: HeaderName) -> Option<&[u8]> {
     }
 }
 
-// The version that an entity tag names, in quotes.
-fn tagged(tag: &[u8]) -> Result<Version, Refusal> {
-    let token = match tag {
-        [b'"', text @ .., b'"'] => token_in(text),
+// The version that an entity tag names, in quotes; `None` where it names none.
+fn tagged(tag: &[u8]) -> Option<Version> {
+    match tag {
+        [b'"', text @ .., b'"'] => Version::new(token_in(text)?),
         _ => None,
-    };
-    match token {
-        Some(token) => Version::new(token).ok_or(Refusal::BadVersion),
-        None => Err(Refusal::BadVersion),
     }
 }
 
@@ -141,7 +137,7 @@ fn put<'a>(request: &'a Request<Bytes>, key: KeyBytes<'a>) -> Result<Command<'a>
         }),
         (Some(tag), None) => Ok(Command::ReplaceAt {
             view,
-            version: tagged(tag)?,
+            version: tagged(tag).ok_or(Refusal::BadVersion)?,
             key,
             value,
         }),
@@ -151,15 +147,16 @@ fn put<'a>(request: &'a Request<Bytes>, key: KeyBytes<'a>) -> Result<Command<'a>
 
 // A removal: of any value, or of one of the version that a tag names.
 fn remove<'a>(request: &Request<Bytes>, key: KeyBytes<'a>) -> Result<Command<'a>, Refusal> {
-    if header_of(request, header::IF_NONE_MATCH).is_some() {
-        return Err(Refusal::BadCondition);
-    }
-    match header_of(request, header::IF_MATCH) {
-        Some(tag) => Ok(Command::RemoveAt {
-            version: tagged(tag)?,
+    match (
+        header_of(request, header::IF_MATCH),
+        header_of(request, header::IF_NONE_MATCH),
+    ) {
+        (None, None) => Ok(Command::Remove(key)),
+        (Some(tag), None) => Ok(Command::RemoveAt {
+            version: tagged(tag).ok_or(Refusal::BadVersion)?,
             key,
         }),
-        None => Ok(Command::Remove(key)),
+        _ => Err(Refusal::BadCondition),
     }
 }
 
@@ -188,7 +185,7 @@ pub(crate) fn asked_of_all(alloc: Global, request: &Request<Bytes>) -> Result<As
             let text = decoded(alloc, text.as_bytes())?;
             Asked::Changes(tag_in(text.as_slice()))
         }
-        None => Asked::Entries,
+        None => Asked::All,
     };
     Ok(read_only(request, asked))
 }

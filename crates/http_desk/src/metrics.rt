@@ -43,7 +43,7 @@ fn put_counters(out: &mut Text, standing: &Standing<'_>) {
 // How the view stands, and what waits.
 fn put_gauges(out: &mut Text, standing: &Standing<'_>) {
     let counts = standing.counts;
-    let blocked = match standing.blocked() {
+    let blocked = match standing.blocked {
         Some(time) => time.as_secs(),
         None => 0,
     };
@@ -55,10 +55,10 @@ fn put_gauges(out: &mut Text, standing: &Standing<'_>) {
             (b"blocked", u64::from(counts.blocked.is_some())),
             (b"blocked_seconds", blocked),
             (b"view_delivered_messages", counts.place),
-            (b"view_stable_messages", standing.stable()),
+            (b"view_stable_messages", standing.stable),
             (b"nodes_seen", counts.seen.len() as u64),
             (b"outstanding_sends", standing.kept.waits() as u64),
-            (b"waiting_writes", standing.writes.len() as u64),
+            (b"waiting_writes", standing.waiting_writes as u64),
             (b"connections", standing.clients as u64),
         ],
     );

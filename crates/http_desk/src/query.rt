@@ -5,8 +5,11 @@ use std::alloc::{AllocError, Global};
 
 // The value of a field, if it is the one of this name: what is behind its `=`, or nothing.
 fn value_of<'a>(field: &'a str, name: &str) -> Option<&'a str> {
-    let (own, value) = field.split_once("=").unwrap_or((field, ""));
-    if own == name { Some(value) } else { None }
+    let rest = field.strip_prefix(name)?;
+    if rest.is_empty() {
+        return Some(rest);
+    }
+    rest.strip_prefix("=")
 }
 
 /// The value of the first field of this name: what is behind its `=`, empty if there is none; `None` if there is no such field.

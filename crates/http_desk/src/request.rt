@@ -29,14 +29,12 @@ pub(crate) enum Asked {
     Value(Vec<u8>),
     /// That a command is carried out.
     Write(Order),
-    /// All entries.
-    Entries,
+    /// All that is kept.
+    All,
     /// What changed behind a place; `None` where its text names none.
     Changes(Option<Tag>),
     /// Who holds a lock.
     Lock(Vec<u8>),
-    /// All locks.
-    Locks,
     /// How the node stands.
     Status,
     /// The same as counters.
@@ -56,10 +54,9 @@ impl Drop for Asked {
         match self {
             Asked::Value(_) => {}
             Asked::Write(_) => {}
-            Asked::Entries => {}
+            Asked::All => {}
             Asked::Changes(_) => {}
             Asked::Lock(_) => {}
-            Asked::Locks => {}
             Asked::Status => {}
             Asked::Metrics => {}
             Asked::Events => {}
@@ -138,7 +135,7 @@ pub(crate) fn asked_by(
     match named_by(request.uri().path()) {
         Some((kind, _)) if kind != keeps => Ok(Asked::Refused(Refusal::NotKept)),
         Some((_, Some(name))) => asked_of_item(alloc, request, keeps, name),
-        Some((Keeps::Locks, None)) => Ok(read_only(request, Asked::Locks)),
+        Some((Keeps::Locks, None)) => Ok(read_only(request, Asked::All)),
         Some((_, None)) => asked_of_all(alloc, request),
         None => Ok(asked_of_node(request)),
     }

@@ -110,12 +110,12 @@ impl Service for Giving {
         response: &mut Response,
     ) -> Result<(), AllocError> {
         let asked = asked_by(self.alloc, request, self.keeps)?;
-        if let Some(found) = &self.found {
-            if asked == found.asked {
-                return fill(self.alloc, &found.reply, response);
+        match &self.found {
+            Some(found) if found.asked == asked => fill(self.alloc, &found.reply, response),
+            _ => {
+                response.status = StatusCode::SERVICE_UNAVAILABLE;
+                Ok(())
             }
         }
-        response.status = StatusCode::SERVICE_UNAVAILABLE;
-        Ok(())
     }
 }

@@ -162,6 +162,6 @@ impl HttpDesk {
         let clients = self.clients.as_slice();
         let forgot = forget(self.alloc, &mut self.desk.kept, clients);
         self.desk.note(forgot);
-        self.has_more = has_more || self.door.has_callers;
+        self.has_more = has_more | self.door.has_callers;
     }
 }

@@ -2,8 +2,7 @@
 
 use crate::counts::Counts;
 use crate::kept::Kept;
-use crate::writes::Writes;
-use address::{Address, ViewId};
+use address::Address;
 use std::time::Duration;
 
 /// How a node stands.
@@ -12,26 +11,13 @@ pub(crate) struct Standing<'a> {
     pub(crate) own: Address,
     pub(crate) counts: &'a Counts,
     pub(crate) kept: &'a Kept,
-    pub(crate) writes: &'a Writes,
+    /// How many writes wait to be sent.
+    pub(crate) waiting_writes: usize,
     pub(crate) clients: usize,
-    /// The view of which it was told last how many messages are stable, and how many.
-    pub(crate) stable: Option<(ViewId, u64)>,
+    /// How many messages of its view are stable, as far as it knows.
+    pub(crate) stable: u64,
+    /// For how long its member is blocked.
+    pub(crate) blocked: Option<Duration>,
     /// For how long it runs.
     pub(crate) uptime: Duration,
-}
-
-impl<'a> Standing<'a> {
-    /// How many messages of its view are stable, as far as it knows.
-    pub(crate) fn stable(&self) -> u64 {
-        match self.stable {
-            Some((view, count)) if self.counts.view == Some(view) => count,
-            _ => 0,
-        }
-    }
-
-    /// For how long its member is blocked.
-    pub(crate) fn blocked(&self) -> Option<Duration> {
-        let since = self.counts.blocked?;
-        Some(self.uptime.saturating_sub(since))
-    }
 }

@@ -43,7 +43,7 @@ fn put_members(out: &mut Text, standing: &Standing<'_>) {
 
 // Whether its member is blocked, and for how long.
 fn put_blocked(out: &mut Text, standing: &Standing<'_>) {
-    match standing.blocked() {
+    match standing.blocked {
         Some(time) => {
             out.put(b",\"blocked\":true");
             put_fields(out, &[(b"blocked_ms", milliseconds(time))]);
@@ -75,9 +75,9 @@ fn put_counts(out: &mut Text, standing: &Standing<'_>) {
         out,
         &[
             (b"delivered_in_view", counts.place),
-            (b"stable_in_view", standing.stable()),
+            (b"stable_in_view", standing.stable),
             (b"outstanding_sends", kept.waits() as u64),
-            (b"waiting_writes", standing.writes.len() as u64),
+            (b"waiting_writes", standing.waiting_writes as u64),
             (b"waiting_for_locks", kept.queued() as u64),
             (b"connections", standing.clients as u64),
             (items_of(kept.keeps()), kept.len() as u64),
