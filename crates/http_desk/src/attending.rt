@@ -20,8 +20,6 @@ use replicated_map::ReplicatedMap;
 use std::alloc::Global;
 use std::mem::replace;
 use std::time::Duration;
-use trace_drawing::draw;
-use trace_props::Verdict;
 use vsync_text::Text;
 
 /// How many requests of a connection are answered before others have their turn.
@@ -122,15 +120,6 @@ impl Desk {
         self.of_copy(reply)
     }
 
-    // The picture of the last events.
-    fn picture(&self) -> Reply {
-        let events = self.history.events.as_slice();
-        match draw(self.alloc, events, &[], &[], Verdict::Holds) {
-            Ok(picture) => whole(Media::Svg, Text::from_vec(picture)),
-            Err(_) => Reply::short(self.alloc),
-        }
-    }
-
     // What there is for a request.
     fn find(&mut self, asked: &Asked) -> Found {
         let reply = match asked {
@@ -142,7 +131,7 @@ impl Desk {
             Asked::Status => whole(Media::Json, status(self.alloc, &self.standing())),
             Asked::Metrics => whole(Media::Metrics, metrics(self.alloc, &self.standing())),
             Asked::Events => whole(Media::Text, self.history.text()),
-            Asked::Picture => self.picture(),
+            Asked::Picture => whole(Media::Svg, self.history.picture()),
             Asked::Page => whole(Media::Html, page(self.alloc)),
             Asked::Refused(refusal) => {
                 Reply::words(self.alloc, refusal.status(), refusal.words())

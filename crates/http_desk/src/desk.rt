@@ -79,7 +79,7 @@ enum Touched<'a> {
     All,
 }
 
-// The key of the map that a message may change; all for a `clear`.
+// What a message may change in a map.
 fn touched_by<'a>(kept: &Kept, delivery: &'a Delivery) -> Touched<'a> {
     let key = match Command::decode(delivery.message.payload.as_slice()) {
         Some(Command::Put { key, .. } | Command::Replace { key, .. } | Command::Remove(key)) => key,
@@ -255,7 +255,7 @@ impl Desk {
         let reply = reply.at(self.alloc, &at);
         let is_done = reply.status == StatusCode::OK;
         match write {
-            Some(write) if is_done && write.is_stable => self.answer(ticket, reply, Some(at)),
+            Some(write) if is_done & write.is_stable => self.answer(ticket, reply, Some(at)),
             _ => self.answer(ticket, reply, None),
         }
     }
@@ -322,7 +322,7 @@ impl Desk {
     pub(crate) fn is_stable(&self, at: &Tag) -> bool {
         match (self.counts.view, self.stable) {
             (Some(now), _) if now != at.view => true,
-            (Some(_), Some((view, count))) => view == at.view && at.place <= count,
+            (Some(_), Some((view, count))) => (view == at.view) & (at.place <= count),
             _ => false,
         }
     }

@@ -4,7 +4,10 @@ use crate::EVENTS;
 use address::{Address, Bytes, ViewId};
 use keyed_state::token_in;
 use std::alloc::{AllocError, Global};
-use trace_props::{BoxedInstall, Delivery, Event, HandedBack, Install, Message, Numbered, Sending};
+use trace_drawing::draw;
+use trace_props::{
+    BoxedInstall, Delivery, Event, HandedBack, Install, Message, Numbered, Sending, Verdict,
+};
 use view::View;
 use vsync_text::Text;
 
@@ -101,8 +104,8 @@ fn copy_of(alloc: Global, event: &Event) -> Result<Option<Event>, AllocError> {
 #[derive(Drop)]
 pub(crate) struct History {
     alloc: Global,
-    /// They, the oldest first.
-    pub(crate) events: Vec<Event>,
+    // The oldest first.
+    events: Vec<Event>,
 }
 
 impl History {
@@ -122,6 +125,18 @@ impl History {
             self.events.push(copy)?;
         }
         Ok(())
+    }
+
+    /// Their picture.
+    pub(crate) fn picture(&self) -> Text {
+        match draw(self.alloc, self.events.as_slice(), &[], &[], Verdict::Holds) {
+            Ok(picture) => Text::from_vec(picture),
+            Err(_) => {
+                let mut short = Text::new(self.alloc);
+                short.refuse();
+                short
+            }
+        }
     }
 
     /// A line for each, as in a trace.

@@ -111,13 +111,6 @@ impl Reply {
         Reply::words(alloc, status, words_of(status))
     }
 
-    /// Memory was refused to what is answered.
-    pub(crate) fn short(alloc: Global) -> Reply {
-        let mut body = Text::new(alloc);
-        body.refuse();
-        Reply::of(StatusCode::SERVICE_UNAVAILABLE, Media::Text, body)
-    }
-
     /// A value, whose entity tag is its version.
     pub(crate) fn held(alloc: Global, status: StatusCode, held: &Held) -> Reply
         ensures says { Says status held.now.value result }
