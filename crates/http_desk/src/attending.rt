@@ -93,15 +93,6 @@ impl Desk {
         self.of_kept(body)
     }
 
-    // What changed behind a place, if anything did; 410 where that is not known.
-    fn changes_after(&self, after: Option<&Tag>) -> Option<Reply> {
-        match self.changes.since(after) {
-            Some([]) => None,
-            Some(changes) => Some(self.changed(changes)),
-            None => Some(self.of_copy(Reply::plain(self.alloc, StatusCode::GONE))),
-        }
-    }
-
     // A lock.
     fn lock(&self, name: &[u8]) -> Reply {
         let reply = match self.kept.lock(name) {
@@ -176,15 +167,15 @@ impl Desk {
         Found::Hold(Hold::Ticket { ticket, until, end })
     }
 
-    // What changed behind a place, or the wait for it; if nothing did in time, that.
+    // What changed behind a place, or the wait for it; if nothing did in time, that; 410 where the place is not known.
     fn of_change(&self, after: Option<Tag>, until: Duration) -> Found {
-        if let Some(reply) = self.changes_after(after.as_ref()) {
-            return Found::Reply(reply);
-        }
-        if (self.now >= until) | self.has_ended {
-            return Found::Reply(self.changed(&[]));
-        }
-        Found::Hold(Hold::Change { after, until })
+        let is_over = (self.now >= until) | self.has_ended;
+        let reply = match self.changes.since(after.as_ref()) {
+            Some([]) if !is_over => return Found::Hold(Hold::Change { after, until }),
+            Some(changes) => self.changed(changes),
+            None => self.of_copy(Reply::plain(self.alloc, StatusCode::GONE)),
+        };
+        Found::Reply(reply)
     }
 
     // What there is for a connection that waits.

@@ -163,6 +163,6 @@ impl Reply {
     pub(crate) fn is_short(&self) -> bool
         ensures { result ≡ false → self.now.body.is_short ≡ false }
     {
-        self.body.is_short() || lacks(&self.tag) || lacks(&self.place)
+        self.body.is_short() | lacks(&self.tag) | lacks(&self.place)
     }
 }
