@@ -1,7 +1,8 @@
 -- What a step of the member leaves of a channel, and what its callers know of it.
-use Rattle.std.proofs.Common.{◌≡◌, ◌++◌, Bool, true, false, cond, Option, Some, None, Result, Ok, Err, inl, inr, ◌⊎◌, is_some, refl, sym, ap, ◌∙◌, subst}
+use Rattle.std.proofs.Common.{◌≡◌, ◌++◌, Bool, true, false, cond, Option, Some, None, Result, Ok, Err, inl, inr, ◌⊎◌, is_some, OnOk, refl, sym, ap, ◌∙◌, subst}
 use Rattle.std.specs.Prelude.{MatchBool}
 use Rattle.std.specs.Option.{IsSomeAnd, option_map, option_map_or}
+use Rattle.std.specs.Result.{result_err}
 use Rattle.std.proofs.lemmas.Option.{same_Some}
 use Rattle.address.specs.declared.refusal.Refusal.{Refusal}
 use Rattle.address.specs.declared.refusal.Refusal.TheVariants.{NotConnected, Closed, Memory}
@@ -124,5 +125,6 @@ module _ {S : Type 0} (meaning : Meaning S) where
   left-at Ended c new x = absurd (cc)
 
   -- after a leave that is taken it has ended
-  pub has-left : (c new : ChannelModel S) → Calls meaning Leave c None new → new.stage ≡ Ended
-  has-left c new x = left-at c.stage c new x
+  pub has-left : {A : Type 0} (c new : ChannelModel S) (r : Result A Error) → Calls meaning Leave c (result_err r) new → OnOk r (new.stage ≡ Ended)
+  has-left c new (Ok done) x = left-at c.stage c new x
+  has-left c new (Err e) x = tt

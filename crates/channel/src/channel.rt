@@ -77,8 +77,7 @@ impl<R: Receiver> Channel<R> {
         ensures left { IfErr result (λ e. self.new ≡ left_by e self.old) }
     {
         self.stage.begin(self.alloc, self.address, name)?;
-        self.call(&Input::Create)?;
-        Ok(())
+        self.act(&Input::Create)
     }
 
     /// Asks the member of a contact's address to be let into the group of this name (docs/PROTOCOL.md, "Joining"). Called again under that name while it has no
@@ -91,8 +90,7 @@ impl<R: Receiver> Channel<R> {
         if !self.stage.is_in(name) {
             self.stage.begin(self.alloc, self.address, name)?;
         }
-        self.call(&Input::Join(contact))?;
-        Ok(())
+        self.act(&Input::Join(contact))
     }
 
     /// Sends a message in its view, and answers the message's number there (docs/PROTOCOL.md, "Sending"); its first event is that it was sent. A refused payload
@@ -118,8 +116,7 @@ impl<R: Receiver> Channel<R> {
         ensures ended { OnOk result (self.new.stage ≡ Ended) }
         ensures left { IfErr result (λ e. self.new ≡ left_by e self.old) }
     {
-        self.call(&Input::Leave)?;
-        Ok(())
+        self.act(&Input::Leave)
     }
 
     /// Takes a datagram that came (docs/PROTOCOL.md, "Which packets are ignored"), and answers what packet it spelled, where that is of this group, to this
@@ -141,8 +138,7 @@ impl<R: Receiver> Channel<R> {
         ensures calls { Calls R.meaning (input.Suspect address) self.old (result_err result) self.new }
         ensures left { IfErr result (λ e. self.new ≡ left_by e self.old) }
     {
-        self.call(&Input::Suspect(address))?;
-        Ok(())
+        self.act(&Input::Suspect(address))
     }
 
     /// Tells it that a member of another view of the group may be reached at an address (docs/PROTOCOL.md, "Merging"). Refused with 1 before a connect, with 6 after
@@ -151,8 +147,7 @@ impl<R: Receiver> Channel<R> {
         ensures calls { Calls R.meaning (input.MergeHint address) self.old (result_err result) self.new }
         ensures left { IfErr result (λ e. self.new ≡ left_by e self.old) }
     {
-        self.call(&Input::MergeHint(address))?;
-        Ok(())
+        self.act(&Input::MergeHint(address))
     }
 
     /// Tells it that time passes: what may be lost is put out again (docs/PROTOCOL.md, "Ticks"). Refused with 1 before a connect, with 6 after its end, and with 7
@@ -161,8 +156,7 @@ impl<R: Receiver> Channel<R> {
         ensures calls { Calls R.meaning input.Tick self.old (result_err result) self.new }
         ensures left { IfErr result (λ e. self.new ≡ left_by e self.old) }
     {
-        self.call(&Input::Tick)?;
-        Ok(())
+        self.act(&Input::Tick)
     }
 
     /// Whose silence would hold up its view, so that a failure detector should watch them (docs/PROTOCOL.md, "Watched"). Refused with 1 before a connect, with 6
@@ -232,6 +226,15 @@ impl<R: Receiver> Channel<R> {
         ensures others { self.new ≡ record self.old { happened = self.new.happened } }
     {
         self.happened.pop_front()
+    }
+
+    // One step of its member by which no message is sent.
+    fn act(&mut self, input: &Input<'_>) -> Result<(), Error>
+        ensures calls { Calls R.meaning input.now self.old (result_err result) self.new }
+        ensures left { IfErr result (λ e. self.new ≡ left_by e self.old) }
+    {
+        self.call(input)?;
+        Ok(())
     }
 
     // One step of its member; it answers the number of the message that was sent by it.

@@ -1,4 +1,4 @@
-use Rattle.std.proofs.Common.{None, sym, ◌∙◌}
+use Rattle.std.proofs.Common.{sym, ◌∙◌}
 use Rattle.member.specs.declared.input.Input.TheVariants.{Join}
 use Rattle.channel.proofs.ConnectsStart.{reconnected, asked-again}
 use Rattle.channel.proofs.channel.Channel.connect_to.Goals as goal
@@ -9,8 +9,8 @@ pub returns-clause-connects : goal.returns-clause-connects
 returns-clause-connects g c = elim c.if-not-is_in.branch [
   | then-not-is_in+in_ok-begin w ↦
       rw (← c.self.view_is) (reconnected g.R.Receiver.meaning (Join c.args.contact) c.args.name.now _ c.if-not-is_in.self w.begin.new.self w.begin.result
-      w.in_ok-begin.field-0 None _ (sym c.is_in.ensures ∙ w.if-not-is_in.true) w.begin.ensures w.in_ok-begin.was w.self-is c.in_ok-call.ensures.calls)
+      w.in_ok-begin.field-0 _ _ (sym c.is_in.ensures ∙ w.if-not-is_in.true) w.begin.ensures w.in_ok-begin.was w.self-is c.act.ensures.calls)
   | else-not-is_in w ↦
-      rw (← c.self.view_is) (asked-again g.R.Receiver.meaning (Join c.args.contact) c.args.name.now _ c.if-not-is_in.self None _
-      (sym c.is_in.ensures ∙ w.if-not-is_in.false) (w.self-is ∙ sym c.self.view_is) c.in_ok-call.ensures.calls)
+      rw (← c.self.view_is) (asked-again g.R.Receiver.meaning (Join c.args.contact) c.args.name.now _ c.if-not-is_in.self _ _
+      (sym c.is_in.ensures ∙ w.if-not-is_in.false) (w.self-is ∙ sym c.self.view_is) c.act.ensures.calls)
 ]

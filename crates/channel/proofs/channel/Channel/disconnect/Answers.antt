@@ -2,4 +2,4 @@ use Rattle.channel.proofs.StepsOfChannels.{has-left}
 use Rattle.channel.proofs.channel.Channel.disconnect.Goals as goal
 
 pub returns-clause-ended : goal.returns-clause-ended
-returns-clause-ended g c = has-left g.R.Receiver.meaning _ _ c.in_ok-call.ensures.calls
+returns-clause-ended g c = has-left g.R.Receiver.meaning _ _ c.act.result c.act.ensures.calls
