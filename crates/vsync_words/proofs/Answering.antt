@@ -1,21 +1,21 @@
 -- From the subcommand that was said to the command that it is, and the errors of words.
-use Rattle.std.proofs.Common.{◌≡◌, ◌∙◌, true, false, refl, sym, ap, subst, codes, List, [], ◌∷◌, Option, Some, None, Result, Ok, Err, IfOk, IsSomeAnd, inl, inr}
+use Rattle.std.proofs.Common.{◌≡◌, ◌∙◌, true, false, refl, sym, ap, subst, codes, List, [], ◌∷◌, Option, Some, None, Result, Ok, Err, IfOk, IfSome, IsSomeAnd, inl, inr}
 use Rattle.std.specs.Prelude.{unwrap_or, option_and_then, find}
-use Rattle.std.specs.Option.{option_map_or}
+use Rattle.std.specs.Option.{MatchOption}
 use Rattle.std.specs.Result.{IsErrAnd}
 use Rattle.std.specs.Str.{bytes_eq}
 use Rattle.std.proofs.lemmas.Slice.Eq.{bytes_eq-Decides}
 use Rattle.clap.specs.Kinds.{or_else}
 use Rattle.clap.specs.Words.{FailsBy, HasKind, Kinds, Row, Text, first_of, kind_of, subcommand_of}
 use Rattle.clap.specs.declared.error.Error.{Error}
-use Rattle.clap.specs.declared.error.kind.ErrorKind.TheVariants.{OutOfMemory, UnknownArgument}
+use Rattle.clap.specs.declared.error.kind.ErrorKind.TheVariants.{OutOfMemory}
 use Rattle.vsync_words.specs.declared.kept_words.Kept.{Kept}
 use Rattle.vsync_words.specs.declared.text_words.Task.{Task}
 use Rattle.vsync_words.specs.declared.words.Invocation.{Invocation}
 use Rattle.vsync_words.specs.declared.words.Invocation.TheVariants.{Text as TextOf, Processes, Udp, Member, Explain}
 use Rattle.vsync_words.specs.Grammar.{program_app}
 use Rattle.vsync_words.specs.Kept.{flags_said, stands}
-use Rattle.vsync_words.specs.Words.{faults_of, is_stray, stray_fault, task_said, tasks, text_argument, AreProcessesOn, IsExplainOn, IsOrNoMemory, IsSaid, IsTextOn, IsUdpOn}
+use Rattle.vsync_words.specs.Words.{faults_of, task_said, tasks, text_argument, AreProcessesOn, IsExplainOn, IsOrNoMemory, IsSaid, IsTextOn, IsUdpOn}
 use Rattle.vsync_words.proofs.OnePath.{Reads, Telling, text_told, text_wanted}
 use Rattle.vsync_words.proofs.SeveralPaths.{NamesTexts}
 use Rattle.vsync_words.proofs.TwoPaths.{Names}
@@ -74,6 +74,12 @@ said_explain code said (Udp words) told is = absurd (other_name said (codes "exp
 said_explain code said (Member words) told is = absurd (other_name said (codes "explain") (codes "member") told.0 is.0 refl)
 said_explain code said (Explain asked) told is = one_value _ code asked.now told.1 is.1
 
+-- what holds of each value that is mapped holds of what comes of it
+pub if_mapped : {X Y : Type 0} (o : Option X) (r : Option Y) (f : X → Y) (P : X → Type 0) (Q : Y → Type 0) → MatchOption o (r ≡ None) (λ x. IsSomeAnd r (λ y. y ≡ f x)) → IfSome o P → ((x : X) → P x → Q (f x)) → IfSome r Q
+if_mapped None r f P Q m p q = subst (λ s. IfSome s Q) (sym m) tt
+if_mapped (Some x) None f P Q m p q = tt
+if_mapped (Some x) (Some y) f P Q m p q = subst Q (sym m) (q x p)
+
 -- where the words have no fault, an error is for want of memory
 by_memory : (e : Error) → HasKind [] e → kind_of e ≡ OutOfMemory
 by_memory e (inl memory) = memory
@@ -91,18 +97,11 @@ answered (Ok i) words was Told IsIt same reads is said fails =
     both (Some s) told was_said = is s i told was_said
 answered (Err e) words was Told IsIt same reads is said fails = by_memory e (subst (λ (k : Kinds). HasKind k e) (ap faults_of same ∙ reads.0) fails)
 
--- clap's errors, and those of a trace that nothing reads, are errors of the words
+-- clap's errors are errors of the words
 pub by_clap : (kinds more : Kinds) (e : Error) → HasKind kinds e → HasKind (or_else kinds more) e
 by_clap [] more e (inl memory) = inl memory
 by_clap [] more e (inr other) = absurd other
 by_clap (k ∷ ks) more e has = has
-
-pub by_stray : (kinds : Kinds) (said : Option (Text × List Row)) (e : Error) → kinds ≡ [] → option_map_or is_stray said false ≡ true → HasKind (UnknownArgument ∷ []) e
-    → HasKind (or_else kinds (stray_fault said)) e
-by_stray kinds said e none stray has = rw (none, stray) has
-
-pub none_stray : (kinds : Kinds) (said : Option (Text × List Row)) → kinds ≡ [] → option_map_or is_stray said false ≡ false → or_else kinds (stray_fault said) ≡ []
-none_stray kinds said none stray = rw (none, stray) refl
 
 -- an error that is handed on keeps its kind
 pub fails_as : (kinds : Kinds) (r : Result Invocation Error) (e : Error) → IsErrAnd r (λ x. x ≡ e) → HasKind kinds e → FailsBy kinds r

@@ -1,5 +1,6 @@
 -- The grammar of the command line, in clap's words.
 use Rattle.std.specs.Prelude.{◌≡◌, ◌∷◌, ◌++◌, ℕ, List, false, true, [], Some, codes, fold}
+use Rattle.std.specs.Borrow.{Bor}
 use Rattle.vsync_words.specs.declared.arguments.Form.{Form}
 use Rattle.vsync_words.specs.declared.arguments.Form.TheVariants.{Flag, Value, Values, Number, Word, Words, NumberWord}
 use Rattle.vsync_words.specs.declared.arguments.Row.{Row}
@@ -75,8 +76,8 @@ IsCommand app c = (app_of c ≡ app) × ((out-Command c).has_globals ≡ false)
 abbrev pub with_command : App → App → App
 with_command program command = with_subcommand program command.top
 
-abbrev pub with_subcommand_row : App → Subcommand → App
-with_subcommand_row program s = with_command program (app_of_subcommand s)
+abbrev pub with_subcommand_row : App → Bor Subcommand → App
+with_subcommand_row program s = with_command program (app_of_subcommand s.now)
 
 -- a program that requires a subcommand, with none yet
 abbrev pub program_of_subcommands : Text → App

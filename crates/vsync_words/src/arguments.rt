@@ -1,8 +1,7 @@
 //! The arguments of a command, a row each.
 
-ghost use Rattle.std.specs.Prelude.{fold, IfOk};
-ghost use Rattle.clap.specs.Words.{App};
-ghost use Rattle.vsync_words.specs.Grammar.{app_of_subcommand, flag_rule, option_rule, required_rule, rule_of_row, with_row, IsArg, IsCommand};
+ghost use Rattle.std.specs.Prelude.{IfOk};
+ghost use Rattle.vsync_words.specs.Grammar.{app_of_subcommand, rule_of_row, IsArg, IsCommand};
 
 use clap::builder::ValueParser;
 use clap::{Arg, ArgAction};
@@ -35,65 +34,28 @@ pub(crate) struct Row<'a> {
     pub help: &'a str,
 }
 
-// A flag.
-fn flag<'a>(alloc: Global, row: &Row<'a>) -> Arg<'a>
-    ensures { IsArg (flag_rule row.now.name.now) result }
-{
-    Arg::new(alloc, row.name)
-        .long(row.name)
-        .action(ArgAction::SetTrue)
-        .help(row.help)
-}
-
-// An option with a value.
-fn option<'a>(alloc: Global, row: &Row<'a>, value: &'a str) -> Arg<'a>
-    ensures { IsArg (option_rule row.now.name.now) result }
-{
-    Arg::new(alloc, row.name)
-        .long(row.name)
-        .value_name(value)
-        .help(row.help)
-}
-
-// A word that is required.
-fn required<'a>(alloc: Global, row: &Row<'a>) -> Arg<'a>
-    ensures { IsArg (required_rule row.now.name.now) result }
-{
-    Arg::new(alloc, row.name).required(true).help(row.help)
-}
-
 // The argument of a row, as clap reads it.
 fn argument<'a>(alloc: Global, row: &Row<'a>) -> Arg<'a>
     ensures { IsArg (rule_of_row row.now) result }
 {
+    let arg = Arg::new(alloc, row.name).help(row.help);
     match row.form {
-        Form::Flag => flag(alloc, row),
-        Form::Value(value) => option(alloc, row, value),
-        Form::Values(value) => option(alloc, row, value).action(ArgAction::Append),
-        Form::Number(value, low, high) => {
-            option(alloc, row, value).value_parser(ValueParser::unsigned(low, high))
-        }
-        Form::Word => required(alloc, row),
-        Form::Words => required(alloc, row).action(ArgAction::Append),
-        Form::NumberWord(low, high) => {
-            required(alloc, row).value_parser(ValueParser::unsigned(low, high))
-        }
+        Form::Flag => arg.long(row.name).action(ArgAction::SetTrue),
+        Form::Value(value) => arg.long(row.name).value_name(value),
+        Form::Values(value) => arg
+            .long(row.name)
+            .value_name(value)
+            .action(ArgAction::Append),
+        Form::Number(value, low, high) => arg
+            .long(row.name)
+            .value_name(value)
+            .value_parser(ValueParser::unsigned(low, high)),
+        Form::Word => arg.required(true),
+        Form::Words => arg.required(true).action(ArgAction::Append),
+        Form::NumberWord(low, high) => arg
+            .required(true)
+            .value_parser(ValueParser::unsigned(low, high)),
     }
-}
-
-// A command with the arguments of these rows as well, in their order.
-fn with_rows<'a>(
-    alloc: Global,
-    command: clap::Command<'a>,
-    rows: &[Row<'a>],
-) -> Result<clap::Command<'a>, AllocError>
-    ensures { (app : App) → IsCommand app command.entry → IfOk result (IsCommand (fold with_row app rows.now)) }
-{
-    let mut command = command;
-    for row in rows {
-        command = command.arg(argument(alloc, row))?;
-    }
-    Ok(command)
 }
 
 /// A subcommand: its name, what help says before its arguments and after them, and its arguments.
@@ -112,8 +74,11 @@ pub(crate) fn command_of<'a>(
 ) -> Result<clap::Command<'a>, AllocError>
     ensures { IfOk result (IsCommand (app_of_subcommand subcommand.now)) }
 {
-    let command = clap::Command::new(alloc, subcommand.name)
+    let mut command = clap::Command::new(alloc, subcommand.name)
         .about(subcommand.about)
         .after_help(subcommand.after_help);
-    with_rows(alloc, command, subcommand.arguments)
+    for row in subcommand.arguments {
+        command = command.arg(argument(alloc, row))?;
+    }
+    Ok(command)
 }

@@ -92,7 +92,7 @@ pub(crate) fn kept_flags(name: &str, matches: &ArgMatches<'_>) -> KeptFlags
 {
     KeptFlags {
         long: stands(matches, "long"),
-        map: name == "map" || stands(matches, "map"),
-        locks: name == "locks" || stands(matches, "locks"),
+        map: (name == "map") | stands(matches, "map"),
+        locks: (name == "locks") | stands(matches, "locks"),
     }
 }

@@ -1,10 +1,9 @@
 ghost use Rattle.std.specs.Prelude.{◌≡◌, ◌≤◌, ◌<◌, ◌∷◌, ◌++◌, [], List, Some, true, false, length, map, codes, fold, is_some, string_bytes, IfOk, IfSome, IsOkAnd, IsSomeAnd};
 ghost use Rattle.std.specs.List.{list_all};
-ghost use Rattle.std.specs.Option.{option_map_or};
 ghost use Rattle.vsync_words.specs.declared.kept_words.Kept.{Kept};
 ghost use Rattle.vsync_words.specs.declared.text_words.Task.{Task};
 ghost use Rattle.clap.specs.Words.{App, app_of, first_of, found_of, rows_of, subcommand_of, subcommand_rows_of, FailsBy, Text};
-ghost use Rattle.vsync_words.specs.Words.{faults_of, is_path, is_stray, words_for, words_for_processes, AreProcessesOn, IsExplainOn, IsOrNoMemory, IsSaid, IsTextOn, IsUdpOn, RunsStandardInput};
+ghost use Rattle.vsync_words.specs.Words.{faults_of, is_path, stray_fault, words_for, words_for_processes, AreProcessesOn, IsExplainOn, IsOrNoMemory, IsSaid, IsTextOn, IsUdpOn, RunsStandardInput};
 ghost use Rattle.vsync_words.specs.Grammar.{program_app, program_of_subcommands, with_subcommand_row};
 
 use crate::arguments::{Subcommand, command_of};
@@ -34,36 +33,26 @@ pub enum Invocation<'a> {
     Explain(&'a str),
 }
 
-/// The program, which requires a subcommand, with none yet, as clap reads it.
-fn program_grammar<'a>(alloc: Global) -> Result<clap::Command<'a>, AllocError>
-    ensures { IfOk result (λ c. app_of c ≡ program_of_subcommands (codes "vsync")) }
-{
-    let program = clap::Command::new(alloc, "vsync")
-        .bin_name("vsync")?
-        .about(
-            "A virtually synchronous group channel, proved. Without words it runs `vsync world -`",
-        )
-        .after_help(
-            "Exit status: 0 done, 1 a trace breaks a rule, 2 usage, 3 the input is refused, 4 memory, 5 a file or the output failed.",
-        )
-        .subcommand_required(true);
-    Ok(program)
-}
-
 // The subcommands, in the order of the program's help.
-const SUBCOMMANDS: [Subcommand<'static>; 11] = [
-    WORLD, CHAT, PACKETS, SETTLE, CHECK, DRAW, MAP, LOCKS, UDP, MEMBER, EXPLAIN,
+const SUBCOMMANDS: [&Subcommand<'static>; 11] = [
+    &WORLD, &CHAT, &PACKETS, &SETTLE, &CHECK, &DRAW, &MAP, &LOCKS, &UDP, &MEMBER, &EXPLAIN,
 ];
+
+// The table of them, made where no command is owned.
+fn subcommands() -> [&'static Subcommand<'static>; 11]
+    ensures { fold with_subcommand_row (program_of_subcommands (codes "vsync")) result ≡ program_app }
+{
+    SUBCOMMANDS
+}
 
 // A program with these subcommands as well, in their order.
 fn with_subcommands<'a>(
     alloc: Global,
-    program: clap::Command<'a>,
-    subcommands: &[Subcommand<'a>],
+    mut program: clap::Command<'a>,
+    subcommands: &[&Subcommand<'a>],
 ) -> Result<clap::Command<'a>, AllocError>
     ensures { (whole : App) → app_of program.entry ≡ whole → IfOk result (λ c. app_of c ≡ fold with_subcommand_row whole subcommands.now) }
 {
-    let mut program = program;
     for subcommand in subcommands {
         let command = command_of(alloc, subcommand)?;
         program = program.subcommand(command)?;
@@ -75,8 +64,16 @@ fn with_subcommands<'a>(
 fn grammar<'a>(alloc: Global) -> Result<clap::Command<'a>, AllocError>
     ensures { IfOk result (λ c. app_of c ≡ program_app) }
 {
-    let program = program_grammar(alloc)?;
-    with_subcommands(alloc, program, &SUBCOMMANDS)
+    let program = clap::Command::new(alloc, "vsync")
+        .bin_name("vsync")?
+        .about(
+            "A virtually synchronous group channel, proved. Without words it runs `vsync world -`",
+        )
+        .after_help(
+            "Exit status: 0 done, 1 a trace breaks a rule, 2 usage, 3 the input is refused, 4 memory, 5 a file or the output failed.",
+        )
+        .subcommand_required(true);
+    with_subcommands(alloc, program, &subcommands())
 }
 
 // The word of a subcommand whose only argument this is.
@@ -91,44 +88,34 @@ fn only_word<'a>(matches: &ArgMatches<'a>, argument: &str) -> Option<&'a str>
 fn named<'a>(alloc: Global, name: &str, matches: &ArgMatches<'a>) -> Option<Invocation<'a>>
     ensures { IfSome result (IsSaid (name.now, rows_of (found_of matches.now))) }
 {
-    if name == "check" && stands(matches, "processes") {
-        return match processes_words(alloc, matches) {
-            Some(words) => Some(Invocation::Processes(words)),
-            None => None,
-        };
+    match name {
+        "check" if stands(matches, "processes") => {
+            processes_words(alloc, matches).map(Invocation::Processes)
+        }
+        "udp" => udp_words(matches).map(Invocation::Udp),
+        "member" => member_words(alloc, matches).map(Invocation::Member),
+        "explain" => only_word(matches, "CODE").map(Invocation::Explain),
+        _ => text_command(name, matches).map(Invocation::Text),
     }
-    if name == "udp" {
-        return Some(Invocation::Udp(udp_words(matches)?));
-    }
-    if name == "member" {
-        return match member_words(alloc, matches) {
-            Some(words) => Some(Invocation::Member(words)),
-            None => None,
-        };
-    }
-    if name == "explain" {
-        return Some(Invocation::Explain(only_word(matches, "CODE")?));
-    }
-    Some(Invocation::Text(text_command(name, matches)?))
 }
 
-/// What matches of the whole command line ask for.
-fn asked<'a>(alloc: Global, matches: &ArgMatches<'a>) -> Option<Invocation<'a>>
-    ensures { IfSome result (λ i. IsSomeAnd (subcommand_rows_of matches.now) (λ said. IsSaid said i)) }
+/// What matches of the whole command line ask for. A trace of `check` behind the first without `--processes` is refused, since nothing reads it.
+fn asked<'a>(alloc: Global, matches: &ArgMatches<'a>) -> Result<Invocation<'a>, Error>
+    ensures said { IfOk result (λ i. IsSomeAnd (subcommand_rows_of matches.now) (λ said. IsSaid said i)) }
+    ensures refused { FailsBy (stray_fault (subcommand_rows_of matches.now)) result }
 {
-    let (name, inner) = matches.subcommand()?;
-    named(alloc, name, inner)
-}
-
-// The trace behind the first of `check` without `--processes`, which nothing reads.
-fn stray_in<'a>(matches: &ArgMatches<'a>) -> Option<&'a str>
-    ensures { is_some result ≡ option_map_or is_stray (subcommand_rows_of matches.now) false }
-{
-    let (name, inner) = matches.subcommand()?;
-    if name == "check" {
-        return stray_trace(inner);
+    let Some((name, inner)) = matches.subcommand() else {
+        return Err(Error::from(AllocError));
+    };
+    if name == "check"
+        && let Some(trace) = stray_trace(inner)
+    {
+        return Err(unexpected_trace(alloc, trace));
     }
-    None
+    match named(alloc, name, inner) {
+        Some(command) => Ok(command),
+        None => Err(Error::from(AllocError)),
+    }
 }
 
 /// The command that words ask for by the grammar.
@@ -138,13 +125,7 @@ fn parsed<'a>(alloc: Global, words: &'a [String]) -> Result<Invocation<'a>, Erro
     ensures refused { FailsBy (faults_of (map string_bytes words.now)) result }
 {
     let matches = grammar(alloc)?.try_get_matches_from(words)?;
-    if let Some(trace) = stray_in(&matches) {
-        return Err(unexpected_trace(alloc, trace));
-    }
-    match asked(alloc, &matches) {
-        Some(command) => Ok(command),
-        None => Err(Error::from(AllocError)),
-    }
+    asked(alloc, &matches)
 }
 
 /// The command that the words of a command line ask for, the program's name first: `world [--long] SCRIPT`, `chat [--long] SCRIPT`,
