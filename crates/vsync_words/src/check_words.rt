@@ -38,7 +38,7 @@ const CHECKED: [Row<'static>; 5] = [
 ];
 
 /// The subcommand `check`.
-pub(crate) const CHECK: Subcommand<'static> = Subcommand {
+pub(crate) const CHECK: &Subcommand<'static> = &Subcommand {
     name: "check",
     about: "Checks whether a trace is virtually synchronous",
     after_help: "The trace has a line for each event, as `vsync world` prints it; empty lines and lines that begin with # are skipped.\nIt prints `holds`, or `broken RULE PLACE`: the rule that breaks first, and the length of the shortest beginning that breaks one.\n\nExamples:\n  vsync check examples/hello.trace\n  vsync check --processes one.text two.text\n  vsync check --map --processes one.text two.text",
@@ -69,15 +69,12 @@ pub(crate) fn stray_trace<'a>(matches: &ArgMatches<'a>) -> Option<&'a str>
     let Some(traces) = matches.get_strs("TRACE") else {
         return None;
     };
-    match traces.get(1) {
-        Some(second) => Some(*second),
-        None => None,
-    }
+    traces.get(1).copied()
 }
 
 // `check` as clap reads it, under its whole name.
 fn named_check<'a>(alloc: Global) -> Result<clap::Command<'a>, AllocError> {
-    command_of(alloc, &CHECK)?.bin_name("vsync check")
+    command_of(alloc, CHECK)?.bin_name("vsync check")
 }
 
 // What clap says of a word that it does not expect, of a trace that nothing reads.

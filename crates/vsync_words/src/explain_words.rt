@@ -10,7 +10,7 @@ const EXPLAINED: [Row<'static>; 1] = [Row {
 }];
 
 /// The subcommand `explain`.
-pub(crate) const EXPLAIN: Subcommand<'static> = Subcommand {
+pub(crate) const EXPLAIN: &Subcommand<'static> = &Subcommand {
     name: "explain",
     about: "Explains the number of a refusal, or a word that `vsync check` prints",
     after_help: "It prints what the code means, what causes it, and what to do.\n\nExamples:\n  vsync explain 41\n  vsync explain D9",

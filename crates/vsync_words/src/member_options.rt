@@ -217,7 +217,7 @@ const WORDS: [Row<'static>; 26] = [
 ];
 
 /// The subcommand `member`.
-pub(crate) const MEMBER: Subcommand<'static> = Subcommand {
+pub(crate) const MEMBER: &Subcommand<'static> = &Subcommand {
     name: "member",
     about: "Runs one node over UDP by itself, and prints its trace as it happens and its chat",
     after_help: "It joins the group of the contact's member, or makes a group of itself alone. It handles datagrams as they come, and has a round each tick.\n\nExample, in two terminals:\n  vsync member examples/four.toml 1 1 1000 --send hello\n  vsync member examples/four.toml 2 1 1000 --contact 1.1",
@@ -233,7 +233,8 @@ fn number_of(matches: &ArgMatches<'_>, name: &str, low: u64, high: u64) -> Optio
         return Some(None);
     }
     let number: u16 = matches.get_one(name)?;
-    if u64::from(number) < low || u64::from(number) > high {
+    let value = u64::from(number);
+    if (value < low) | (value > high) {
         return None;
     }
     Some(Some(number))

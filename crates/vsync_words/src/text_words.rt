@@ -77,7 +77,7 @@ const DRAWN: [Row<'static>; 6] = [
 ];
 
 /// The subcommand `world`.
-pub(crate) const WORLD: Subcommand<'static> = Subcommand {
+pub(crate) const WORLD: &Subcommand<'static> = &Subcommand {
     name: "world",
     about: "Runs a script of members in a world, and prints the trace of what happened",
     after_help: "The script has a line for each event: start N, create N, join N ADDR, send N TEXT, deliver K, tick N, leave N, crash N.\nIt prints a line for each event, and `# refused LINE NUMBER` for each event that is refused.\n\nExample:\n  vsync world examples/hello.script",
@@ -85,7 +85,7 @@ pub(crate) const WORLD: Subcommand<'static> = Subcommand {
 };
 
 /// The subcommand `chat`.
-pub(crate) const CHAT: Subcommand<'static> = Subcommand {
+pub(crate) const CHAT: &Subcommand<'static> = &Subcommand {
     name: "chat",
     about: "Runs a script as `world` does, and prints the chat of each running member",
     after_help: "It prints `chat ADDR LINES` for each member that runs at the end. LINES is `-`, or `ADDR:hex` joined by commas, the oldest line first.\n\nExample:\n  vsync chat examples/hello.script",
@@ -93,7 +93,7 @@ pub(crate) const CHAT: Subcommand<'static> = Subcommand {
 };
 
 /// The subcommand `packets`.
-pub(crate) const PACKETS: Subcommand<'static> = Subcommand {
+pub(crate) const PACKETS: &Subcommand<'static> = &Subcommand {
     name: "packets",
     about: "Runs a script as `world` does, and prints each packet that was put out",
     after_help: "It prints `NUMBER KIND SOURCE DESTINATION HEX` for each packet, in order. NUMBER counts from 1, and HEX is all of the packet's bytes.\n\nExample:\n  vsync packets examples/join.script",
@@ -101,7 +101,7 @@ pub(crate) const PACKETS: Subcommand<'static> = Subcommand {
 };
 
 /// The subcommand `settle`.
-pub(crate) const SETTLE: Subcommand<'static> = Subcommand {
+pub(crate) const SETTLE: &Subcommand<'static> = &Subcommand {
     name: "settle",
     about: "Runs a script as `world` does, completes the changes of view that can complete, and prints the trace",
     after_help: "A change of view completes by a tick of the member that has begun it, and by the deliveries that come of that, if all on its list run and would follow. This is done node by node.\n\nExample:\n  vsync settle examples/join.script",
@@ -109,7 +109,7 @@ pub(crate) const SETTLE: Subcommand<'static> = Subcommand {
 };
 
 /// The subcommand `draw`.
-pub(crate) const DRAW: Subcommand<'static> = Subcommand {
+pub(crate) const DRAW: &Subcommand<'static> = &Subcommand {
     name: "draw",
     about: "Draws what happens in a script's run, or what a trace says, as an SVG",
     after_help: "Time goes down: a row for each event, a column for each member.\n\nExamples:\n  vsync draw examples/merge.script\n  vsync draw --packets examples/lost.script\n  vsync draw --trace examples/merge.trace\n  vsync draw --map examples/map/newcomer.script",
@@ -117,7 +117,7 @@ pub(crate) const DRAW: Subcommand<'static> = Subcommand {
 };
 
 /// The subcommand `map`.
-pub(crate) const MAP: Subcommand<'static> = Subcommand {
+pub(crate) const MAP: &Subcommand<'static> = &Subcommand {
     name: "map",
     about: "Runs a script as `world` does, whose members keep a map, and prints the map of each running member",
     after_help: "What is sent is put KEY VALUE, remove KEY, replace KEY OLD NEW (OLD is - where no value is expected) or clear.\nIt prints `map ADDR ENTRIES` for each member that runs at the end. ENTRIES is `-`, or `hex:hex` joined by commas, keys and values, the keys rising.\n\nExample:\n  vsync map examples/map/newcomer.script",
@@ -125,7 +125,7 @@ pub(crate) const MAP: Subcommand<'static> = Subcommand {
 };
 
 /// The subcommand `locks`.
-pub(crate) const LOCKS: Subcommand<'static> = Subcommand {
+pub(crate) const LOCKS: &Subcommand<'static> = &Subcommand {
     name: "locks",
     about: "Runs a script as `world` does, whose members keep a table of locks, and prints the table of each running member",
     after_help: "What is sent is acquire VIEW NAME, release VIEW NAME or roll VIEW MEMBERS.\nIt prints `locks ADDR TOKEN LOCK ..` for each member that runs at the end: the last token, and NAME:HOLDER:TOKEN:WAITERS for each lock that is held, NAME in hexadecimal.\n\nExample:\n  vsync locks examples/locks/killed.script",

@@ -125,7 +125,7 @@ pub(crate) const CONFIG: Row<'static> = Row {
 const UDP_PATHS: [Row<'static>; 2] = [CONFIG, SCRIPT];
 
 /// The subcommand `udp`.
-pub(crate) const UDP: Subcommand<'static> = Subcommand {
+pub(crate) const UDP: &Subcommand<'static> = &Subcommand {
     name: "udp",
     about: "Runs nodes over UDP in one process by a script, and prints the trace and the chats",
     after_help: "The script has a line for each event: start N, create N, join N ADDR, send N TEXT, suspect N ADDR, hint N ADDR, leave N, crash N,\nand rounds K for K rounds of each running node.\n\nExample:\n  vsync udp examples/four.toml examples/merge.udp",

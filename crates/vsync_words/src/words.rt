@@ -35,7 +35,7 @@ pub enum Invocation<'a> {
 
 // The subcommands, in the order of the program's help.
 const SUBCOMMANDS: [&Subcommand<'static>; 11] = [
-    &WORLD, &CHAT, &PACKETS, &SETTLE, &CHECK, &DRAW, &MAP, &LOCKS, &UDP, &MEMBER, &EXPLAIN,
+    WORLD, CHAT, PACKETS, SETTLE, CHECK, DRAW, MAP, LOCKS, UDP, MEMBER, EXPLAIN,
 ];
 
 // The table of them, made where no command is owned.
