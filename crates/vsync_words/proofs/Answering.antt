@@ -1,7 +1,6 @@
 -- From the subcommand that was said to the command that it is, and the errors of words.
-use Rattle.std.proofs.Common.{◌≡◌, ◌∙◌, true, false, refl, sym, ap, subst, codes, List, [], ◌∷◌, Option, Some, None, Result, Ok, Err, IfOk, IfSome, IsSomeAnd, inl, inr}
+use Rattle.std.proofs.Common.{◌≡◌, ◌∙◌, true, false, refl, sym, ap, subst, codes, List, [], ◌∷◌, Option, Some, None, Result, Ok, Err, IfOk, IsSomeAnd, inl, inr}
 use Rattle.std.specs.Prelude.{unwrap_or, option_and_then, find}
-use Rattle.std.specs.Option.{MatchOption}
 use Rattle.std.specs.Result.{IsErrAnd}
 use Rattle.std.specs.Str.{bytes_eq}
 use Rattle.std.proofs.lemmas.Slice.Eq.{bytes_eq-Decides}
@@ -73,12 +72,6 @@ said_explain code said (Processes words) told is = absurd (other_name said (code
 said_explain code said (Udp words) told is = absurd (other_name said (codes "explain") (codes "udp") told.0 is.0 refl)
 said_explain code said (Member words) told is = absurd (other_name said (codes "explain") (codes "member") told.0 is.0 refl)
 said_explain code said (Explain asked) told is = one_value _ code asked.now told.1 is.1
-
--- what holds of each value that is mapped holds of what comes of it
-pub if_mapped : {X Y : Type 0} (o : Option X) (r : Option Y) (f : X → Y) (P : X → Type 0) (Q : Y → Type 0) → MatchOption o (r ≡ None) (λ x. IsSomeAnd r (λ y. y ≡ f x)) → IfSome o P → ((x : X) → P x → Q (f x)) → IfSome r Q
-if_mapped None r f P Q m p q = subst (λ s. IfSome s Q) (sym m) tt
-if_mapped (Some x) None f P Q m p q = tt
-if_mapped (Some x) (Some y) f P Q m p q = subst Q (sym m) (q x p)
 
 -- where the words have no fault, an error is for want of memory
 by_memory : (e : Error) → HasKind [] e → kind_of e ≡ OutOfMemory

@@ -2,7 +2,9 @@
 use Rattle.std.specs.Prelude.{◌≡◌, ◌∷◌, ◌++◌, ℕ, List, false, true, [], Some, codes, fold}
 use Rattle.std.specs.Borrow.{Bor}
 use Rattle.vsync_words.specs.declared.arguments.Form.{Form}
-use Rattle.vsync_words.specs.declared.arguments.Form.TheVariants.{Flag, Value, Values, Number, Word, Words, NumberWord}
+use Rattle.vsync_words.specs.declared.arguments.Form.TheVariants.{Flag, Value, Word}
+use Rattle.vsync_words.specs.declared.arguments.Takes.{Takes}
+use Rattle.vsync_words.specs.declared.arguments.Takes.TheVariants.{One, Several, Number}
 use Rattle.vsync_words.specs.declared.arguments.Row.{Row}
 use Rattle.vsync_words.specs.declared.arguments.Subcommand.{Subcommand}
 use Rattle.clap.specs.Words.{App, Rule, Text, app_of, new_app, new_rule, rule_of, with_rule, with_subcommand}
@@ -40,15 +42,16 @@ repeated_rule name = record (option_rule name) { action = Some Append }
 abbrev pub flag_rule : Text → Rule
 flag_rule name = record (new_rule name) { long = Some name; action = Some SetTrue }
 
--- the rule of an argument by what stands there of it; and by its row
+-- the rule of an argument by what may be its value, by what stands there of it, and by its row
+abbrev pub taking : Rule → Takes → Rule
+taking rule One = rule
+taking rule Several = record rule { action = Some Append }
+taking rule (Number low high) = record rule { parser = Some (Unsigned low high) }
+
 abbrev pub rule_by_form : Text → Form → Rule
 rule_by_form name Flag = flag_rule name
-rule_by_form name (Value _) = option_rule name
-rule_by_form name (Values _) = repeated_rule name
-rule_by_form name (Number _ low high) = numeric_rule name low high
-rule_by_form name Word = required_rule name
-rule_by_form name Words = several_rule name
-rule_by_form name (NumberWord low high) = number_rule name low high
+rule_by_form name (Value _ takes) = taking (option_rule name) takes
+rule_by_form name (Word takes) = taking (required_rule name) takes
 
 abbrev pub rule_of_row : Row → Rule
 rule_of_row row = rule_by_form row.name.now row.form

@@ -1,11 +1,23 @@
 //! The arguments of a command, a row each.
 
 ghost use Rattle.std.specs.Prelude.{IfOk};
-ghost use Rattle.vsync_words.specs.Grammar.{app_of_subcommand, rule_of_row, IsArg, IsCommand};
+ghost use Rattle.clap.specs.Words.{Rule};
+ghost use Rattle.vsync_words.specs.Grammar.{app_of_subcommand, rule_of_row, taking, IsArg, IsCommand};
 
 use clap::builder::ValueParser;
 use clap::{Arg, ArgAction};
 use std::alloc::{AllocError, Global};
+
+/// What may stand there as the value of an argument.
+#[derive(Clone, Copy)]
+pub(crate) enum Takes {
+    /// One text.
+    One,
+    /// One or more texts: the argument may stand there more than once.
+    Several,
+    /// A number, from the first to the second.
+    Number(u64, u64),
+}
 
 /// What an argument is, by what stands there of it.
 #[derive(Clone, Copy)]
@@ -13,17 +25,9 @@ pub(crate) enum Form<'a> {
     /// A flag: its name alone.
     Flag,
     /// An option: its name and a value, which help calls so.
-    Value(&'a str),
-    /// An option that may stand there more than once.
-    Values(&'a str),
-    /// An option whose value is a number, from the first to the second.
-    Number(&'a str, u64, u64),
+    Value(&'a str, Takes),
     /// A word at its place. It is required.
-    Word,
-    /// One or more words.
-    Words,
-    /// A word that is a number, from the first to the second.
-    NumberWord(u64, u64),
+    Word(Takes),
 }
 
 /// An argument: its name, its form, and what help says of it.
@@ -34,6 +38,17 @@ pub(crate) struct Row<'a> {
     pub help: &'a str,
 }
 
+// The argument whose value may be this.
+fn taking<'a>(arg: Arg<'a>, takes: Takes) -> Arg<'a>
+    ensures { (rule : Rule) → IsArg rule arg.entry → IsArg (taking rule takes) result }
+{
+    match takes {
+        Takes::One => arg,
+        Takes::Several => arg.action(ArgAction::Append),
+        Takes::Number(low, high) => arg.value_parser(ValueParser::unsigned(low, high)),
+    }
+}
+
 // The argument of a row, as clap reads it.
 fn argument<'a>(alloc: Global, row: &Row<'a>) -> Arg<'a>
     ensures { IsArg (rule_of_row row.now) result }
@@ -41,20 +56,8 @@ fn argument<'a>(alloc: Global, row: &Row<'a>) -> Arg<'a>
     let arg = Arg::new(alloc, row.name).help(row.help);
     match row.form {
         Form::Flag => arg.long(row.name).action(ArgAction::SetTrue),
-        Form::Value(value) => arg.long(row.name).value_name(value),
-        Form::Values(value) => arg
-            .long(row.name)
-            .value_name(value)
-            .action(ArgAction::Append),
-        Form::Number(value, low, high) => arg
-            .long(row.name)
-            .value_name(value)
-            .value_parser(ValueParser::unsigned(low, high)),
-        Form::Word => arg.required(true),
-        Form::Words => arg.required(true).action(ArgAction::Append),
-        Form::NumberWord(low, high) => arg
-            .required(true)
-            .value_parser(ValueParser::unsigned(low, high)),
+        Form::Value(value, takes) => taking(arg.long(row.name).value_name(value), takes),
+        Form::Word(takes) => taking(arg.required(true), takes),
     }
 }
 

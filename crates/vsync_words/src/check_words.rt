@@ -1,12 +1,14 @@
 //! The words of `check`: of one trace, and of the texts of several processes.
 
-ghost use Rattle.std.specs.Prelude.{◌≡◌, ◌∷◌, [], is_some, IfOk, IfSome};
+ghost use Rattle.std.specs.Prelude.{◌≡◌, ◌∷◌, [], codes, is_some, true, IfOk, IfSome};
 ghost use Rattle.clap.specs.Words.{found_of, kind_of, rows_of, HasKind};
-ghost use Rattle.vsync_words.specs.Words.{has_stray_trace, AreProcessesWords};
+ghost use Rattle.vsync_words.specs.Kept.{stands};
+ghost use Rattle.vsync_words.specs.Words.{has_stray_trace, IsSaid};
 
-use crate::arguments::{Form, Row, Subcommand, command_of};
+use crate::arguments::{Form, Row, Subcommand, Takes, command_of};
 use crate::kept_words::{KEEPS_LOCKS, KEEPS_LONG, KEEPS_MAP, KeptFlags, kept_flags, stands};
 use crate::member_options::values_of;
+use crate::words::Invocation;
 use clap::error::ErrorKind;
 use clap::{ArgMatches, Error};
 use std::alloc::{AllocError, Global};
@@ -32,7 +34,7 @@ const CHECKED: [Row<'static>; 5] = [
     },
     Row {
         name: "TRACE",
-        form: Form::Words,
+        form: Form::Word(Takes::Several),
         help: "The trace's path, or - for the standard input; with --processes the path of each process's text",
     },
 ];
@@ -45,18 +47,19 @@ pub(crate) const CHECK: &Subcommand<'static> = &Subcommand {
     arguments: &CHECKED,
 };
 
-/// The words of `check --processes` in its matches.
-pub(crate) fn processes_words<'a>(
+/// The command that the matches of `check --processes` ask for.
+pub(crate) fn processes_command<'a>(
     alloc: Global,
     matches: &ArgMatches<'a>,
-) -> Option<ProcessesWords<'a>>
-    ensures { IfSome result (AreProcessesWords (rows_of (found_of matches.now))) }
+) -> Option<Invocation<'a>>
+    ensures { stands (codes "processes") (rows_of (found_of matches.now)) ≡ true
+        → IfSome result (IsSaid (codes "check", rows_of (found_of matches.now))) }
 {
     let Ok(paths) = values_of(alloc, matches, "TRACE") else {
         return None;
     };
     let flags = kept_flags("check", matches);
-    Some(ProcessesWords { paths, flags })
+    Some(Invocation::Processes(ProcessesWords { paths, flags }))
 }
 
 /// The trace behind the first of `check`, where `--processes` does not stand there: nothing reads it.

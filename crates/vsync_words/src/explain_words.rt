@@ -1,11 +1,17 @@
 //! The words of `explain`.
 
-use crate::arguments::{Form, Row, Subcommand};
+ghost use Rattle.std.specs.Prelude.{codes, IfSome};
+ghost use Rattle.clap.specs.Words.{found_of, rows_of};
+ghost use Rattle.vsync_words.specs.Words.{IsSaid};
+
+use crate::arguments::{Form, Row, Subcommand, Takes};
+use crate::words::Invocation;
+use clap::ArgMatches;
 
 // The argument of `explain`.
 const EXPLAINED: [Row<'static>; 1] = [Row {
     name: "CODE",
-    form: Form::Word,
+    form: Form::Word(Takes::One),
     help: "A number as in `fault 3 41` or `# refused 3 1`, a rule as D9 in `broken D9 8`, or unordered",
 }];
 
@@ -16,3 +22,11 @@ pub(crate) const EXPLAIN: &Subcommand<'static> = &Subcommand {
     after_help: "It prints what the code means, what causes it, and what to do.\n\nExamples:\n  vsync explain 41\n  vsync explain D9",
     arguments: &EXPLAINED,
 };
+
+/// The command that the matches of `explain` ask for.
+pub(crate) fn explain_command<'a>(matches: &ArgMatches<'a>) -> Option<Invocation<'a>>
+    ensures { IfSome result (IsSaid (codes "explain", rows_of (found_of matches.now))) }
+{
+    let code = matches.get_str("CODE")?;
+    Some(Invocation::Explain(code))
+}

@@ -4,7 +4,7 @@ ghost use Rattle.std.specs.Prelude.{◌≡◌, ◌≤◌, [], codes, map, unwrap
 ghost use Rattle.clap.specs.Words.{all_of, found_of, rows_of};
 ghost use Rattle.vsync_words.specs.Words.{AreMemberOptions, IsOptionalIn};
 
-use crate::arguments::{Form, Row, Subcommand};
+use crate::arguments::{Form, Row, Subcommand, Takes};
 use crate::kept_words::{KeptFlags, kept_flags, stands};
 use crate::udp_words::CONFIG;
 use address::limits::{GREATEST_INCARNATION, GREATEST_NODE, MEMBERS};
@@ -91,77 +91,77 @@ const WORDS: [Row<'static>; 26] = [
     CONFIG,
     Row {
         name: "NODE",
-        form: Form::NumberWord(1, GREATEST_NODE as u64),
+        form: Form::Word(Takes::Number(1, GREATEST_NODE as u64)),
         help: "The node's number in the settings",
     },
     Row {
         name: "INCARNATION",
-        form: Form::NumberWord(1, GREATEST_INCARNATION as u64),
+        form: Form::Word(Takes::Number(1, GREATEST_INCARNATION as u64)),
         help: "Its incarnation: a greater one at each start",
     },
     Row {
         name: "ROUNDS",
-        form: Form::NumberWord(0, ROUNDS),
+        form: Form::Word(Takes::Number(0, ROUNDS)),
         help: "How many rounds it runs",
     },
     Row {
         name: "contact",
-        form: Form::Value("ADDR"),
+        form: Form::Value("ADDR", Takes::One),
         help: "The address, such as 1.1, of a member of the group to join",
     },
     Row {
         name: "send",
-        form: Form::Value("TEXT"),
+        form: Form::Value("TEXT", Takes::One),
         help: "What it sends, once, as soon as it may",
     },
     Row {
         name: "tick",
-        form: Form::Number("MS", 1, MOST_TICK),
+        form: Form::Value("MS", Takes::Number(1, MOST_TICK)),
         help: "The milliseconds between two rounds, 1 to 1000; 20 where it is not given",
     },
     Row {
         name: "merge",
-        form: Form::Number("TICKS", 0, MOST_MERGE),
+        form: Form::Value("TICKS", Takes::Number(0, MOST_MERGE)),
         help: "After how many rounds it seeks members that are not in its view, 0 for never; 50 where it is not given",
     },
     Row {
         name: "quorum",
-        form: Form::Number("N", 1, MOST_QUORUM),
+        form: Form::Value("N", Takes::Number(1, MOST_QUORUM)),
         help: "It sends only in views of at least N members, 1 to 16; 1 where it is not given",
     },
     Row {
         name: "incarnation-file",
-        form: Form::Value("FILE"),
+        form: Form::Value("FILE", Takes::One),
         help: "Where its last incarnation is kept: it starts with the next one, and with INCARNATION at the first time",
     },
     Row {
         name: "say",
-        form: Form::Value("FILE"),
+        form: Form::Value("FILE", Takes::One),
         help: "It sends each line that is appended to this file; a line of the byte 4 alone ends it",
     },
     Row {
         name: "status",
-        form: Form::Value("FILE"),
+        form: Form::Value("FILE", Takes::One),
         help: "Where its status is written each second: its view, and what an operator asks for",
     },
     Row {
         name: "key-file",
-        form: Form::Value("FILE"),
+        form: Form::Value("FILE", Takes::One),
         help: "The file of the group's key, 16 to 1024 bytes: its datagrams are sealed with it, and others are not heard; all of the group must",
     },
     Row {
         name: "bind",
-        form: Form::Value("HOST"),
+        form: Form::Value("HOST", Takes::One),
         help: "The address, or a name of it, of this host at which it receives; 127.0.0.1 where it is not given",
     },
     Row {
         name: "peer",
-        form: Form::Values("NODE=HOST"),
+        form: Form::Value("NODE=HOST", Takes::Several),
         help: "Where a node is reached, once for each that is not at 127.0.0.1",
     },
     Row {
         name: "http",
-        form: Form::Value("HOST:PORT"),
+        form: Form::Value("HOST:PORT", Takes::One),
         help: "Where it answers requests of HTTP, for what --map or --locks says; a PORT alone is one of 127.0.0.1",
     },
     Row {

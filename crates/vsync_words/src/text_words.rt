@@ -2,10 +2,11 @@
 
 ghost use Rattle.std.specs.Prelude.{◌≡◌, IfSome};
 ghost use Rattle.clap.specs.Words.{found_of, rows_of};
-ghost use Rattle.vsync_words.specs.Words.{drawing_said, task_said, text_argument, IsTextSaid};
+ghost use Rattle.vsync_words.specs.Words.{drawing_said, task_said, text_argument, IsSaid};
 
-use crate::arguments::{Form, Row, Subcommand};
+use crate::arguments::{Form, Row, Subcommand, Takes};
 use crate::kept_words::{KEEPS_LOCKS, KEEPS_LONG, KEEPS_MAP, KeptFlags, kept_flags, stands};
+use crate::words::Invocation;
 use clap::ArgMatches;
 
 /// What a command does with its text.
@@ -44,7 +45,7 @@ pub struct TextCommand<'a> {
 /// The path of a script.
 pub(crate) const SCRIPT: Row<'static> = Row {
     name: "SCRIPT",
-    form: Form::Word,
+    form: Form::Word(Takes::One),
     help: "The script's path, or - for the standard input",
 };
 
@@ -71,7 +72,7 @@ const DRAWN: [Row<'static>; 6] = [
     KEEPS_LOCKS,
     Row {
         name: "INPUT",
-        form: Form::Word,
+        form: Form::Word(Takes::One),
         help: "The path of the script, or of the trace, or - for the standard input",
     },
 ];
@@ -178,11 +179,11 @@ fn argument_of(task: Task) -> &'static str
 }
 
 /// The command over a text that the subcommand of this name is by its matches.
-pub(crate) fn text_command<'a>(name: &str, matches: &ArgMatches<'a>) -> Option<TextCommand<'a>>
-    ensures { IfSome result (IsTextSaid (name.now, rows_of (found_of matches.now))) }
+pub(crate) fn text_command<'a>(name: &str, matches: &ArgMatches<'a>) -> Option<Invocation<'a>>
+    ensures { IfSome result (IsSaid (name.now, rows_of (found_of matches.now))) }
 {
     let task = task_in(name, matches)?;
     let path = matches.get_str(argument_of(task))?;
     let flags = kept_flags(name, matches);
-    Some(TextCommand { task, path, flags })
+    Some(Invocation::Text(TextCommand { task, path, flags }))
 }

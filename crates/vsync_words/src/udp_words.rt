@@ -3,13 +3,14 @@
 ghost use Rattle.std.specs.Prelude.{◌≡◌, codes, IfSome, MatchResult, Ok, Err};
 ghost use Rattle.clap.specs.Words.{found_of, one_of, rows_of};
 ghost use Rattle.vsync_text.specs.declared.udp_script.TheConstants.{ROUNDS};
-ghost use Rattle.vsync_words.specs.Words.{AreUdpWords, AreMemberWords, IsNumberIn};
+ghost use Rattle.vsync_words.specs.Words.{IsNumberIn, IsSaid};
 ghost use Rattle.vsync_words.specs.Plans.{contact_of, payload_of, text_of, IsMistaken, IsPlan};
 ghost use Rattle.address.specs.declared.limits.TheConstants.{GREATEST_NODE, GREATEST_INCARNATION};
 
-use crate::arguments::{Form, Row, Subcommand};
+use crate::arguments::{Form, Row, Subcommand, Takes};
 use crate::member_options::{MemberOptions, member_options};
 use crate::text_words::SCRIPT;
+use crate::words::Invocation;
 use address::limits::{GREATEST_INCARNATION, GREATEST_NODE, PAYLOAD};
 use address::{Address, Node};
 use clap::ArgMatches;
@@ -117,7 +118,7 @@ fn payload_in(word: Option<&str>) -> Result<Option<&[u8]>, MemberMistake>
 /// The argument that names the settings.
 pub(crate) const CONFIG: Row<'static> = Row {
     name: "CONFIG",
-    form: Form::Word,
+    form: Form::Word(Takes::One),
     help: "The path of the settings: the group's name, the rounds of silence, and each node's port",
 };
 
@@ -132,13 +133,13 @@ pub(crate) const UDP: &Subcommand<'static> = &Subcommand {
     arguments: &UDP_PATHS,
 };
 
-/// The words of `udp` in its matches.
-pub(crate) fn udp_words<'a>(matches: &ArgMatches<'a>) -> Option<UdpWords<'a>>
-    ensures { IfSome result (AreUdpWords (rows_of (found_of matches.now))) }
+/// The command that the matches of `udp` ask for.
+pub(crate) fn udp_command<'a>(matches: &ArgMatches<'a>) -> Option<Invocation<'a>>
+    ensures { IfSome result (IsSaid (codes "udp", rows_of (found_of matches.now))) }
 {
     let config = matches.get_str("CONFIG")?;
     let script = matches.get_str("SCRIPT")?;
-    Some(UdpWords { config, script })
+    Some(Invocation::Udp(UdpWords { config, script }))
 }
 
 // The address of NODE and INCARNATION.
@@ -162,19 +163,19 @@ fn rounds_of(matches: &ArgMatches<'_>) -> Option<u64>
     Some(rounds)
 }
 
-/// The words of `member` in its matches.
-pub(crate) fn member_words<'a>(alloc: Global, matches: &ArgMatches<'a>) -> Option<MemberWords<'a>>
-    ensures { IfSome result (AreMemberWords (rows_of (found_of matches.now))) }
+/// The command that the matches of `member` ask for.
+pub(crate) fn member_command<'a>(alloc: Global, matches: &ArgMatches<'a>) -> Option<Invocation<'a>>
+    ensures { IfSome result (IsSaid (codes "member", rows_of (found_of matches.now))) }
 {
     let config = matches.get_str("CONFIG")?;
     let address = address_of(matches)?;
     let rounds = rounds_of(matches)?;
-    Some(MemberWords {
+    Some(Invocation::Member(MemberWords {
         config,
         address,
         rounds,
         contact: matches.get_str("contact"),
         send: matches.get_str("send"),
         options: member_options(alloc, matches)?,
-    })
+    }))
 }

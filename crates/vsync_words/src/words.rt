@@ -2,19 +2,19 @@ ghost use Rattle.std.specs.Prelude.{◌≡◌, ◌≤◌, ◌<◌, ◌∷◌, �
 ghost use Rattle.std.specs.List.{list_all};
 ghost use Rattle.vsync_words.specs.declared.kept_words.Kept.{Kept};
 ghost use Rattle.vsync_words.specs.declared.text_words.Task.{Task};
-ghost use Rattle.clap.specs.Words.{App, app_of, first_of, found_of, rows_of, subcommand_of, subcommand_rows_of, FailsBy, Text};
+ghost use Rattle.clap.specs.Words.{App, app_of, found_of, rows_of, subcommand_of, subcommand_rows_of, FailsBy, Text};
 ghost use Rattle.vsync_words.specs.Words.{faults_of, is_path, stray_fault, words_for, words_for_processes, AreProcessesOn, IsExplainOn, IsOrNoMemory, IsSaid, IsTextOn, IsUdpOn, RunsStandardInput};
 ghost use Rattle.vsync_words.specs.Grammar.{program_app, program_of_subcommands, with_subcommand_row};
 
 use crate::arguments::{Subcommand, command_of};
-use crate::check_words::{CHECK, ProcessesWords, processes_words, stray_trace, unexpected_trace};
-use crate::explain_words::EXPLAIN;
+use crate::check_words::{CHECK, ProcessesWords, processes_command, stray_trace, unexpected_trace};
+use crate::explain_words::{EXPLAIN, explain_command};
 use crate::kept_words::{KeptFlags, stands};
 use crate::member_options::MEMBER;
 use crate::text_words::{
     CHAT, DRAW, LOCKS, MAP, PACKETS, SETTLE, Task, TextCommand, WORLD, text_command,
 };
-use crate::udp_words::{MemberWords, UDP, UdpWords, member_words, udp_words};
+use crate::udp_words::{MemberWords, UDP, UdpWords, member_command, udp_command};
 use clap::{ArgMatches, Error};
 use std::alloc::{AllocError, Global};
 
@@ -76,26 +76,16 @@ fn grammar<'a>(alloc: Global) -> Result<clap::Command<'a>, AllocError>
     with_subcommands(alloc, program, &subcommands())
 }
 
-// The word of a subcommand whose only argument this is.
-fn only_word<'a>(matches: &ArgMatches<'a>, argument: &str) -> Option<&'a str>
-    ensures { IfSome result (λ word. first_of argument.now (rows_of (found_of matches.now)) ≡ Some word.now) }
-{
-    let word = matches.get_str(argument)?;
-    Some(word)
-}
-
 /// The command that a subcommand's matches name.
 fn named<'a>(alloc: Global, name: &str, matches: &ArgMatches<'a>) -> Option<Invocation<'a>>
     ensures { IfSome result (IsSaid (name.now, rows_of (found_of matches.now))) }
 {
     match name {
-        "check" if stands(matches, "processes") => {
-            processes_words(alloc, matches).map(Invocation::Processes)
-        }
-        "udp" => udp_words(matches).map(Invocation::Udp),
-        "member" => member_words(alloc, matches).map(Invocation::Member),
-        "explain" => only_word(matches, "CODE").map(Invocation::Explain),
-        _ => text_command(name, matches).map(Invocation::Text),
+        "check" if stands(matches, "processes") => processes_command(alloc, matches),
+        "udp" => udp_command(matches),
+        "member" => member_command(alloc, matches),
+        "explain" => explain_command(matches),
+        _ => text_command(name, matches),
     }
 }
 

@@ -1,8 +1,0 @@
-use Rattle.std.proofs.Common.{◌∙◌, ap, sym, option_map}
-use Rattle.clap.specs.Words.{found_of}
-use Rattle.clap.proofs.WalkLemmas.{first_value-rows}
-use Rattle.vsync_words.proofs.words.only_word.Goals as goal
-
-pub returns : goal.returns
-returns c =
-    sym (first_value-rows (found_of c.args.matches.now) c.args.argument.now) ∙ (sym c.get_str.ensures ∙ ap (option_map (λ s. s.now)) c.in_ok-word.was)
