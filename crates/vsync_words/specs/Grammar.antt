@@ -18,25 +18,19 @@ use Rattle.vsync_text.specs.declared.udp_script.TheConstants.{ROUNDS}
 use Rattle.vsync_words.specs.declared.member_options.TheConstants.{MOST_TICK, MOST_MERGE, MOST_QUORUM}
 use Rattle.address.specs.declared.limits.TheConstants.{GREATEST_INCARNATION, GREATEST_NODE}
 
--- an argument that is required; one that may stand there more than once; one that is a number in a range; and an option with a value
+-- an argument that is required, and an option with a value
 abbrev pub required_rule : Text → Rule
 required_rule argument = record (new_rule argument) { required = true }
-
-abbrev pub several_rule : Text → Rule
-several_rule argument = record (required_rule argument) { action = Some Append }
-
-abbrev pub number_rule : Text → ℕ → ℕ → Rule
-number_rule argument low high = record (required_rule argument) { parser = Some (Unsigned low high) }
 
 abbrev pub option_rule : Text → Rule
 option_rule name = record (new_rule name) { long = Some name; value_names = 1 }
 
--- an option whose value is a number in a range; and one that may stand there more than once
-abbrev pub numeric_rule : Text → ℕ → ℕ → Rule
-numeric_rule name low high = record (option_rule name) { parser = Some (Unsigned low high) }
+-- the same where it may stand there more than once, and where it is a number in a range
+abbrev pub repeated : Rule → Rule
+repeated rule = record rule { action = Some Append }
 
-abbrev pub repeated_rule : Text → Rule
-repeated_rule name = record (option_rule name) { action = Some Append }
+abbrev pub numeric : ℕ → ℕ → Rule → Rule
+numeric low high rule = record rule { parser = Some (Unsigned low high) }
 
 -- a flag with no value
 abbrev pub flag_rule : Text → Rule
@@ -45,8 +39,8 @@ flag_rule name = record (new_rule name) { long = Some name; action = Some SetTru
 -- the rule of an argument by what may be its value, by what stands there of it, and by its row
 abbrev pub taking : Rule → Takes → Rule
 taking rule One = rule
-taking rule Several = record rule { action = Some Append }
-taking rule (Number low high) = record rule { parser = Some (Unsigned low high) }
+taking rule Several = repeated rule
+taking rule (Number low high) = numeric low high rule
 
 abbrev pub rule_by_form : Text → Form → Rule
 rule_by_form name Flag = flag_rule name
@@ -93,7 +87,7 @@ kept_rules = flag_rule (codes "long") ∷ flag_rule (codes "map") ∷ flag_rule 
 
 -- `check [--long] [--map] [--locks] [--processes] TRACE..`
 abbrev pub check_app : App
-check_app = command_app (codes "check") (kept_rules ++ flag_rule (codes "processes") ∷ several_rule (codes "TRACE") ∷ [])
+check_app = command_app (codes "check") (kept_rules ++ flag_rule (codes "processes") ∷ repeated (required_rule (codes "TRACE")) ∷ [])
 
 -- `draw [--trace] [--packets] [--long] [--map] [--locks] INPUT`
 abbrev pub draw_app : App
@@ -115,9 +109,9 @@ udp_app = command_app (codes "udp") (required_rule (codes "CONFIG") ∷ required
 abbrev pub talk_rules : List Rule
 talk_rules =
     required_rule (codes "CONFIG")
-    ∷ number_rule (codes "NODE") 1 GREATEST_NODE
-    ∷ number_rule (codes "INCARNATION") 1 GREATEST_INCARNATION
-    ∷ number_rule (codes "ROUNDS") 0 ROUNDS
+    ∷ numeric 1 GREATEST_NODE (required_rule (codes "NODE"))
+    ∷ numeric 1 GREATEST_INCARNATION (required_rule (codes "INCARNATION"))
+    ∷ numeric 0 ROUNDS (required_rule (codes "ROUNDS"))
     ∷ option_rule (codes "contact")
     ∷ option_rule (codes "send")
     ∷ []
@@ -127,15 +121,15 @@ talk_rules =
 -- `[--forever] [--leave] [--text] [--stats] [--long] [--map] [--locks] [--find] [--any-source] [--stable]`
 abbrev pub option_rules : List Rule
 option_rules =
-    numeric_rule (codes "tick") 1 MOST_TICK
-    ∷ numeric_rule (codes "merge") 0 MOST_MERGE
-    ∷ numeric_rule (codes "quorum") 1 MOST_QUORUM
+    numeric 1 MOST_TICK (option_rule (codes "tick"))
+    ∷ numeric 0 MOST_MERGE (option_rule (codes "merge"))
+    ∷ numeric 1 MOST_QUORUM (option_rule (codes "quorum"))
     ∷ option_rule (codes "incarnation-file")
     ∷ option_rule (codes "say")
     ∷ option_rule (codes "status")
     ∷ option_rule (codes "key-file")
     ∷ option_rule (codes "bind")
-    ∷ repeated_rule (codes "peer")
+    ∷ repeated (option_rule (codes "peer"))
     ∷ option_rule (codes "http")
     ∷ flag_rule (codes "forever")
     ∷ flag_rule (codes "leave")

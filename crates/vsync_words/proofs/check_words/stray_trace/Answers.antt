@@ -15,13 +15,11 @@ returns c =
     let f = found_of c.args.matches.now in
     let all : all_of (codes "TRACE") (rows_of f) ≡ Some (map (λ v. v.now) c.in-Some.traces.now) =
     sym (raw_values-rows f (codes "TRACE")) ∙ (sym c.get_strs.ensures ∙ ap (option_map (λ s. map (λ v. v.now) s.now)) c.in-Some.is) in
-    let gone = sym c.stands.ensures ∙ c.if-stands.false in
-    ap is_some c.copied.ensures ∙ (is_some-copied c.get.result ∙ (c.get.ensures.lookup.0 ∙ sym (stray_is (rows_of f) c.in-Some.traces.now gone all)))
+    ap is_some c.copied.ensures ∙ (is_some-copied c.get.result ∙ (c.get.ensures.lookup.0 ∙ sym (stray_is (rows_of f) c.in-Some.traces.now (sym c.stands.ensures ∙ c.if-stands.false) all)))
 
 pub returns-in_default : goal.returns-in_default
 returns-in_default c =
     let f = found_of c.args.matches.now in
     let all : all_of (codes "TRACE") (rows_of f) ≡ None =
     sym (raw_values-rows f (codes "TRACE")) ∙ (sym c.get_strs.ensures ∙ ap (option_map (λ s. map (λ v. v.now) s.now)) c.in_default.is) in
-    let gone = sym c.stands.ensures ∙ c.if-stands.false in
-    sym (none_is_stray (rows_of f) gone all)
+    sym (none_is_stray (rows_of f) (sym c.stands.ensures ∙ c.if-stands.false) all)

@@ -13,16 +13,14 @@ pub returns-in_err-matches-clause-refused : goal.returns-in_err-matches-clause-r
 returns-in_err-matches-clause-refused c =
     let words = map string_bytes c.args.words.now in
     let is = c.in_ok-grammar.ensures in
-    let kinds = c.in_err-matches.ensures.kinds (ap is_simple_and_free is ∙ simple) in
     fails_as (faults_of words) c.from_residual-in_err-matches.result c.in_err-matches.field-0.0 c.from_residual-in_err-matches.ensures.1
-    (by_clap (fault_of program_app words) _ c.in_err-matches.field-0.0 (subst (λ (a : App). HasKind (fault_of a words) c.in_err-matches.field-0.0) is kinds))
+    (by_clap (fault_of program_app words) _ c.in_err-matches.field-0.0 (subst (λ (a : App). HasKind (fault_of a words) c.in_err-matches.field-0.0) is (c.in_err-matches.ensures.kinds (ap is_simple_and_free is ∙ simple))))
 
 pub returns : goal.returns
 returns c =
     let words = map string_bytes c.args.words.now in
     let is = c.in_ok-grammar.ensures in
-    let met = c.in_ok-matches.ensures.matches (ap is_simple is ∙ (both _ _ simple).0) in
-    let said = met.1 ∙ ap (λ (a : App). subcommand_of a words) is in
+    let said = (c.in_ok-matches.ensures.matches (ap is_simple is ∙ (both _ _ simple).0)).1 ∙ ap (λ (a : App). subcommand_of a words) is in
     let none : fault_of program_app words ≡ [] = ap (λ (a : App). fault_of a words) (sym is) ∙ c.in_ok-matches.ensures.kinds (ap is_simple_and_free is ∙ simple) in
     record {
       said = subst (λ (o : Option (Text × List Row)). IfOk c.asked.result (λ i. IsSomeAnd o (λ s. IsSaid s i))) said c.asked.ensures.said;
