@@ -75,11 +75,6 @@ pub(crate) fn stray_trace<'a>(matches: &ArgMatches<'a>) -> Option<&'a str>
     traces.get(1).copied()
 }
 
-// `check` as clap reads it, under its whole name.
-fn named_check<'a>(alloc: Global) -> Result<clap::Command<'a>, AllocError> {
-    command_of(alloc, CHECK)?.bin_name("vsync check")
-}
-
 // What clap says of a word that it does not expect, of a trace that nothing reads.
 fn stray_error(alloc: Global, trace: &str) -> Result<Error, AllocError>
     ensures { IfOk result (λ e. kind_of e ≡ ErrorKind.UnknownArgument) }
@@ -87,7 +82,7 @@ fn stray_error(alloc: Global, trace: &str) -> Result<Error, AllocError>
     let message = format!(in alloc;
         "unexpected argument '{trace}' found: only with '--processes' several texts are checked"
     )?;
-    let mut command = named_check(alloc)?;
+    let mut command = command_of(alloc, CHECK)?.bin_name("vsync check")?;
     command.error(ErrorKind::UnknownArgument, message.as_str())
 }
 
