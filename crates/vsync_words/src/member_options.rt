@@ -1,6 +1,6 @@
 //! The options of `member`.
 
-ghost use Rattle.std.specs.Prelude.{◌≡◌, ◌≤◌, [], codes, map, unwrap_or, IfOk, IfSome};
+ghost use Rattle.std.specs.Prelude.{◌≡◌, ◌≤◌, [], map, unwrap_or, IfOk, IfSome};
 ghost use Rattle.clap.specs.Words.{all_of, found_of, rows_of};
 ghost use Rattle.vsync_words.specs.Words.{AreMemberOptions, IsOptionalIn};
 

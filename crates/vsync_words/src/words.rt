@@ -1,4 +1,4 @@
-ghost use Rattle.std.specs.Prelude.{◌≡◌, ◌≤◌, ◌<◌, ◌∷◌, ◌++◌, [], List, Some, true, false, length, map, codes, fold, is_some, string_bytes, IfOk, IfSome, IsOkAnd, IsSomeAnd};
+ghost use Rattle.std.specs.Prelude.{◌≡◌, ◌≤◌, ◌<◌, ◌∷◌, ◌++◌, [], List, Some, true, false, length, map, codes, fold, string_bytes, IfOk, IfSome, IsOkAnd, IsSomeAnd};
 ghost use Rattle.std.specs.List.{list_all};
 ghost use Rattle.vsync_words.specs.declared.kept_words.Kept.{Kept};
 ghost use Rattle.vsync_words.specs.declared.text_words.Task.{Task};
