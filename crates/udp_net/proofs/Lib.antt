@@ -2,3 +2,4 @@ pub mod KeepHosts
 pub mod PushedForEach
 pub mod TablesOfKeys
 pub mod WordLaws
+pub mod WrittenOverEach

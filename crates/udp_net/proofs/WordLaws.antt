@@ -1,4 +1,4 @@
--- The laws of words: how long they are, and each is read from its spelling, whatever follows.
+-- The law of words: each is read from its spelling, whatever follows.
 use Rattle.std.proofs.Common.{◌≡◌, ℕ, Bool, true, false, List, [], ◌∷◌, ◌++◌, Option, Some, None, Ok, refl, sym, ap, ◌∙◌, append_assoc, arith, nat_eq}
 use Rattle.std.specs.Prelude.{IfSome}
 use Rattle.std.specs.Cmp.Lexicographic.{pointwise}
@@ -18,15 +18,6 @@ use Rattle.udp_net.specs.declared.word.Echo.{Echo}
 use Rattle.udp_net.specs.declared.word.Place.{Place}
 use Rattle.udp_net.specs.declared.word.TheConstants.{WORD_MAGIC, WORD_VERSION, GREATEST_CLOCK}
 use Rattle.udp_net.specs.Words.{IsEcho, IsPlace, IsWord, echo_bytes, place_bytes, word_head, said_bytes, word_bytes, word_front_at, echo_at, place_at, said_at, word_at, word_of}
-
--- ---- how long they are
-
--- ---- three parts, put one behind the other
-
-pub behind : (o a b c : List ℕ) → o ++ a ++ b ++ c ≡ o ++ (a ++ b ++ c)
-behind o a b c = ap (λ (t : List ℕ). t ++ c) (append_assoc o a b) ∙ append_assoc o (a ++ b) c
-
--- ---- each is read from its spelling
 
 three : (a b c rest : List ℕ) → (a ++ b ++ c) ++ rest ≡ a ++ (b ++ (c ++ rest))
 three a b c rest = append_assoc (a ++ b) c rest ∙ append_assoc a b (c ++ rest)

@@ -1,13 +1,10 @@
 //! An address that asks to be let in, and when it is not heard (docs/RUNNER.md, "What a net drops").
 
-ghost use Rattle.std.specs.Prelude.{◌≡◌, map, IfOk};
-ghost use Rattle.address.specs.Ids.{Address as AddressValue};
-ghost use Rattle.view.specs.Members.{stands_in};
-ghost use Rattle.udp_net.specs.Sieve.{unasked, is_later, in_pause, is_barred_by, is_barred, asking, opened, stage_after, pause_after, is_inside, calm_after, waited};
+ghost use Rattle.std.specs.Prelude.{◌≡◌, map};
+ghost use Rattle.udp_net.specs.Sieve.{is_later, is_barred_by, is_barred, asking, opened, stage_after, pause_after, is_inside, calm_after, waited};
 
-use crate::{CALM, FIRST_PAUSE, LONGEST_PAUSE, NodePort};
+use crate::{CALM, FIRST_PAUSE, LONGEST_PAUSE};
 use address::{Address, Node};
-use std::alloc::{AllocError, Global};
 use wire_values::Roster;
 
 /// Whether an address that asks is heard.
@@ -33,23 +30,6 @@ pub(crate) struct Asker {
     pub(crate) calm: u32,
 }
 
-/// One for each of these nodes, where nobody asked yet.
-pub(crate) fn unasked_at(alloc: Global, nodes: &[NodePort]) -> Result<Vec<Asker>, AllocError>
-    ensures { IfOk result (λ askers. askers.items ≡ map (λ n. unasked n.node) nodes.now) }
-{
-    let mut askers = Vec::with_capacity(alloc, nodes.len())?;
-    for node in nodes {
-        askers.push(Asker {
-            node: node.node,
-            latest: None,
-            stage: Stage::Free,
-            next_pause: FIRST_PAUSE,
-            calm: 0,
-        })?;
-    }
-    Ok(askers)
-}
-
 // Whether an address has a later incarnation than the latest one that asked.
 fn is_later(address: Address, asker: &Asker) -> bool
     ensures { result ≡ is_later address asker.now }
@@ -60,26 +40,22 @@ fn is_later(address: Address, asker: &Asker) -> bool
     }
 }
 
-fn in_pause(stage: Stage) -> bool
-    ensures { result ≡ in_pause stage }
-{
-    match stage {
-        Stage::Free | Stage::Window(_) => false,
-        Stage::Pause(_) => true,
-    }
-}
-
 fn is_barred_by(address: Address, asker: &Asker) -> bool
     ensures { result ≡ is_barred_by address asker.now }
 {
-    asker.node == address.node() && !is_later(address, asker) && in_pause(asker.stage)
+    asker.node == address.node()
+        && !is_later(address, asker)
+        && matches!(asker.stage, Stage::Pause(_))
 }
 
 /// Whether an address is not heard if it asks.
 pub(crate) fn is_barred(address: Address, askers: &[Asker]) -> bool
     ensures { result ≡ is_barred address askers.now }
 {
-    askers.iter().any(|asker| is_barred_by(address, asker))
+    let Some((first, rest)) = askers.split_first() else {
+        return false;
+    };
+    is_barred_by(address, first) || is_barred(address, rest)
 }
 
 fn opened(silent: u32, stage: Stage) -> Stage
@@ -164,16 +140,9 @@ fn is_inside(address: Address, view: &Option<Roster>) -> bool
     ensures { result ≡ is_inside address view.now }
 {
     match view {
-        Some(view) => stands_in(address, view.members().as_slice()),
+        Some(view) => view.members().as_slice().contains(&address),
         None => false,
     }
-}
-
-/// Whether an address stands in a list.
-pub(crate) fn stands_in(address: Address, members: &[Address]) -> bool
-    ensures { result ≡ stands_in address members.now }
-{
-    members.iter().any(|member| address == *member)
 }
 
 fn calm_after(view: &Option<Roster>, asker: &Asker) -> u32

@@ -1,6 +1,6 @@
 //! Settings from text.
 
-ghost use Rattle.std.specs.Prelude.{◌≡◌, ◌++◌, ◌∷◌, [], true, nat_eq, codes, Some, None, if◌then◌else◌};
+ghost use Rattle.std.specs.Prelude.{◌≡◌, true, nat_eq, codes, Some, None, if◌then◌else◌};
 ghost use Rattle.std.specs.Option.{option_and_then};
 ghost use Rattle.toml.specs.Data.{get_member};
 ghost use Rattle.toml.specs.Parse.{parse_document};
@@ -24,7 +24,7 @@ pub fn settings(alloc: Global, text: &str) -> Result<Settings, SettingsError>
     only_keys(&table, 3)?;
     let group = group_in(&table)?;
     let silent = number_in(&table, "silent", MOST_SILENT)?;
-    let nodes = nodes_in(alloc, &table)?;
+    let nodes = nodes_of(alloc, value_at(&table, "node")?)?;
     Ok(Settings {
         group,
         silent,
@@ -57,10 +57,7 @@ fn only_keys(table: &Table, count: usize) -> Result<(), SettingsError>
 fn value_at<'a>(table: &'a Table, key: &str) -> Result<&'a Value, SettingsError>
     ensures { Reads (λ v. view v.now) result (get_member key.now (table_view table.now)) }
 {
-    match table.get(key) {
-        Some(value) => Ok(value),
-        None => Err(SettingsError::Config),
-    }
+    table.get(key).ok_or(SettingsError::Config)
 }
 
 // The number from 1 to a highest one that a value is.
@@ -81,11 +78,7 @@ fn number_of(value: &Value, highest: u16) -> Option<u16>
 fn number_in(table: &Table, key: &str, highest: u16) -> Result<u16, SettingsError>
     ensures { Reads (λ n. n) result (number_at key.now highest (table_view table.now)) }
 {
-    let value = value_at(table, key)?;
-    match number_of(value, highest) {
-        Some(number) => Ok(number),
-        None => Err(SettingsError::Config),
-    }
+    number_of(value_at(table, key)?, highest).ok_or(SettingsError::Config)
 }
 
 // The name of the group.
@@ -123,22 +116,20 @@ fn nodes_of(alloc: Global, value: &Value) -> Result<Vec<NodePort>, SettingsError
     Ok(nodes)
 }
 
-// The nodes and their ports.
-fn nodes_in(alloc: Global, table: &Table) -> Result<Vec<NodePort>, SettingsError>
-    ensures { Reads (λ l. l.items) result (option_and_then nodes_of (get_member (codes "node") (table_view table.now))) }
-{
-    let value = value_at(table, "node")?;
-    nodes_of(alloc, value)
-}
-
-// Adds the nodes of some values, in turn.
+// Adds the nodes of some values in turn, unless the number or the port of one is there.
 fn add_nodes(values: &[Value], nodes: &mut Vec<NodePort>) -> Result<(), SettingsError>
     ensures { Reads (λ u. nodes.new.items) result (nodes_behind nodes.old.items (items_view values.now)) }
 {
     let Some((first, rest)) = values.split_first() else {
         return Ok(());
     };
-    add_node(first, nodes)?;
+    let added = node_of(first)?;
+    if !is_new(&added, nodes.as_slice()) {
+        return Err(SettingsError::Config);
+    }
+    if nodes.push(added).is_err() {
+        return Err(SettingsError::Memory);
+    }
     add_nodes(rest, nodes)
 }
 
@@ -150,20 +141,6 @@ fn is_new(added: &NodePort, nodes: &[NodePort]) -> bool
         return true;
     };
     first.node != added.node && first.port != added.port && is_new(added, rest)
-}
-
-// Adds the node of a value, unless its number or its port is there.
-fn add_node(value: &Value, nodes: &mut Vec<NodePort>) -> Result<(), SettingsError>
-    ensures { Reads (λ u. nodes.new.items) result (option_and_then (λ n. if is_new n nodes.old.items then Some (nodes.old.items ++ n ∷ []) else None) (node_of (view value.now))) }
-{
-    let added = node_of(value)?;
-    if !is_new(&added, nodes.as_slice()) {
-        return Err(SettingsError::Config);
-    }
-    match nodes.push(added) {
-        Ok(()) => Ok(()),
-        Err(_) => Err(SettingsError::Memory),
-    }
 }
 
 // The node of a value, and its port.

@@ -1,20 +1,15 @@
 //! What a net does besides carrying packets: words come and go, and packets are dropped that would harm the group (docs/RUNNER.md, "What a net drops").
 
-ghost use Rattle.std.specs.Prelude.{◌≡◌, ◌≢◌, true, IfOk, if◌then◌else◌};
+ghost use Rattle.std.specs.Prelude.{◌≡◌, if◌then◌else◌};
 ghost use Rattle.udp_net.specs.Logs.{one_more};
-ghost use Rattle.udp_net.specs.Sieve.{lets_through, IsOrdinary};
 ghost use Rattle.udp_net.specs.Strangers.{is_strange, is_sieved};
-ghost use Rattle.udp_net.specs.Words.{word_of};
-ghost use Rattle.udp_net.specs.declared.gate.Verdict.TheVariants.{Given};
 
 use crate::neighbours::Neighbours;
 use crate::sieve::Sieve;
-use crate::{Neighbour, Settings, WORD, Word};
+use crate::{Settings, WORD, Word};
 use address::{Address, Node, ViewId};
 use std::alloc::{AllocError, Global};
 use step_output::OwnedName;
-use wire::Packet;
-use wire_values::WireError;
 
 /// What becomes of a datagram that comes.
 #[derive(Clone, Copy)]
@@ -32,8 +27,8 @@ pub(crate) enum Verdict {
 /// The words of a group's nodes, the sieve for their packets, and how many datagrams were dropped.
 pub(crate) struct Gate {
     pub(crate) sieve: Sieve,
-    group: OwnedName,
-    neighbours: Neighbours,
+    pub(crate) group: OwnedName,
+    pub(crate) neighbours: Neighbours,
     // The bytes of the word that is said.
     spelled: Vec<u8>,
     pub(crate) strange: u64,
@@ -66,32 +61,6 @@ impl Gate {
         })
     }
 
-    /// The word of the group that a datagram spells, or why it spells none.
-    pub(crate) fn word_in(&self, datagram: &[u8]) -> Result<Word, WireError>
-        ensures { result ≡ word_of self.now.group datagram.now }
-    {
-        Word::read(datagram, &self.group.lent())
-    }
-
-    /// A word came from its node.
-    pub(crate) fn hear_word(&mut self, word: &Word)
-        ensures { self.new.sieve ≡ self.old.sieve }
-    {
-        self.neighbours.hear(word);
-    }
-
-    /// What becomes of a packet that came from its node.
-    pub(crate) fn judge(&mut self, packet: &Packet<'_>) -> Verdict
-        ensures given { result ≡ Given → lets_through self.old.sieve packet.now ≡ true }
-        ensures ordinary { IsOrdinary self.old.sieve packet.now → result ≡ Given }
-    {
-        if !self.sieve.lets_through(packet) {
-            return Verdict::Sieved;
-        }
-        self.sieve.hear(packet);
-        Verdict::Given
-    }
-
     /// Counts a datagram that is dropped.
     pub(crate) fn count(&mut self, verdict: Verdict)
         ensures strange { self.new.strange ≡ (if is_strange verdict then one_more self.old.strange else self.old.strange) }
@@ -119,10 +88,5 @@ impl Gate {
             return None;
         }
         Some(self.spelled.as_slice())
-    }
-
-    /// What words told of each node.
-    pub(crate) fn words(&self) -> &[Neighbour] {
-        self.neighbours.told()
     }
 }

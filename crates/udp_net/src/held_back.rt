@@ -1,5 +1,5 @@
 ghost use Rattle.std.specs.Prelude.{◌≡◌, [], OnOk, OnErr, IfOk, length};
-ghost use Rattle.udp_net.specs.Bursts.{is_held, fits, may_wait, held_after, TakesFirst};
+ghost use Rattle.udp_net.specs.Bursts.{is_held, may_wait, held_after, TakesFirst};
 
 use crate::HELD_BACK;
 use address::Bytes;
@@ -55,7 +55,7 @@ impl HeldBack {
         if self.has(datagram) {
             return Ok(true);
         }
-        if !self.fits(datagram) {
+        if HELD_BACK - self.size < datagram.len() {
             return Ok(false);
         }
         self.waiting
@@ -71,13 +71,6 @@ impl HeldBack {
         let datagram = self.waiting.pop_front()?;
         self.size -= datagram.as_slice().len();
         Some(datagram)
-    }
-
-    // Whether there is room for a datagram.
-    fn fits(&self, datagram: &[u8]) -> bool
-        ensures { result ≡ fits datagram.now self.now }
-    {
-        datagram.len() <= HELD_BACK - self.size
     }
 
     // Whether a datagram waits already.

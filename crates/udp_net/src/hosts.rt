@@ -82,9 +82,13 @@ impl Hosts {
     pub fn host_of(&self, node: Node) -> IpAddr
         ensures { result ≡ host_of node self.now.peers }
     {
-        self.peers.iter().fold(LOCAL, |host, peer| {
-            if peer.node == node { peer.host } else { host }
-        })
+        let mut host = LOCAL;
+        for peer in self.peers.as_slice() {
+            if peer.node == node {
+                host = peer.host;
+            }
+        }
+        host
     }
 }
 

@@ -1,14 +1,14 @@
-ghost use Rattle.std.specs.Prelude.{◌≡◌, [], OnErr, IfOk, OnOk, IsTrue, length, map, nat_eq};
+ghost use Rattle.std.specs.Prelude.{◌≡◌, [], OnErr, IfOk, OnOk, IsTrue, length, nat_eq};
 ghost use Rattle.udp_net.specs.Acks.{is_ack};
 ghost use Rattle.udp_net.specs.Bursts.{ack_passage, after_ack, opened, passes, postponed, has_just_gone, going, passage, offered, after_offer, begun, GoesOn};
-ghost use Rattle.udp_net.specs.Hosts.{IsSameHost, host_of};
+ghost use Rattle.udp_net.specs.Hosts.{IsSameHost};
 ghost use Rattle.udp_net.specs.Strangers.{IsFrom, IsPlainlyFrom};
 ghost use Rattle.std.specs.Net.Socket.{socket_ip, socket_port};
 
 use crate::acks::{LatestAck, is_ack};
 use crate::held_back::HeldBack;
 use crate::under_way::{GoneChunks, chunk_in};
-use crate::{BURST, Hosts, NodePort, OFFERS, PATIENCE, SHORT};
+use crate::{BURST, NodePort, OFFERS, PATIENCE, SHORT};
 use address::{Bytes, Node};
 use std::alloc::{AllocError, Global};
 use std::marker::Model;
@@ -65,30 +65,6 @@ impl Model for Lane {
     ghost view = { λ l. record { port = l.port; host = l.host; to_send = l.to_send; to_offer = l.to_offer; patience = l.patience; held = l.held; turn = l.turn; gone = l.gone; ack = l.ack } };
 }
 
-// Whether two addresses name the same host: an IPv4 address and its form in IPv6 do.
-fn is_same_host(one: IpAddr, other: IpAddr) -> bool
-    ensures same { one ≡ other → IsTrue result }
-    ensures only { IsTrue result → IsSameHost one other }
-{
-    let (first, second) = (one.to_canonical(), other.to_canonical());
-    one == other || first == second
-}
-
-/// The ways to some nodes, each at its host.
-pub(crate) fn lanes_to(
-    alloc: Global,
-    nodes: &[NodePort],
-    hosts: &Hosts,
-) -> Result<Vec<Lane>, AllocError>
-    ensures { IfOk result (λ l. l.items ≡ map (λ n. opened n (host_of n.node hosts.now.peers)) nodes.now) }
-{
-    let mut lanes = Vec::with_capacity(alloc, nodes.len())?;
-    for node in nodes {
-        lanes.push(Lane::new(alloc, *node, hosts.host_of(node.node))?)?;
-    }
-    Ok(lanes)
-}
-
 impl Lane {
     // The way to a node at a host, on which nothing went.
     pub(crate) fn new(alloc: Global, port: NodePort, host: IpAddr) -> Result<Lane, AllocError>
@@ -122,12 +98,14 @@ impl Lane {
         SocketAddr::new(self.host, self.port.port)
     }
 
-    // Whether a datagram from an address comes from the node.
+    // Whether a datagram from an address comes from the node: an IPv4 address and its form in IPv6 name the same host.
     pub(crate) fn comes_from(&self, from: SocketAddr) -> bool
         ensures same { (socket_ip from ≡ self.now.host) → (socket_port from ≡ self.now.port.port) → IsTrue result }
         ensures only { IsTrue result → IsSameHost (socket_ip from) self.now.host × (socket_port from ≡ self.now.port.port) }
     {
-        from.port() == self.port.port && is_same_host(from.ip(), self.host)
+        let ip = from.ip();
+        let (first, second) = (ip.to_canonical(), self.host.to_canonical());
+        from.port() == self.port.port && (ip == self.host || first == second)
     }
 
     // Whether it leads to a node, and a datagram that names the node is from it: it comes from there, if it is known where it comes from.
@@ -192,10 +170,8 @@ impl Lane {
             self.go(datagram);
             return Ok(Passage::Goes);
         }
-        if !self.held.hold(datagram)? {
-            return Ok(Passage::Lost);
-        }
-        Ok(Passage::Waits)
+        let waits = self.held.hold(datagram)?;
+        Ok(if waits { Passage::Waits } else { Passage::Lost })
     }
 
     // An ACK waits until the next flush, in place of one that waits. Answers whether the datagram is one.
@@ -229,10 +205,8 @@ impl Lane {
             self.to_send = self.to_send.saturating_sub(length);
             return Ok(Passage::Goes);
         }
-        if !self.held.hold(self.ack.as_slice())? {
-            return Ok(Passage::Lost);
-        }
-        Ok(Passage::Waits)
+        let waits = self.held.hold(self.ack.as_slice())?;
+        Ok(if waits { Passage::Waits } else { Passage::Lost })
     }
 
     // The ACK that waited is offered.

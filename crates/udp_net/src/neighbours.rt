@@ -36,33 +36,6 @@ impl Model for Neighbours {
     ghost view = { λ n. record { told = n.told.items; ages = n.ages.items } };
 }
 
-fn untold_at(alloc: Global, nodes: &[NodePort]) -> Result<Vec<Neighbour>, AllocError>
-    ensures { IfOk result (λ told. told.items ≡ map (λ n. untold n.node) nodes.now) }
-{
-    let mut told = Vec::with_capacity(alloc, nodes.len())?;
-    for node in nodes {
-        told.push(Neighbour {
-            node: node.node,
-            word: None,
-            is_asked: false,
-        })?;
-    }
-    Ok(told)
-}
-
-fn newborn_at(alloc: Global, nodes: &[NodePort]) -> Result<Vec<Age>, AllocError>
-    ensures { IfOk result (λ ages. ages.items ≡ map (λ n. newborn n.node) nodes.now) }
-{
-    let mut ages = Vec::with_capacity(alloc, nodes.len())?;
-    for node in nodes {
-        ages.push(Age {
-            node: node.node,
-            rounds: 0,
-        })?;
-    }
-    Ok(ages)
-}
-
 // Whether a word is of a later incarnation than another one of its node, or of the same one and said later.
 fn is_later(word: &Word, last: &Word) -> bool
     ensures { result ≡ is_later word.now last.now }
@@ -83,12 +56,6 @@ fn is_news(word: &Word, neighbour: &Neighbour) -> bool
     }
 }
 
-fn is_any_news(word: &Word, told: &[Neighbour]) -> bool
-    ensures { result ≡ list_any (is_news word.now) told.now }
-{
-    told.iter().any(|neighbour| is_news(word, neighbour))
-}
-
 fn hearing(word: &Word, neighbour: Neighbour) -> Neighbour
     ensures { result ≡ hearing word.now neighbour }
 {
@@ -102,12 +69,17 @@ fn hearing(word: &Word, neighbour: Neighbour) -> Neighbour
     }
 }
 
-fn hear_all(word: &Word, told: &mut [Neighbour])
-    ensures { told.new ≡ map (hearing word.now) told.old }
+// A word came. Answers whether it is news of some node.
+fn hear_all(word: &Word, told: &mut [Neighbour]) -> bool
+    ensures heard { told.new ≡ map (hearing word.now) told.old }
+    ensures news { result ≡ list_any (is_news word.now) told.old }
 {
+    let mut is_any_news = false;
     for neighbour in told.iter_mut() {
+        is_any_news |= is_news(word, neighbour);
         *neighbour = hearing(word, *neighbour);
     }
+    is_any_news
 }
 
 fn renewed(node: Node, age: Age) -> Age
@@ -130,32 +102,11 @@ fn renew_all(node: Node, ages: &mut [Age])
     }
 }
 
-fn answered(node: Node, neighbour: Neighbour) -> Neighbour
-    ensures { result ≡ answered node neighbour }
-{
-    if neighbour.node != node {
-        return neighbour;
-    }
-    Neighbour {
-        is_asked: false,
-        ..neighbour
-    }
-}
-
 fn answer_all(node: Node, told: &mut [Neighbour])
     ensures { told.new ≡ map (answered node) told.old }
 {
     for neighbour in told.iter_mut() {
-        *neighbour = answered(node, *neighbour);
-    }
-}
-
-fn older(age: Age) -> Age
-    ensures { result ≡ older age }
-{
-    Age {
-        node: age.node,
-        rounds: age.rounds.saturating_add(1),
+        neighbour.is_asked &= neighbour.node != node;
     }
 }
 
@@ -163,15 +114,17 @@ fn age_all(ages: &mut [Age])
     ensures { ages.new ≡ map older ages.old }
 {
     for age in ages.iter_mut() {
-        *age = older(*age);
+        age.rounds = age.rounds.saturating_add(1);
     }
 }
 
 fn is_old(node: Node, ages: &[Age]) -> bool
     ensures { result ≡ is_old node ages.now }
 {
-    ages.iter()
-        .any(|age| age.node == node && FORGOTTEN < age.rounds)
+    let Some((first, rest)) = ages.split_first() else {
+        return false;
+    };
+    (first.node == node && FORGOTTEN < first.rounds) || is_old(node, rest)
 }
 
 fn remembered(ages: &[Age], neighbour: Neighbour) -> Neighbour
@@ -200,10 +153,20 @@ impl Neighbours {
     pub(crate) fn new(alloc: Global, nodes: &[NodePort]) -> Result<Neighbours, AllocError>
         ensures { IfOk result (λ s. s ≡ record { told = map (λ n. untold n.node) nodes.now; ages = map (λ n. newborn n.node) nodes.now }) }
     {
-        Ok(Neighbours {
-            told: untold_at(alloc, nodes)?,
-            ages: newborn_at(alloc, nodes)?,
-        })
+        let mut told = Vec::with_capacity(alloc, nodes.len())?;
+        let mut ages = Vec::with_capacity(alloc, nodes.len())?;
+        for node in nodes {
+            told.push(Neighbour {
+                node: node.node,
+                word: None,
+                is_asked: false,
+            })?;
+            ages.push(Age {
+                node: node.node,
+                rounds: 0,
+            })?;
+        }
+        Ok(Neighbours { told, ages })
     }
 
     /// What was told of each node.
@@ -217,8 +180,7 @@ impl Neighbours {
     pub(crate) fn hear(&mut self, word: &Word)
         ensures { self.new ≡ heard word.now self.old }
     {
-        if is_any_news(word, self.told.as_slice()) {
-            hear_all(word, self.told.as_mut_slice());
+        if hear_all(word, self.told.as_mut_slice()) {
             renew_all(word.source.node(), self.ages.as_mut_slice());
         }
     }

@@ -13,7 +13,7 @@ pub const MOST_NODES: usize = 16;
 pub const MOST_SILENT: u16 = 10_000;
 
 /// A node and its port.
-#[derive(Clone, Copy, Debug)]
+#[derive(Clone, Copy)]
 pub struct NodePort {
     /// The node.
     pub node: Node,

@@ -3,8 +3,8 @@
 ghost use Rattle.std.specs.Prelude.{◌≡◌, map, true, false, None, IfOk};
 ghost use Rattle.udp_net.specs.Sieve.{unasked, standing, is_outside, counter_of, is_join, is_flush, is_merge, is_absurd, would_merge, asks_too_soon, lets_through, IsOrdinary, hearing, passing};
 
-use crate::asker::{Asker, ask, is_barred, stands_in, unasked_at, wait};
-use crate::{FURTHEST, NodePort};
+use crate::asker::{Asker, Stage, ask, is_barred, wait};
+use crate::{FIRST_PAUSE, FURTHEST, NodePort};
 use address::{Address, ViewId};
 use std::alloc::{AllocError, Global};
 use std::marker::Model;
@@ -45,7 +45,7 @@ fn is_outside(address: Address, view: &Option<Roster>) -> bool
     ensures { result ≡ is_outside address view.now }
 {
     match view {
-        Some(view) => !stands_in(address, view.members().as_slice()),
+        Some(view) => !view.members().as_slice().contains(&address),
         None => false,
     }
 }
@@ -55,20 +55,17 @@ fn counter_of(body: &Body<'_>) -> u64
     ensures { result ≡ counter_of body.now }
 {
     match body {
-        Body::Join => 0,
-        Body::Redirect(_) => 0,
-        Body::Leave => 0,
-        Body::Forward { view, .. } => view.counter(),
-        Body::Order { view, .. } => view.counter(),
-        Body::Nak { view, .. } => view.counter(),
-        Body::Ack { view, .. } => view.counter(),
-        Body::Status { view, .. } => view.counter(),
+        Body::Join | Body::Redirect(_) | Body::Leave => 0,
+        Body::Forward { view, .. }
+        | Body::Order { view, .. }
+        | Body::Nak { view, .. }
+        | Body::Ack { view, .. }
+        | Body::Status { view, .. } => view.counter(),
         Body::Flush(proposal) => proposal.id().counter(),
         Body::Behind { proposal, counter } => proposal.counter().max(counter.get()),
-        Body::Report { proposal, .. } => proposal.counter(),
+        Body::Report { proposal, .. } | Body::State { proposal, .. } => proposal.counter(),
         Body::Install(install) => install.view().id().counter(),
         Body::Merge(view) => view.id().counter(),
-        Body::State { proposal, .. } => proposal.counter(),
     }
 }
 
@@ -105,9 +102,19 @@ impl Sieve {
     pub(crate) fn new(alloc: Global, nodes: &[NodePort], silent: u16) -> Result<Sieve, AllocError>
         ensures { IfOk result (λ s. s ≡ record { view = None; askers = map (λ n. unasked n.node) nodes.now; silent = silent; says_words = false }) }
     {
+        let mut askers = Vec::with_capacity(alloc, nodes.len())?;
+        for node in nodes {
+            askers.push(Asker {
+                node: node.node,
+                latest: None,
+                stage: Stage::Free,
+                next_pause: FIRST_PAUSE,
+                calm: 0,
+            })?;
+        }
         Ok(Sieve {
             view: None,
-            askers: unasked_at(alloc, nodes)?,
+            askers,
             silent: u32::from(silent),
             says_words: false,
         })

@@ -110,24 +110,6 @@ impl<N: Net> SievedNet<N> {
         })
     }
 
-    // Counts a receive, which found a datagram or none; where the turn ends with it, the next one begins.
-    fn count_receive(&mut self, is_found: bool)
-        ensures failed { N.failed self.new.inner ≡ N.failed self.old.inner }
-        ensures unsent { N.unsent self.old.inner ≤ N.unsent self.new.inner }
-        ensures lost { self.new.lost ≡ self.old.lost }
-    {
-        self.receives = self.receives.saturating_add(1);
-        if is_found && self.receives < TURN {
-            return;
-        }
-        self.receives = 0;
-        let net = &mut self.inner;
-        for lane in self.ways.lanes.as_mut_slice() {
-            go_on(net, lane);
-        }
-        net.flush();
-    }
-
     // Takes the next datagram that is given; none where `TURN` in a row are dropped.
     fn take(&mut self, buffer: &mut [u8]) -> Result<Option<usize>, Fault>
         ensures within { IfOk result (λ count. IfSome count (λ n. n ≤ length buffer.new)) }
@@ -181,19 +163,29 @@ impl<N: Net> Net for SievedNet<N> {
         net.flush();
     }
 
+    /// Where a turn ends with it, the next one begins.
     fn receive(&mut self, buffer: &mut [u8]) -> Result<Option<usize>, Fault> {
         let answer = self.take(buffer);
-        self.count_receive(matches!(&answer, Ok(Some(_))));
+        self.receives = self.receives.saturating_add(1);
+        if !matches!(&answer, Ok(Some(_))) || TURN <= self.receives {
+            self.receives = 0;
+            let net = &mut self.inner;
+            for lane in self.ways.lanes.as_mut_slice() {
+                go_on(net, lane);
+            }
+            net.flush();
+        }
         answer
     }
 
     /// Where something is held back, no longer than `HELD_WAIT` milliseconds.
     fn wait(&mut self, limit: Duration) {
-        if self.ways.holds_back() {
-            self.inner.wait(limit.min(Duration::from_millis(HELD_WAIT)));
+        let limit = if self.ways.holds_back() {
+            limit.min(Duration::from_millis(HELD_WAIT))
         } else {
-            self.inner.wait(limit);
-        }
+            limit
+        };
+        self.inner.wait(limit);
     }
 
     fn failures(&self) -> u64 {
@@ -219,7 +211,7 @@ impl<N: Net> Net for SievedNet<N> {
     }
 
     fn words(&self) -> &[Neighbour] {
-        self.ways.gate.words()
+        self.ways.gate.neighbours.told()
     }
 
     /// Also words that are spelled wrongly, or are of another group, and what the net below counts.

@@ -2,17 +2,18 @@ ghost use Rattle.std.specs.Prelude.{◌≡◌, ◌≤◌, length, IfOk, IfSome};
 ghost use Rattle.udp_net.specs.Logs.{one_more};
 
 use crate::waiter::Waiter;
-use mio::Events;
+use mio::{Events, Poll};
 use std::io;
 use std::io::ErrorKind;
 use std::net::{SocketAddr, UdpSocket};
-use std::os::fd::{AsRawFd, RawFd};
+use std::os::fd::AsRawFd;
 use std::time::Duration;
 
 /// A socket of UDP that waits only where it is asked to, and how many datagrams could not be sent on it. No call of `send` or `receive` waits.
 pub(crate) struct Socket {
     socket: UdpSocket,
-    waiter: Waiter,
+    // What its waits end for: it, and another descriptor.
+    pub(crate) waiter: Waiter,
     // Whether the last receive found a datagram: then more may wait.
     may_have_more: bool,
     // At most 2^64 - 1.
@@ -39,7 +40,10 @@ impl Socket {
     ) -> io::Result<Socket> {
         let socket = UdpSocket::bind(network, at)?;
         socket.set_nonblocking(true)?;
-        let mut waiter = Waiter::new(network, events)?;
+        let mut waiter = Waiter {
+            poll: Poll::new(network)?,
+            events,
+        };
         waiter.add(socket.as_raw_fd())?;
         Ok(Socket {
             socket,
@@ -47,13 +51,6 @@ impl Socket {
             may_have_more: true,
             unsent: 0,
         })
-    }
-
-    // From now on its waits end too when another descriptor is readable.
-    pub(crate) fn also_wait_for(&mut self, other: RawFd) -> io::Result<()>
-        ensures unsent { self.new.unsent ≡ self.old.unsent }
-    {
-        self.waiter.add(other)
     }
 
     // How many datagrams could not be sent, at most 2^64 - 1.

@@ -13,8 +13,8 @@ use crate::gate::Verdict;
 use crate::lane::{Lane, Passage};
 use crate::socket::Socket;
 use crate::waiter::WAITED_FOR;
-use crate::ways::Ways;
-use crate::{BindError, Fault, HELD_WAIT, Hosts, Neighbour, Net, NodePort, Settings, TURN, Word};
+use crate::ways::{Ways, is_reached_at};
+use crate::{BindError, Fault, HELD_WAIT, Hosts, Neighbour, Net, Settings, TURN, Word};
 use address::{Address, Node, ViewId};
 use mio::Events;
 use std::alloc::Global;
@@ -125,7 +125,7 @@ impl SocketNet {
         ensures open { self.new.is_open ≡ self.old.is_open }
         ensures bare { self.new.is_bare ≡ self.old.is_bare }
     {
-        self.socket.also_wait_for(other)
+        self.socket.waiter.add(other)
     }
 
     /// From now on the datagrams of a node that the settings list are taken wherever they come from, as where addresses are translated on the way
@@ -143,24 +143,6 @@ impl SocketNet {
         self.is_bare = true;
     }
 
-    // Where a datagram comes from, unless it may come from anywhere.
-    fn source_of(&self, from: SocketAddr) -> Option<SocketAddr>
-        ensures { result ≡ source_of self.now.is_open from }
-    {
-        if self.is_open { None } else { Some(from) }
-    }
-
-    // What becomes of a datagram of a bare net: it is given if it comes from where some node is reached, or may come from anywhere.
-    fn judge_bare(&self, from: SocketAddr) -> Verdict
-        ensures given { result ≡ Given → self.now.is_open ≡ false → AnyLane (ComesFrom from) self.now.ways.lanes.items }
-        ensures ordinary { AnyLane (ComesPlainlyFrom from) self.now.ways.lanes.items → result ≡ Given }
-    {
-        if self.is_open || self.ways.is_reached(from) {
-            return Verdict::Given;
-        }
-        Verdict::Strange
-    }
-
     // What becomes of a datagram: what spells no packet is given, unless it is a word.
     fn judge(&mut self, datagram: &[u8], from: SocketAddr) -> Verdict
         // No word is given; and a packet only if it comes from the node that it names, and the sieve lets it through.
@@ -168,15 +150,21 @@ impl SocketNet {
         ensures given { self.old.is_bare ≡ false → result ≡ Given → IfOk (packet_of datagram.now) (λ p. AnyLane (IsFrom p.source.node (source_of self.old.is_open from)) self.old.ways.lanes.items × (lets_through self.old.ways.gate.sieve p ≡ true)) }
         // The messages of a view, and what flushes it for its members, are always given, if they come from the node that they name.
         ensures ordinary { self.old.is_bare ≡ false → (p : PacketValue) → Spells p datagram.now → IsOrdinary self.old.ways.gate.sieve p → AnyLane (IsPlainlyFrom p.source.node (source_of self.old.is_open from)) self.old.ways.lanes.items → result ≡ Given }
-        // A bare net gives what comes from where some node is reached.
+        // A bare net gives what comes from where some node is reached, or may come from anywhere.
         ensures bare { self.old.is_bare ≡ true → result ≡ Given → self.old.is_open ≡ false → AnyLane (ComesFrom from) self.old.ways.lanes.items }
+        ensures reached { self.old.is_bare ≡ true → AnyLane (ComesPlainlyFrom from) self.old.ways.lanes.items → result ≡ Given }
         ensures failed { self.new.failures ≡ self.old.failures }
         ensures unsent { self.new.socket.unsent ≡ self.old.socket.unsent }
     {
         if self.is_bare {
-            return self.judge_bare(from);
+            let is_given = self.is_open || is_reached_at(self.ways.lanes.as_slice(), from);
+            return if is_given {
+                Verdict::Given
+            } else {
+                Verdict::Strange
+            };
         }
-        let source = self.source_of(from);
+        let source = if self.is_open { None } else { Some(from) };
         self.ways.judge(datagram, source)
     }
 
@@ -205,22 +193,6 @@ impl SocketNet {
         }
         Ok(None)
     }
-
-    // Counts a receive, which found a datagram or none; where the turn ends with it, the next one begins.
-    fn count_receive(&mut self, is_found: bool)
-        ensures failed { self.new.failures ≡ self.old.failures }
-        ensures unsent { self.old.socket.unsent ≤ self.new.socket.unsent }
-    {
-        self.receives = self.receives.saturating_add(1);
-        if is_found && self.receives < TURN {
-            return;
-        }
-        self.receives = 0;
-        let socket = &mut self.socket;
-        for lane in self.ways.lanes.as_mut_slice() {
-            go_on(socket, lane);
-        }
-    }
 }
 
 impl Net for SocketNet {
@@ -246,9 +218,17 @@ impl Net for SocketNet {
         }
     }
 
+    /// Where a turn ends with it, the next one begins.
     fn receive(&mut self, buffer: &mut [u8]) -> Result<Option<usize>, Fault> {
         let answer = self.take(buffer);
-        self.count_receive(matches!(&answer, Ok(Some(_))));
+        self.receives = self.receives.saturating_add(1);
+        if !matches!(&answer, Ok(Some(_))) || TURN <= self.receives {
+            self.receives = 0;
+            let socket = &mut self.socket;
+            for lane in self.ways.lanes.as_mut_slice() {
+                go_on(socket, lane);
+            }
+        }
         answer
     }
 
@@ -289,7 +269,7 @@ impl Net for SocketNet {
     }
 
     fn words(&self) -> &[Neighbour] {
-        self.ways.gate.words()
+        self.ways.gate.neighbours.told()
     }
 
     /// Also words that are spelled wrongly, or are of another group.

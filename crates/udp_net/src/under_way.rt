@@ -2,7 +2,7 @@
 
 ghost use Rattle.std.specs.Prelude.{◌≡◌, [], ◌∷◌, ◌++◌, IfOk};
 ghost use Rattle.circular_buffer.specs.Buffer.{keep_last};
-ghost use Rattle.udp_net.specs.Bursts.{chunk_in, chunk_of, is_same_chunk, is_under_way, went_just};
+ghost use Rattle.udp_net.specs.Bursts.{chunk_in, chunk_of, is_under_way, went_just};
 
 use crate::{REMEMBERED, UNDER_WAY};
 use address::ViewId;
@@ -67,21 +67,14 @@ pub(crate) fn chunk_in(datagram: &[u8]) -> Option<ChunkName>
     }
 }
 
-impl ChunkName {
-    // Whether both are one chunk.
-    fn is(self, other: ChunkName) -> bool
-        ensures { result ≡ is_same_chunk self other }
-    {
-        self.proposal == other.proposal && self.index == other.index
-    }
-}
-
 impl GoneChunk {
     // Whether it is this chunk, and went within the last `UNDER_WAY` turns up to this one.
     fn went_just(self, name: ChunkName, turn: u64) -> bool
         ensures { result ≡ went_just name turn self }
     {
-        self.name.is(name) && turn.saturating_sub(self.turn) < UNDER_WAY
+        self.name.proposal == name.proposal
+            && self.name.index == name.index
+            && turn.saturating_sub(self.turn) < UNDER_WAY
     }
 }
 

@@ -9,8 +9,9 @@ pub(crate) const WAITED_FOR: usize = 2;
 
 /// Waits for descriptors at once. One that was ready wakes it again only when more comes to it.
 pub(crate) struct Waiter {
-    poll: Poll,
-    events: Events,
+    pub(crate) poll: Poll,
+    // With room for `WAITED_FOR`.
+    pub(crate) events: Events,
 }
 
 impl Drop for Waiter {
@@ -20,14 +21,6 @@ impl Drop for Waiter {
 }
 
 impl Waiter {
-    // For none yet, with room for `WAITED_FOR` events.
-    pub(crate) fn new<R: std::net::Net>(network: &R, events: Events) -> io::Result<Waiter> {
-        Ok(Waiter {
-            poll: Poll::new(network)?,
-            events,
-        })
-    }
-
     // For this descriptor too.
     pub(crate) fn add(&mut self, descriptor: RawFd) -> io::Result<()> {
         self.poll

@@ -1,6 +1,8 @@
 //! The ways to the nodes of a group, and what comes on them (docs/RUNNER.md, "What a net drops").
 
-ghost use Rattle.std.specs.Prelude.{◌≡◌, ◌≢◌, true, IfOk, IsTrue};
+ghost use Rattle.std.specs.Prelude.{◌≡◌, ◌≢◌, true, map, IfOk, IsTrue};
+ghost use Rattle.udp_net.specs.Bursts.{opened};
+ghost use Rattle.udp_net.specs.Hosts.{host_of};
 ghost use Rattle.udp_net.specs.Sieve.{lets_through, IsOrdinary};
 ghost use Rattle.udp_net.specs.Strangers.{AnyLane, ComesFrom, ComesPlainlyFrom, IsFrom, IsPlainlyFrom};
 ghost use Rattle.udp_net.specs.Words.{begins_as_word};
@@ -9,9 +11,9 @@ ghost use Rattle.wire_values.specs.declared.packet.Packet.{Packet as PacketValue
 ghost use Rattle.wire.specs.Packets.{Spells, packet_of};
 
 use crate::gate::{Gate, Verdict};
-use crate::lane::{Lane, lanes_to};
+use crate::lane::Lane;
 use crate::word::is_word;
-use crate::{Hosts, Settings};
+use crate::{Hosts, Settings, Word};
 use address::Node;
 use std::alloc::{AllocError, Global};
 use std::net::SocketAddr;
@@ -40,8 +42,8 @@ fn is_on_a_lane(lanes: &[Lane], node: Node, from: Option<SocketAddr>) -> bool
     first.is_way_of(node, from) || is_on_a_lane(rest, node, from)
 }
 
-// Whether some node is reached at an address.
-fn is_reached_at(lanes: &[Lane], from: SocketAddr) -> bool
+/// Whether some node is reached at an address.
+pub(crate) fn is_reached_at(lanes: &[Lane], from: SocketAddr) -> bool
     ensures same { AnyLane (ComesPlainlyFrom from) lanes.now → IsTrue result }
     ensures only { IsTrue result → AnyLane (ComesFrom from) lanes.now }
 {
@@ -53,28 +55,28 @@ fn is_reached_at(lanes: &[Lane], from: SocketAddr) -> bool
 
 impl Ways {
     /// To the nodes of the settings at these hosts, for their group.
-    pub(crate) fn new(
-        alloc: Global,
-        settings: &Settings,
-        hosts: &Hosts,
-    ) -> Result<Ways, AllocError> {
+    pub(crate) fn new(alloc: Global, settings: &Settings, hosts: &Hosts) -> Result<Ways, AllocError>
+        ensures { IfOk result (λ w. w.lanes.items ≡ map (λ n. opened n (host_of n.node hosts.now.peers)) settings.now.nodes) }
+    {
+        let nodes = settings.nodes();
+        let mut lanes = Vec::with_capacity(alloc, nodes.len())?;
+        for node in nodes {
+            lanes.push(Lane::new(alloc, *node, hosts.host_of(node.node))?)?;
+        }
         Ok(Ways {
-            lanes: lanes_to(alloc, settings.nodes(), hosts)?,
+            lanes,
             gate: Gate::new(alloc, settings)?,
         })
     }
 
     /// Whether a datagram is held back for some node.
     pub(crate) fn holds_back(&self) -> bool {
-        self.lanes.iter().any(|lane| lane.held() > 0)
-    }
-
-    /// Whether some node is reached at an address.
-    pub(crate) fn is_reached(&self, from: SocketAddr) -> bool
-        ensures same { AnyLane (ComesPlainlyFrom from) self.now.lanes.items → IsTrue result }
-        ensures only { IsTrue result → AnyLane (ComesFrom from) self.now.lanes.items }
-    {
-        is_reached_at(self.lanes.as_slice(), from)
+        for lane in self.lanes.as_slice() {
+            if lane.held() > 0 {
+                return true;
+            }
+        }
+        false
     }
 
     /// A datagram came from an address: the node that is reached there has rounds.
@@ -97,26 +99,18 @@ impl Ways {
         }
     }
 
-    // Whether a datagram that names a node is from it.
-    fn is_from(&self, node: Node, from: Option<SocketAddr>) -> bool
-        ensures same { AnyLane (IsPlainlyFrom node from) self.now.lanes.items → IsTrue result }
-        ensures only { IsTrue result → AnyLane (IsFrom node from) self.now.lanes.items }
-    {
-        is_on_a_lane(self.lanes.as_slice(), node, from)
-    }
-
     // What becomes of a datagram that begins as a word: it counts if it spells one of the group, and is from its node.
     fn hear_word(&mut self, datagram: &[u8], from: Option<SocketAddr>) -> Verdict
         ensures { result ≢ Given }
     {
-        let Ok(word) = self.gate.word_in(datagram) else {
+        let Ok(word) = Word::read(datagram, &self.gate.group.lent()) else {
             return Verdict::Strange;
         };
-        if !self.is_from(word.source.node(), from) {
+        if !is_on_a_lane(self.lanes.as_slice(), word.source.node(), from) {
             return Verdict::Strange;
         }
         self.hear(word.source.node());
-        self.gate.hear_word(&word);
+        self.gate.neighbours.hear(&word);
         Verdict::Told
     }
 
@@ -125,11 +119,15 @@ impl Ways {
         ensures given { result ≡ Given → AnyLane (IsFrom packet.now.source.node from) self.old.lanes.items × (lets_through self.old.gate.sieve packet.now ≡ true) }
         ensures ordinary { IsOrdinary self.old.gate.sieve packet.now → AnyLane (IsPlainlyFrom packet.now.source.node from) self.old.lanes.items → result ≡ Given }
     {
-        if !self.is_from(packet.source.node(), from) {
+        if !is_on_a_lane(self.lanes.as_slice(), packet.source.node(), from) {
             return Verdict::Strange;
         }
         self.hear(packet.source.node());
-        self.gate.judge(packet)
+        if !self.gate.sieve.lets_through(packet) {
+            return Verdict::Sieved;
+        }
+        self.gate.sieve.hear(packet);
+        Verdict::Given
     }
 
     /// What becomes of a datagram that comes from an address, or may come from anywhere: what spells no packet is given, unless it is a word.

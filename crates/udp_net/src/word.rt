@@ -1,12 +1,11 @@
 //! What nodes say of themselves to each other, beside the packets of their members (docs/WIRE.md, "Words").
 
-ghost use Rattle.std.specs.Prelude.{◌≡◌, ◌≤◌, ◌+◌, ◌++◌, true, Ok, length, vec_len, vec_capacity, IsTrue, OnOk, OnErr};
+ghost use Rattle.std.specs.Prelude.{◌≡◌, ◌≤◌, ◌+◌, ◌++◌, Ok, length, vec_len, vec_capacity, IsTrue, OnOk, OnErr};
 ghost use Rattle.wire_values.specs.declared.packet.Packet.{Packet};
 ghost use Rattle.wire_values.specs.Reading.{IsRead};
 ghost use Rattle.wire.specs.Packets.{Spells};
-ghost use Rattle.wire_values.specs.Fields.{view_id_bytes};
 ghost use Rattle.udp_net.specs.declared.word.Word.{Word as WordValue};
-ghost use Rattle.udp_net.specs.Words.{IsWord, echo_bytes, place_flag, held_place_bytes, place_bytes, word_bytes, word_head, said_bytes, echo_at, place_at, word_front_at, said_at, word_at, word_of, begins_as_word};
+ghost use Rattle.udp_net.specs.Words.{IsWord, echo_bytes, place_flag, place_bytes, word_bytes, word_head, said_bytes, echo_at, place_at, said_at, word_at, word_of, begins_as_word};
 
 use crate::WORD;
 use address::limits::MEMBERS;
@@ -76,15 +75,6 @@ pub(crate) fn is_word(datagram: &[u8]) -> bool
     datagram.starts_with(b"VF")
 }
 
-fn put_view_id(id: ViewId, out: &mut Vec<u8>)
-    requires { vec_len out.old + length (view_id_bytes id) ≤ vec_capacity out.old }
-    ensures items { out.new.items ≡ out.old.items ++ view_id_bytes id }
-    ensures room { vec_capacity out.old ≤ vec_capacity out.new }
-{
-    put_u64(id.counter(), out);
-    put_address(id.creator(), out);
-}
-
 fn put_echo(echo: Option<Echo>, out: &mut Vec<u8>)
     requires { vec_len out.old + length (echo_bytes echo) ≤ vec_capacity out.old }
     ensures items { out.new.items ≡ out.old.items ++ echo_bytes echo }
@@ -105,25 +95,19 @@ fn place_flag(stays: bool) -> u8
     if stays { 2 } else { 1 }
 }
 
-fn put_held_place(place: Place, out: &mut Vec<u8>)
-    requires { vec_len out.old + length (held_place_bytes place) ≤ vec_capacity out.old }
-    ensures items { out.new.items ≡ out.old.items ++ held_place_bytes place }
-    ensures room { vec_capacity out.old ≤ vec_capacity out.new }
-{
-    put_u8(place_flag(place.stays), out);
-    put_view_id(place.view, out);
-    put_u8(place.members, out);
-}
-
 fn put_place(place: Option<Place>, out: &mut Vec<u8>)
     requires { vec_len out.old + length (place_bytes place) ≤ vec_capacity out.old }
     ensures items { out.new.items ≡ out.old.items ++ place_bytes place }
     ensures room { vec_capacity out.old ≤ vec_capacity out.new }
 {
-    match place {
-        None => put_u8(0, out),
-        Some(place) => put_held_place(place, out),
-    }
+    let Some(place) = place else {
+        put_u8(0, out);
+        return;
+    };
+    put_u8(place_flag(place.stays), out);
+    put_u64(place.view.counter(), out);
+    put_address(place.view.creator(), out);
+    put_u8(place.members, out);
 }
 
 // What stands in a word before what is said.
@@ -196,19 +180,12 @@ fn said_at(from: &mut Reader<'_>) -> Result<Word, WireError>
     })
 }
 
-#[tactic(auto, unfolding(crate::specs::Words::word_front_at))]
-fn front_at(from: &mut Reader<'_>) -> Result<u8, WireError>
-    ensures { IsRead (λ x. (x, from.new)) result (word_front_at from.old) }
-{
-    let _ = from.u16(WORD_MAGIC, WORD_MAGIC, WireError::NotOurs)?;
-    from.u8(WORD_VERSION, WORD_VERSION, WireError::Version)
-}
-
-#[tactic(auto, unfolding(crate::specs::Words::word_at))]
+#[tactic(auto, unfolding(crate::specs::Words::word_front_at, crate::specs::Words::word_at))]
 fn word_at(group: &GroupName<'_>, from: &mut Reader<'_>) -> Result<Word, WireError>
     ensures { IsRead (λ x. (x, from.new)) result (word_at group.now from.old) }
 {
-    let _ = front_at(from)?;
+    let _ = from.u16(WORD_MAGIC, WORD_MAGIC, WireError::NotOurs)?;
+    let _ = from.u8(WORD_VERSION, WORD_VERSION, WireError::Version)?;
     let name = group_at(from)?;
     if name.as_slice() != group.as_slice() {
         return Err(WireError::Value);

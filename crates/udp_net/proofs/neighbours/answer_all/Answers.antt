@@ -1,12 +1,14 @@
-use Rattle.std.proofs.Common.{sym, ap, ◌∙◌}
-use Rattle.std.specs.Prelude.{slice_set}
-use Rattle.std.proofs.lemmas.List.Edits.{map_over_more}
+use Rattle.std.proofs.Common.{◌≡◌, Bool, true, false, ◌&&◌, not, get_or, refl, if◌then◌else◌}
+use Rattle.udp_net.specs.declared.word.Neighbour.{Neighbour}
 use Rattle.udp_net.specs.Neighbours.{answered}
+use Rattle.udp_net.proofs.WrittenOverEach.{written}
 use Rattle.udp_net.proofs.neighbours.answer_all.Goals as goal
 
+marked : (n : Neighbour) (asked same : Bool) → record n { is_asked = asked && not same } ≡ (if same then record n { is_asked = false } else record n { is_asked = asked })
+marked n true true = refl
+marked n true false = refl
+marked n false true = refl
+marked n false false = refl
+
 pub loop-neighbour-preserved : goal.loop-neighbour-preserved
-loop-neighbour-preserved c =
-    let f = answered c.args.node in
-    let i = c.loop-neighbour.neighbour-index in
-    ap (slice_set c.loop-neighbour.told i) (c.answered.ensures ∙ ap f (sym c.neighbour-item.is))
-    ∙ map_over_more f c.args.told.now c.loop-neighbour.told i c.neighbour-item.result c.loop-neighbour-test.true c.loop-neighbour.invariant c.neighbour-item.is
+loop-neighbour-preserved c = written (answered c.args.node) c.args.told.now c.loop-neighbour.told c.loop-neighbour.neighbour-index c.neighbour-item.result c.loop-neighbour-test.true c.loop-neighbour.invariant c.neighbour-item.is (rw c.ne.ensures (marked (get_or c.loop-neighbour.told c.loop-neighbour.neighbour-index c.neighbour-item.result) _ _))

@@ -1,12 +1,6 @@
-use Rattle.std.proofs.Common.{sym, ap, ◌∙◌}
-use Rattle.std.specs.Prelude.{slice_set}
-use Rattle.std.proofs.lemmas.List.Edits.{map_over_more}
 use Rattle.udp_net.specs.Neighbours.{remembered}
+use Rattle.udp_net.proofs.WrittenOverEach.{written}
 use Rattle.udp_net.proofs.neighbours.forget_old.Goals as goal
 
 pub loop-neighbour-preserved : goal.loop-neighbour-preserved
-loop-neighbour-preserved c =
-    let f = remembered c.args.ages.now in
-    let i = c.loop-neighbour.neighbour-index in
-    ap (slice_set c.loop-neighbour.told i) (c.remembered.ensures ∙ ap f (sym c.neighbour-item.is))
-    ∙ map_over_more f c.args.told.now c.loop-neighbour.told i c.neighbour-item.result c.loop-neighbour-test.true c.loop-neighbour.invariant c.neighbour-item.is
+loop-neighbour-preserved c = written (remembered c.args.ages.now) c.args.told.now c.loop-neighbour.told c.loop-neighbour.neighbour-index c.neighbour-item.result c.loop-neighbour-test.true c.loop-neighbour.invariant c.neighbour-item.is c.remembered.ensures

@@ -1,6 +1,6 @@
 use Rattle.std.proofs.Common.{◌≡◌, map, take}
 use Rattle.udp_net.specs.Sieve.{unasked}
-use Rattle.udp_net.proofs.asker.unasked_at.Given as goal
+use Rattle.udp_net.proofs.sieve.Sieve.new.Given as goal
 
 -- one for each node so far
 abbrev pub invariant-loop-node : goal.invariant-loop-node
