@@ -1,8 +1,7 @@
 //! The latest ACK for a node, which waits until the next flush (docs/RUNNER.md, "Bursts").
 
-ghost use Rattle.std.specs.Prelude.{◌≡◌, ◌≤◌, [], length, nat_eq, vec_capacity, IfOk};
+ghost use Rattle.std.specs.Prelude.{◌≡◌, ◌≤◌, [], length, vec_capacity, IfOk};
 ghost use Rattle.udp_net.specs.Acks.{is_ack};
-ghost use Rattle.wire_values.specs.Kinds.{kind_of};
 
 use crate::ACK;
 use big_endian::put;
@@ -28,13 +27,6 @@ impl Model for LatestAck {
     ghost invariant = { λ a. (length a.bytes.items ≤ ACK) × (ACK ≤ vec_capacity a.bytes) };
 }
 
-// Whether a packet is an ACK.
-fn is_ack_body(body: &Body<'_>) -> bool
-    ensures { result ≡ nat_eq (kind_of body.now) 7 }
-{
-    matches!(body, Body::Ack { .. })
-}
-
 /// Whether a datagram spells an ACK.
 pub(crate) fn is_ack(datagram: &[u8]) -> bool
     ensures { result ≡ is_ack datagram.now }
@@ -43,7 +35,7 @@ pub(crate) fn is_ack(datagram: &[u8]) -> bool
         return false;
     }
     match decode(datagram) {
-        Ok(packet) => is_ack_body(&packet.body),
+        Ok(packet) => matches!(packet.body, Body::Ack { .. }),
         Err(_) => false,
     }
 }

@@ -31,15 +31,6 @@ impl Model for Sieve {
     ghost view = { λ s. record { view = s.view; askers = s.askers.items; silent = s.silent; says_words = s.says_words } };
 }
 
-fn standing(view: Option<ViewId>, members: &[Address]) -> Option<Roster>
-    ensures { result ≡ standing view members.now }
-{
-    match view {
-        Some(id) => Roster::new(id, members),
-        None => None,
-    }
-}
-
 // Whether the member is in a view, and an address is not in it.
 fn is_outside(address: Address, view: &Option<Roster>) -> bool
     ensures { result ≡ is_outside address view.now }
@@ -162,7 +153,10 @@ impl Sieve {
     pub(crate) fn pass(&mut self, view: Option<ViewId>, members: &[Address])
         ensures { self.new ≡ passing (standing view members.now) self.old }
     {
-        self.view = standing(view, members);
+        self.view = match view {
+            Some(id) => Roster::new(id, members),
+            None => None,
+        };
         wait(&self.view, self.askers.as_mut_slice());
     }
 

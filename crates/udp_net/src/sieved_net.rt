@@ -83,20 +83,6 @@ fn send_on<N: Net>(net: &mut N, lane: &mut Lane, datagram: &[u8]) -> bool
     is_lost
 }
 
-// Sends the ACK that waits for a node, or holds it back; answers whether it is lost.
-fn flush_on<N: Net>(net: &mut N, lane: &mut Lane) -> bool
-    ensures failed { N.failed net.new ≡ N.failed net.old }
-    ensures unsent { N.unsent net.old ≤ N.unsent net.new }
-{
-    if lane.ack().is_empty() {
-        return false;
-    }
-    let offered = lane.offer_ack();
-    let is_lost = pass_on(net, lane.node(), offered, lane.ack());
-    lane.clear_ack();
-    is_lost
-}
-
 impl<N: Net> SievedNet<N> {
     /// A net over another one, for the group and the nodes of the settings.
     pub fn new(alloc: Global, inner: N, settings: &Settings) -> Result<SievedNet<N>, AllocError>
@@ -155,8 +141,12 @@ impl<N: Net> Net for SievedNet<N> {
         let net = &mut self.inner;
         let mut lost = 0u64;
         for lane in self.ways.lanes.as_mut_slice() {
-            if flush_on(net, lane) {
-                lost = lost.saturating_add(1);
+            if !lane.ack().is_empty() {
+                let offered = lane.offer_ack();
+                if pass_on(net, lane.node(), offered, lane.ack()) {
+                    lost = lost.saturating_add(1);
+                }
+                lane.clear_ack();
             }
         }
         self.lost = self.lost.saturating_add(lost);
