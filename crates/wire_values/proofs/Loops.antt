@@ -19,16 +19,17 @@ use Rattle.wire_values.proofs.MemberLaws.{found_rest}
 
 -- ---- so many values, one behind the other
 
+rest_behind : {A : Type 0} (x : A) (r : Read (List A)) → rest_of (r >>= λ others. Ok (x ∷ others.0, others.1)) ≡ rest_of r
+rest_behind x (Ok y) = refl
+rest_behind x (Err e) = refl
+
 pub list_goes_on : {A : Type 0} (read : List ℕ → Read A) (count i : ℕ) (bytes : List ℕ) (x : A) (rest : List ℕ) (total : Result (List ℕ) WireError) → i < count → read bytes ≡ Ok (x, rest)
     → rest_of (list_at read (count - i) bytes) ≡ total → rest_of (list_at read (count - (i + 1)) rest) ≡ total
 unfolding list_at
 list_goes_on read count i bytes x rest total lt h so_far =
     let k : count - i ≡ suc (count - (i + 1)) = omega arith in
-    let one : rest_of (list_at read (count - i) bytes) ≡ rest_of (list_at read (count - (i + 1)) rest) = rw (k, h) (passed x (list_at read (count - (i + 1)) rest)) in
-    sym one ∙ so_far where
-      passed : {A : Type 0} (x : A) (r : Read (List A)) → rest_of (r >>= λ others. Ok (x ∷ others.0, others.1)) ≡ rest_of r
-      passed x (Ok y) = refl
-      passed x (Err e) = refl
+    let one : rest_of (list_at read (count - i) bytes) ≡ rest_of (list_at read (count - (i + 1)) rest) = rw (k, h) (rest_behind x (list_at read (count - (i + 1)) rest)) in
+    sym one ∙ so_far
 
 pub list_ends : {A : Type 0} (read : List ℕ → Read A) (count i : ℕ) (bytes : List ℕ) (e : WireError) (total : Result (List ℕ) WireError) → i < count → read bytes ≡ Err e
     → rest_of (list_at read (count - i) bytes) ≡ total → total ≡ Err e
@@ -89,18 +90,6 @@ list_not_err read (suc n) bytes d some h e =
     let step : is_whole (list_at read (suc n) bytes) ≡ false = rw (h) refl in
     let f : false ≡ true = sym step ∙ e in cc
 
--- the front of some bytes that a list takes
-pub record Fronted {A : Type 0} (read : List ℕ → Read A) (n : ℕ) (bytes rest : List ℕ) (values : List A) : Type 0 where
-  pub behind : length rest ≤ length bytes
-  pub front : list_at read n (take (length bytes - length rest) bytes) ≡ Ok (values, [])
-
--- such a front is whole, and its values are those of the list
-pub fronted_values : {A : Type 0} (read : List ℕ → Read A) (n : ℕ) (bytes rest front : List ℕ) (values : List A) → Fronted read n bytes rest values → front ≡ take (length bytes - length rest) bytes
-    → (is_whole (list_at read n front) ≡ true) × (listed (list_at read n front) ≡ values)
-fronted_values {A = A} read n bytes rest front values f e =
-    let r : list_at read n front ≡ Ok (values, []) = ap (list_at read n) e ∙ f.front in
-    (ap is_whole r, ap listed r)
-
 -- a list that is spelled so is whole
 pub spelled_whole : {A : Type 0} (read : List ℕ → Read A) (spell : A → List ℕ) (Fits : A → Type 0) → IsPart read spell Fits → (n : ℕ) (bytes : List ℕ) (values : List A) → AllByRecursion Fits values → length values ≡ n → bytes ≡ flat_map spell values
     → list_at read n bytes ≡ Ok (values, [])
@@ -126,23 +115,35 @@ rest_ok : {A : Type 0} (r : Read (List A)) (rest : List ℕ) → rest_of r ≡ O
 rest_ok (Ok x) rest e = (x.0, ap (λ (t : List ℕ). Ok (x.0, t)) (ok_is x.1 rest e))
 rest_ok (Err d) rest e = absurd cc
 
-fronted : {A : Type 0} (read : List ℕ → Read A) (spell : A → List ℕ) (Fits : A → Type 0) → IsPart read spell Fits → (n : ℕ) (bytes rest : List ℕ) (values : List A) → Takes bytes (flat_map spell values) rest → length values ≡ n → AllByRecursion Fits values → Fronted read n bytes rest values
-fronted read spell Fits part n bytes rest values t count fits =
+pub rest_err : {A : Type 0} (r : Read (List A)) (d : WireError) → rest_of r ≡ Err d → r ≡ Err d
+rest_err (Ok x) d e = absurd cc
+rest_err (Err f) d e = cc
+
+-- values were passed at the front of some bytes: reading the front gives them
+pub record Passed {A : Type 0} (read : List ℕ → Read A) (n : ℕ) (bytes rest front : List ℕ) (Are : List A → Type 0) : Type 0 where
+  pub behind : length rest ≤ length bytes
+  pub whole : is_whole (list_at read n front) ≡ true
+  pub are : Are (listed (list_at read n front))
+
+passed : {A : Type 0} (read : List ℕ → Read A) (spell : A → List ℕ) (Fits : A → Type 0) → IsPart read spell Fits → (n : ℕ) (bytes rest front : List ℕ) (Are : List A → Type 0) (values : List A) → Takes bytes (flat_map spell values) rest → length values ≡ n → AllByRecursion Fits values
+    → front ≡ take (length bytes - length rest) bytes → Are values → Passed read n bytes rest front Are
+passed {A = A} read spell Fits part n bytes rest front Are values t count fits e are =
     let text = flat_map spell values in
     let len : length bytes ≡ length text + length rest = ap length t.parts ∙ length-append text rest in
     let size : length bytes - length rest ≡ length text = omega arith in
-    let front : take (length bytes - length rest) bytes ≡ text = rw (size, t.parts) (take_at text rest (length text) refl) in
-    record {
-      behind = omega arith;
-      front = ap (list_at read n) (front ∙ sym (append-nil text)) ∙ ap (λ (k : ℕ). list_at read k (text ++ [])) (sym count) ∙ list_again read spell Fits part values [] fits;
-    }
+    let there : take (length bytes - length rest) bytes ≡ text = rw (size, t.parts) (take_at text rest (length text) refl) in
+    let r : list_at read n front ≡ Ok (values, []) = spelled_whole read spell Fits part n front values fits count (e ∙ there) in
+    record { behind = omega arith; whole = ap is_whole r; are = back Are (listed (list_at read n front)) values (ap listed r) are }
 
-pub list_front : {A : Type 0} (read : List ℕ → Read A) (spell : A → List ℕ) (Fits : A → Type 0) → IsPart read spell Fits → (n : ℕ) (bytes rest : List ℕ) → IsBytes bytes → rest_of (list_at read n bytes) ≡ Ok rest
-    → (values : List A) × (list_at read n bytes ≡ Ok (values, rest)) × Fronted read n bytes rest values
-list_front read spell Fits part n bytes rest fits e =
-    let r = rest_ok (list_at read n bytes) rest e in
-    let t = list_takes read spell Fits part n bytes r.0 rest fits r.1 in
-    (r.0, r.1, fronted read spell Fits part n bytes rest r.0 t.0 t.1 t.2)
+pub list_passed : {A : Type 0} (read : List ℕ → Read A) (spell : A → List ℕ) (Fits : A → Type 0) → IsPart read spell Fits → (count i : ℕ) (old from bytes rest front : List ℕ) → IsBytes bytes → bytes ≡ old → rest ≡ from → count ≤ i
+    → rest_of (list_at read (count - i) from) ≡ rest_of (list_at read count old) → front ≡ take (length bytes - length rest) bytes → Passed read count bytes rest front (λ xs. (list_at read count old ≡ Ok (xs, from)) × (length xs ≡ count))
+list_passed {A = A} read spell Fits part count i old from bytes rest front fits here there le so_far e =
+    let done : rest_of (list_at read count bytes) ≡ Ok rest = ap (λ (t : List ℕ). rest_of (list_at read count t)) here ∙ list_is_done read count i from (rest_of (list_at read count old)) le so_far ∙ ap (λ (t : List ℕ). Ok t) (sym there) in
+    let r = rest_ok (list_at read count bytes) rest done in
+    let values : List A = r.0 in
+    let t = list_takes read spell Fits part count bytes values rest fits r.1 in
+    let gives : list_at read count old ≡ Ok (values, from) = ap (list_at read count) (sym here) ∙ r.1 ∙ ap (λ (t : List ℕ). Ok (values, t)) there in
+    passed read spell Fits part count bytes rest front (λ xs. (list_at read count old ≡ Ok (xs, from)) × (length xs ≡ count)) values t.0 t.1 t.2 e (gives, t.1)
 
 -- ---- a report's entries
 
@@ -152,11 +153,8 @@ pub held_goes_on : (stable delivered last count i : ℕ) (bytes : List ℕ) (pla
 unfolding held_at
 held_goes_on stable delivered last count i bytes place mid m rest total lt h g so_far =
     let k : count - i ≡ suc (count - (i + 1)) = omega arith in
-    let one : rest_of (held_at stable delivered last (count - i) bytes) ≡ rest_of (held_at stable delivered place (count - (i + 1)) rest) = rw (k, h, g) (passed (place, m) (held_at stable delivered place (count - (i + 1)) rest)) in
-    sym one ∙ so_far where
-      passed : {A : Type 0} (x : A) (r : Read (List A)) → rest_of (r >>= λ others. Ok (x ∷ others.0, others.1)) ≡ rest_of r
-      passed x (Ok y) = refl
-      passed x (Err e) = refl
+    let one : rest_of (held_at stable delivered last (count - i) bytes) ≡ rest_of (held_at stable delivered place (count - (i + 1)) rest) = rw (k, h, g) (rest_behind (place, m) (held_at stable delivered place (count - (i + 1)) rest)) in
+    sym one ∙ so_far
 
 pub held_no_place : (stable delivered last count i : ℕ) (bytes : List ℕ) (e : WireError) (total : Result (List ℕ) WireError) → i < count → number_at 8 (last + 1) (highest_next stable delivered last) Value bytes ≡ Err e
     → rest_of (held_at stable delivered last (count - i) bytes) ≡ total → total ≡ Err e
@@ -181,18 +179,17 @@ held_is_done stable delivered last count i bytes total le so_far =
     let one : rest_of (held_at stable delivered last (count - i) bytes) ≡ Ok bytes = rw k refl in
     sym so_far ∙ one
 
-pub record HeldFound (stable delivered n : ℕ) (bytes rest : List ℕ) (held : List (ℕ × Entry)) : Type 0 where
-  pub read : held_at stable delivered stable n bytes ≡ Ok (held, rest)
-  pub front : Fronted placed_at n bytes rest held
-  pub count : length held ≡ n
-  pub rising : are_held stable delivered stable held ≡ true
-
-pub held_front : (stable delivered n : ℕ) (bytes rest : List ℕ) → delivered ≤ GREATEST_NUMBER → IsBytes bytes → rest_of (held_at stable delivered stable n bytes) ≡ Ok rest
-    → (held : List (ℕ × Entry)) × HeldFound stable delivered n bytes rest held
-held_front stable delivered n bytes rest small fits e =
-    let r = rest_ok (held_at stable delivered stable n bytes) rest e in
-    let t = held_takes stable delivered stable n bytes r.0 rest small fits r.1 in
-    (r.0, record { read = r.1; front = fronted placed_at placed_bytes IsPlaced placed_part n bytes rest r.0 t.0 t.1 t.2; count = t.1; rising = t.3 })
+pub held_passed : (stable delivered last count i : ℕ) (old from bytes rest front : List ℕ) → delivered ≤ GREATEST_NUMBER → IsBytes bytes → bytes ≡ old → rest ≡ from → count ≤ i
+    → rest_of (held_at stable delivered last (count - i) from) ≡ rest_of (held_at stable delivered stable count old) → front ≡ take (length bytes - length rest) bytes
+    → Passed placed_at count bytes rest front (λ held. (held_at stable delivered stable count old ≡ Ok (held, from)) × (length held ≡ count) × (are_held stable delivered stable held ≡ true))
+held_passed stable delivered last count i old from bytes rest front small fits here there le so_far e =
+    let read = held_at stable delivered stable count in
+    let done : rest_of (read bytes) ≡ Ok rest = ap (λ (t : List ℕ). rest_of (read t)) here ∙ held_is_done stable delivered last count i from (rest_of (read old)) le so_far ∙ ap (λ (t : List ℕ). Ok t) (sym there) in
+    let r = rest_ok (read bytes) rest done in
+    let held : List (ℕ × Entry) = r.0 in
+    let t = held_takes stable delivered stable count bytes held rest small fits r.1 in
+    let gives : read old ≡ Ok (held, from) = ap read (sym here) ∙ r.1 ∙ ap (λ (t : List ℕ). Ok (held, t)) there in
+    passed placed_at placed_bytes IsPlaced placed_part count bytes rest front (λ held. (held_at stable delivered stable count old ≡ Ok (held, from)) × (length held ≡ count) × (are_held stable delivered stable held ≡ true)) held t.0 t.1 t.2 e (gives, t.1, t.3)
 
 -- ---- members
 

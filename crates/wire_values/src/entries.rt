@@ -49,16 +49,6 @@ impl<'a> Model for Items<'a> {
     ghost invariant = { λ l. is_whole (list_at entry_at l.count l.bytes.now) ≡ true };
 }
 
-// Passes so many entries.
-fn pass_items(count: u8, from: &mut Reader<'_>) -> Result<(), WireError>
-    ensures { IsRead (λ _. from.new) result (rest_of (list_at entry_at count from.old)) }
-{
-    for _ in 0..count {
-        let _ = entry_at(from)?;
-    }
-    Ok(())
-}
-
 // What lies in lent bytes that are whole.
 fn items_text(count: u8, bytes: &[u8]) -> &[u8]
     requires { is_whole (list_at entry_at count bytes.now) ≡ true }
@@ -88,14 +78,9 @@ impl<'a> Items<'a> {
         ensures spelled { (es : List EntryValue) → AllByRecursion IsEntry es → length es ≡ count → bytes.now ≡ flat_map entry_bytes es → result ≡ Some es }
     {
         let mut ahead = Reader::new(bytes);
-        match pass_items(count, &mut ahead) {
-            Ok(()) => {
-                if !ahead.rest().is_empty() {
-                    return None;
-                }
-                Some(Items { count, bytes })
-            }
-            Err(_) => None,
+        match items_at(count, &mut ahead) {
+            Ok(items) if ahead.rest().is_empty() => Some(items),
+            _ => None,
         }
     }
 
@@ -146,27 +131,20 @@ impl<'a> Items<'a> {
     }
 }
 
-// The entries before the rest of some bytes.
-fn items_before<'a>(count: u8, bytes: &'a [u8], rest: &[u8]) -> Items<'a>
-    requires { rest_of (list_at entry_at count bytes.now) ≡ Ok rest.now }
-    ensures gives { list_at entry_at count bytes.now ≡ Ok (result, rest.now) }
-    ensures count { length result ≡ count }
-{
-    let (front, _) = bytes.split_at(bytes.len() - rest.len());
-    Items {
-        count,
-        bytes: front,
-    }
-}
-
 // So many entries at the front.
 pub(crate) fn items_at<'a>(count: u8, from: &mut Reader<'a>) -> Result<Items<'a>, WireError>
     ensures gives { IsRead (λ x. (x, from.new)) result (list_at entry_at count from.old) }
     ensures count { IfOk result (λ x. length x ≡ count) }
 {
     let bytes = from.rest();
-    pass_items(count, from)?;
-    Ok(items_before(count, bytes, from.rest()))
+    for _ in 0..count {
+        let _ = entry_at(from)?;
+    }
+    let (front, _) = bytes.split_at(bytes.len() - from.rest().len());
+    Ok(Items {
+        count,
+        bytes: front,
+    })
 }
 
 /// The entries of a REPORT in lent bytes, spelled one behind the other, each with its place in the view's
@@ -220,21 +198,6 @@ pub(crate) fn highest_next(stable: u64, delivered: u64, last: u64) -> u64
     } else {
         (stable + WINDOW).min(GREATEST_NUMBER)
     }
-}
-
-// Passes a report's entries.
-fn pass_held(stable: u64, delivered: u64, count: u8, from: &mut Reader<'_>) -> Result<(), WireError>
-    requires count { delivered ≤ GREATEST_NUMBER }
-    requires near { stable ≤ GREATEST_NUMBER }
-    ensures { IsRead (λ _. from.new) result (rest_of (held_at stable delivered stable count from.old)) }
-{
-    let mut last = stable;
-    for _ in 0..count {
-        let highest = highest_next(stable, delivered, last);
-        last = from.u64(last + 1, highest, WireError::Value)?;
-        let _ = entry_at(from)?;
-    }
-    Ok(())
 }
 
 // What lies in lent bytes that are whole.
@@ -324,21 +287,6 @@ impl<'a> Held<'a> {
     }
 }
 
-// A report's entries before the rest of some bytes.
-fn held_before<'a>(stable: u64, delivered: u64, count: u8, bytes: &'a [u8], rest: &[u8]) -> Held<'a>
-    requires small { delivered ≤ GREATEST_NUMBER }
-    requires read { rest_of (held_at stable delivered stable count bytes.now) ≡ Ok rest.now }
-    ensures gives { held_at stable delivered stable count bytes.now ≡ Ok (result, rest.now) }
-    ensures count { length result ≡ count }
-    ensures rising { are_held stable delivered stable result ≡ true }
-{
-    let (front, _) = bytes.split_at(bytes.len() - rest.len());
-    Held {
-        len: count,
-        text: front,
-    }
-}
-
 // A report's entries at the front.
 pub(crate) fn held_at<'a>(
     stable: u64,
@@ -353,6 +301,12 @@ pub(crate) fn held_at<'a>(
     ensures rising { IfOk result (λ x. are_held stable delivered stable x ≡ true) }
 {
     let bytes = from.rest();
-    pass_held(stable, delivered, count, from)?;
-    Ok(held_before(stable, delivered, count, bytes, from.rest()))
+    let mut last = stable;
+    for _ in 0..count {
+        let highest = highest_next(stable, delivered, last);
+        last = from.u64(last + 1, highest, WireError::Value)?;
+        let _ = entry_at(from)?;
+    }
+    let (text, _) = bytes.split_at(bytes.len() - from.rest().len());
+    Ok(Held { len: count, text })
 }

@@ -1,7 +1,7 @@
 ghost use Rattle.std.specs.Prelude.{◌≡◌, ◌≤◌, ◌+◌, true, IfOk};
 ghost use Rattle.std.specs.Option.{SomeIff};
 ghost use Rattle.wire_values.specs.Reading.{IsRead};
-ghost use Rattle.wire_values.specs.Lists.{is_in_order, is_install, items_count_at, install_at};
+ghost use Rattle.wire_values.specs.Lists.{is_in_order, is_install, install_at};
 
 use crate::entries::{Items, items_at};
 use crate::error::WireError;
@@ -116,22 +116,8 @@ impl<'a> Install<'a> {
     }
 }
 
-#[tactic(auto, unfolding(crate::specs::Lists::items_count_at))]
-fn items_count_at(base: u64, from: &mut Reader<'_>) -> Result<u8, WireError>
-    requires { base ≤ GREATEST_NUMBER }
-    ensures gives { IsRead (λ x. (x, from.new)) result (items_count_at base from.old) }
-    ensures few { IfOk result (λ x. x ≤ WINDOW) }
-    ensures small { IfOk result (λ x. base + x ≤ GREATEST_NUMBER) }
-{
-    let count = from.u8(0, WINDOW as u8, WireError::Length)?;
-    if base + count as u64 > GREATEST_NUMBER {
-        return Err(WireError::Value);
-    }
-    Ok(count)
-}
-
 /// Reads what an INSTALL says: the view, who is together, the cut, and a state where one is given. An error is that of the first field that fails.
-#[tactic(auto, unfolding(crate::specs::Lists::install_at, crate::specs::Lists::given_at))]
+#[tactic(auto, unfolding(crate::specs::Lists::install_at, crate::specs::Lists::given_at, crate::specs::Lists::items_count_at))]
 pub fn install_at<'a>(from: &mut Reader<'a>) -> Result<Install<'a>, WireError>
     ensures { IsRead (λ x. (x, from.new)) result (install_at from.old) }
 {
@@ -139,7 +125,10 @@ pub fn install_at<'a>(from: &mut Reader<'a>) -> Result<Install<'a>, WireError>
     let len = from.u8(1, MEMBERS as u8, WireError::Length)?;
     let together = together_at(len, &view, from)?;
     let base = count_at(0, GREATEST_NUMBER, from)?;
-    let count = items_count_at(base.get(), from)?;
+    let count = from.u8(0, WINDOW as u8, WireError::Length)?;
+    if base.get() + count as u64 > GREATEST_NUMBER {
+        return Err(WireError::Value);
+    }
     let items = items_at(count, from)?;
     let state = state_at(from)?;
     Ok(Install {

@@ -81,16 +81,6 @@ impl Members {
     {
         self.as_slice().len()
     }
-
-    /// The same addresses once more. Takes no memory.
-    pub(crate) fn copied(&self) -> Members
-        ensures { result ≡ self.now }
-    {
-        Members {
-            count: self.count,
-            items: self.items,
-        }
-    }
 }
 
 /// A view as packets carry it: its id, and its members in order, which lie in the value itself.
@@ -115,7 +105,10 @@ impl Model for Roster {
 fn stands_in(address: &Address, members: &[Address]) -> bool
     ensures { result ≡ stands_in address.now members.now }
 {
-    members.iter().any(|member| *address == *member)
+    let Some((first, rest)) = members.split_first() else {
+        return false;
+    };
+    *address == *first || stands_in(address, rest)
 }
 
 fn may_follow(id: ViewId, before: &[Address], address: Address) -> bool
@@ -163,7 +156,10 @@ impl Roster {
     {
         Roster {
             id: self.id,
-            members: self.members.copied(),
+            members: Members {
+                count: self.members.count,
+                items: self.members.items,
+            },
         }
     }
 

@@ -1,8 +1,8 @@
-ghost use Rattle.std.specs.Prelude.{◌≡◌, ◌≤◌, ◌+◌, true, None, Some, min, IfOk};
+ghost use Rattle.std.specs.Prelude.{◌≡◌, ◌≤◌, ◌+◌, true, Some};
 ghost use Rattle.std.specs.Option.{SomeIff};
 ghost use Rattle.wire_values.specs.Values.{nothing_reported};
 ghost use Rattle.wire_values.specs.Reading.{IsRead};
-ghost use Rattle.wire_values.specs.Lists.{are_held, is_filled, is_report, held_count_at, filled_at, report_at};
+ghost use Rattle.wire_values.specs.Lists.{are_held, is_filled, is_report, filled_at, report_at};
 
 use crate::Count;
 use crate::entries::{Held, held_at, highest_next};
@@ -51,16 +51,6 @@ fn are_held(stable: Count, delivered: Count, held: &Held<'_>) -> bool
     true
 }
 
-// Whether counts and entries are those of a report of a view.
-fn is_filled(stable: Count, delivered: Count, held: &Held<'_>) -> bool
-    ensures { result ≡ is_filled (record { previous = None; stable = stable; delivered = delivered; held = held.now }) }
-{
-    let highest = (stable.get() + WINDOW).min(GREATEST_NUMBER);
-    let near = stable.get() <= delivered.get() && delivered.get() <= highest;
-    let enough = delivered.get() <= stable.get() + held.len() as u64;
-    near && held.len() as u64 <= WINDOW && enough && are_held(stable, delivered, held)
-}
-
 impl<'a> Report<'a> {
     /// The report of a member that comes from no view.
     pub fn nothing() -> Report<'a>
@@ -85,7 +75,11 @@ impl<'a> Report<'a> {
     ) -> Option<Report<'a>>
         ensures { SomeIff result (is_filled (record { previous = Some previous; stable = stable; delivered = delivered; held = held.entry }) ≡ true) (record { previous = Some previous; stable = stable; delivered = delivered; held = held.entry }) }
     {
-        if !is_filled(stable, delivered, &held) {
+        let highest = (stable.get() + WINDOW).min(GREATEST_NUMBER);
+        let near = (stable.get() <= delivered.get()) & (delivered.get() <= highest);
+        let enough = delivered.get() <= stable.get() + held.len() as u64;
+        let fits = near & (held.len() as u64 <= WINDOW) & enough;
+        if !fits || !are_held(stable, delivered, &held) {
             return None;
         }
         Some(Report {
@@ -126,21 +120,7 @@ impl<'a> Report<'a> {
     }
 }
 
-#[tactic(auto, unfolding(crate::specs::Lists::held_count_at))]
-fn held_count_at(stable: u64, delivered: u64, from: &mut Reader<'_>) -> Result<u8, WireError>
-    requires { stable ≤ GREATEST_NUMBER }
-    ensures gives { IsRead (λ x. (x, from.new)) result (held_count_at stable delivered from.old) }
-    ensures few { IfOk result (λ x. x ≤ WINDOW) }
-    ensures enough { IfOk result (λ x. delivered ≤ stable + x) }
-{
-    let count = from.u8(0, WINDOW as u8, WireError::Length)?;
-    if delivered > stable + count as u64 {
-        return Err(WireError::Value);
-    }
-    Ok(count)
-}
-
-#[tactic(auto, unfolding(crate::specs::Lists::filled_at))]
+#[tactic(auto, unfolding(crate::specs::Lists::filled_at, crate::specs::Lists::held_count_at))]
 fn filled_at<'a>(from: &mut Reader<'a>) -> Result<Report<'a>, WireError>
     ensures { IsRead (λ x. (x, from.new)) result (filled_at from.old) }
 {
@@ -148,7 +128,10 @@ fn filled_at<'a>(from: &mut Reader<'a>) -> Result<Report<'a>, WireError>
     let stable = count_at(0, GREATEST_NUMBER, from)?;
     let highest = (stable.get() + WINDOW).min(GREATEST_NUMBER);
     let delivered = count_at(stable.get(), highest, from)?;
-    let count = held_count_at(stable.get(), delivered.get(), from)?;
+    let count = from.u8(0, WINDOW as u8, WireError::Length)?;
+    if delivered.get() > stable.get() + count as u64 {
+        return Err(WireError::Value);
+    }
     let held = held_at(stable.get(), delivered.get(), count, from)?;
     Ok(Report {
         previous: Some(previous),

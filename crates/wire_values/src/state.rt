@@ -1,10 +1,7 @@
 //! States and their chunks, read from the front of some bytes.
 
-ghost use Rattle.std.specs.Prelude.{◌≤◌, ◌<◌, IfOk};
-ghost use Rattle.address.specs.declared.limits.TheConstants.{STATE};
 ghost use Rattle.wire_values.specs.Reading.{IsRead};
-ghost use Rattle.wire_values.specs.Chunks.{before_chunk};
-ghost use Rattle.wire_values.specs.Lists.{total_at, whole_at, chunked_at, state_at, index_at, chunk_at};
+ghost use Rattle.wire_values.specs.Lists.{total_at, whole_at, state_at, chunk_at};
 
 use crate::error::WireError;
 use crate::fields::Reader;
@@ -32,15 +29,7 @@ fn whole_at<'a>(from: &mut Reader<'a>) -> Result<GivenState<'a>, WireError>
     }
 }
 
-#[tactic(auto, unfolding(crate::specs::Lists::chunked_at))]
-fn chunked_at<'a>(from: &mut Reader<'a>) -> Result<GivenState<'a>, WireError>
-    ensures { IsRead (λ x. (x, from.new)) result (chunked_at from.old) }
-{
-    let total = total_at(from)?;
-    Ok(GivenState::Chunked(total))
-}
-
-#[tactic(auto, unfolding(crate::specs::Lists::state_at))]
+#[tactic(auto, unfolding(crate::specs::Lists::state_at, crate::specs::Lists::chunked_at))]
 pub(crate) fn state_at<'a>(from: &mut Reader<'a>) -> Result<GivenState<'a>, WireError>
     ensures { IsRead (λ x. (x, from.new)) result (state_at from.old) }
 {
@@ -48,30 +37,19 @@ pub(crate) fn state_at<'a>(from: &mut Reader<'a>) -> Result<GivenState<'a>, Wire
     match flag {
         0 => Ok(GivenState::Nothing),
         1 => whole_at(from),
-        _ => chunked_at(from),
+        _ => Ok(GivenState::Chunked(total_at(from)?)),
     }
 }
 
-#[tactic(auto, unfolding(crate::specs::Lists::index_at))]
-fn index_at(total: u32, from: &mut Reader<'_>) -> Result<u8, WireError>
-    requires { total ≤ STATE }
-    ensures gives { IsRead (λ x. (x, from.new)) result (index_at total from.old) }
-    ensures some { IfOk result (λ x. 1 ≤ x) }
-    ensures place { IfOk result (λ x. before_chunk x < total) }
-{
-    let index = from.u8(1, 255, WireError::Value)?;
-    if CHUNK * (index as usize - 1) >= total as usize {
-        return Err(WireError::Value);
-    }
-    Ok(index)
-}
-
-#[tactic(auto, unfolding(crate::specs::Lists::chunk_at))]
+#[tactic(auto, unfolding(crate::specs::Lists::chunk_at, crate::specs::Lists::index_at))]
 pub fn chunk_at<'a>(from: &mut Reader<'a>) -> Result<Chunk<'a>, WireError>
     ensures { IsRead (λ x. (x, from.new)) result (chunk_at from.old) }
 {
     let total = total_at(from)?;
-    let index = index_at(total.get(), from)?;
+    let index = from.u8(1, 255, WireError::Value)?;
+    if CHUNK * (index as usize - 1) >= total.get() as usize {
+        return Err(WireError::Value);
+    }
     let bytes = from.bytes(chunk_len(total.get(), index))?;
     match Chunk::new(total, index, bytes) {
         Some(chunk) => Ok(chunk),

@@ -32,13 +32,10 @@ fn is_name_byte(byte: u8) -> bool
 fn is_plain(bytes: &[u8]) -> bool
     ensures { result ≡ list_all is_name_byte bytes.now }
 {
-    bytes.iter().all(|byte| is_name_byte(*byte))
-}
-
-fn is_group_name(bytes: &[u8]) -> bool
-    ensures { result ≡ is_group_name bytes.now }
-{
-    1 <= bytes.len() && bytes.len() <= GROUP_NAME && is_plain(bytes)
+    let Some((first, rest)) = bytes.split_first() else {
+        return true;
+    };
+    is_name_byte(*first) && is_plain(rest)
 }
 
 impl<'a> GroupName<'a> {
@@ -46,7 +43,7 @@ impl<'a> GroupName<'a> {
     pub fn new(bytes: &'a [u8]) -> Option<GroupName<'a>>
         ensures { SomeIff result (is_group_name bytes.now ≡ true) bytes.now }
     {
-        if !is_group_name(bytes) {
+        if bytes.is_empty() || bytes.len() > GROUP_NAME || !is_plain(bytes) {
             return None;
         }
         Some(GroupName { name: bytes })

@@ -14,8 +14,7 @@ returns-then-not-is_empty-clause-spelled c = λ values fits count e.
 
 pub returns-else-not-is_empty-clause-spelled : goal.returns-else-not-is_empty-clause-spelled
 returns-else-not-is_empty-clause-spelled c = λ values fits count e.
-    let whole = spelled_whole placed_at placed_bytes IsPlaced placed_part c.args.count c.args.bytes.now values fits count e in
-    ap (λ r. Some (listed r)) whole
+    ap (λ r. Some (listed r)) (spelled_whole placed_at placed_bytes IsPlaced placed_part c.args.count c.args.bytes.now values fits count e)
 
 pub returns-in-Err-clause-spelled : goal.returns-in-Err-clause-spelled
 returns-in-Err-clause-spelled c = λ values fits count e.
