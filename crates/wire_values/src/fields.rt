@@ -61,7 +61,7 @@ impl<'a> Reader<'a> {
     {
         let front = self.bytes(1)?;
         let number = front[0];
-        if !(low <= number && number <= high) {
+        if (number < low) | (number > high) {
             return Err(error);
         }
         Ok(number)
@@ -75,7 +75,7 @@ impl<'a> Reader<'a> {
     {
         let front = self.bytes(2)?;
         let number = BigEndian::read_u16(front);
-        if !(low <= number && number <= high) {
+        if (number < low) | (number > high) {
             return Err(error);
         }
         Ok(number)
@@ -89,7 +89,7 @@ impl<'a> Reader<'a> {
     {
         let front = self.bytes(4)?;
         let number = BigEndian::read_u32(front);
-        if !(low <= number && number <= high) {
+        if (number < low) | (number > high) {
             return Err(error);
         }
         Ok(number)
@@ -103,7 +103,7 @@ impl<'a> Reader<'a> {
     {
         let front = self.bytes(8)?;
         let number = BigEndian::read_u64(front);
-        if !(low <= number && number <= high) {
+        if (number < low) | (number > high) {
             return Err(error);
         }
         Ok(number)
@@ -119,10 +119,7 @@ impl<'a> Reader<'a> {
         let Some(node) = Node::new(BigEndian::read_u16(node)) else {
             return Err(WireError::Value);
         };
-        let Some(address) = Address::new(node, BigEndian::read_u32(incarnation)) else {
-            return Err(WireError::Value);
-        };
-        Ok(address)
+        Address::new(node, BigEndian::read_u32(incarnation)).ok_or(WireError::Value)
     }
 
     /// The id of a view: its counter, from 1 to 2^62, then the address of its creator; 20 where bytes are missing, 25 out of range.
@@ -132,9 +129,6 @@ impl<'a> Reader<'a> {
     {
         let counter = self.u64(1, GREATEST_NUMBER, WireError::Value)?;
         let creator = self.address()?;
-        match ViewId::new(counter, creator) {
-            Some(id) => Ok(id),
-            None => Err(WireError::Value),
-        }
+        ViewId::new(counter, creator).ok_or(WireError::Value)
     }
 }

@@ -1,4 +1,4 @@
-ghost use Rattle.std.specs.Prelude.{◌≡◌, ◌≤◌, ◌+◌, true, IfOk};
+ghost use Rattle.std.specs.Prelude.{◌≡◌, true};
 ghost use Rattle.std.specs.Option.{SomeIff};
 ghost use Rattle.wire_values.specs.Reading.{IsRead};
 ghost use Rattle.wire_values.specs.Lists.{is_in_order, is_install, install_at};
@@ -62,12 +62,10 @@ impl<'a> Install<'a> {
     ) -> Option<Install<'a>>
         ensures { SomeIff result (is_install (record { view = view; together = together; base = base; items = items.entry; state = state.entry }) ≡ true) (record { view = view; together = together; base = base; items = items.entry; state = state.entry }) }
     {
-        let fits = 1 <= together.len()
-            && together.len() <= MEMBERS
-            && is_in_order(together.as_slice(), view.members().as_slice())
-            && items.len() as u64 <= WINDOW
-            && base.get() + items.len() as u64 <= GREATEST_NUMBER;
-        if !fits {
+        let count = items.len() as u64;
+        let few = (count <= WINDOW) & (base.get() + count <= GREATEST_NUMBER);
+        let fits = few & (1 <= together.len());
+        if !fits || !is_in_order(together.as_slice(), view.members().as_slice()) {
             return None;
         }
         Some(Install {

@@ -1,7 +1,6 @@
 ghost use Rattle.std.specs.Prelude.{◌≡◌, ◌<◌, ◌≤◌, ◌++◌, ◌∷◌, [], true, None, length, option_map, IfOk};
 ghost use Rattle.std.specs.Option.{SomeIff};
 ghost use Rattle.view.specs.View.{view_refusal};
-ghost use Rattle.view.specs.Members.{stands_in};
 ghost use Rattle.wire_values.specs.Reading.{IsRead};
 ghost use Rattle.wire_values.specs.Lists.{may_follow, members_at, view_at, rest_after, is_in_order, together_at};
 
@@ -102,22 +101,13 @@ impl Model for Roster {
     ghost invariant = { λ r. view_refusal r.id r.members ≡ None };
 }
 
-fn stands_in(address: &Address, members: &[Address]) -> bool
-    ensures { result ≡ stands_in address.now members.now }
-{
-    let Some((first, rest)) = members.split_first() else {
-        return false;
-    };
-    *address == *first || stands_in(address, rest)
-}
-
 fn may_follow(id: ViewId, before: &[Address], address: Address) -> bool
     ensures { result ≡ may_follow id before.now address }
 {
     if before.is_empty() {
         id.creator() == address
     } else {
-        !stands_in(&address, before)
+        !before.contains(&address)
     }
 }
 

@@ -1,8 +1,8 @@
-ghost use Rattle.std.specs.Prelude.{◌≡◌, ◌≤◌, ◌+◌, true, Some};
+ghost use Rattle.std.specs.Prelude.{◌≡◌, true, Some};
 ghost use Rattle.std.specs.Option.{SomeIff};
 ghost use Rattle.wire_values.specs.Values.{nothing_reported};
 ghost use Rattle.wire_values.specs.Reading.{IsRead};
-ghost use Rattle.wire_values.specs.Lists.{are_held, is_filled, is_report, filled_at, report_at};
+ghost use Rattle.wire_values.specs.Lists.{are_held, is_filled, is_report, report_at};
 
 use crate::Count;
 use crate::entries::{Held, held_at, highest_next};
@@ -43,7 +43,7 @@ fn are_held(stable: Count, delivered: Count, held: &Held<'_>) -> bool
     let mut last = stable.get();
     while let Some((place, _)) = left.take_first() {
         let highest = highest_next(stable.get(), delivered.get(), last);
-        if !(last < place.get() && place.get() <= highest) {
+        if (place.get() <= last) | (place.get() > highest) {
             return false;
         }
         last = place.get();
@@ -120,10 +120,15 @@ impl<'a> Report<'a> {
     }
 }
 
-#[tactic(auto, unfolding(crate::specs::Lists::filled_at, crate::specs::Lists::held_count_at))]
-fn filled_at<'a>(from: &mut Reader<'a>) -> Result<Report<'a>, WireError>
-    ensures { IsRead (λ x. (x, from.new)) result (filled_at from.old) }
+/// Reads what a REPORT says: of no view, or of one with its counts and what is held. An error is that of the first field that fails.
+#[tactic(auto, unfolding(crate::specs::Lists::report_at, crate::specs::Lists::filled_at, crate::specs::Lists::held_count_at))]
+pub fn report_at<'a>(from: &mut Reader<'a>) -> Result<Report<'a>, WireError>
+    ensures { IsRead (λ x. (x, from.new)) result (report_at from.old) }
 {
+    let flag = from.u8(0, 1, WireError::Value)?;
+    if flag == 0 {
+        return Ok(Report::nothing());
+    }
     let previous = from.view_id()?;
     let stable = count_at(0, GREATEST_NUMBER, from)?;
     let highest = (stable.get() + WINDOW).min(GREATEST_NUMBER);
@@ -139,16 +144,4 @@ fn filled_at<'a>(from: &mut Reader<'a>) -> Result<Report<'a>, WireError>
         delivered,
         held,
     })
-}
-
-/// Reads what a REPORT says: of no view, or of one with its counts and what is held. An error is that of the first field that fails.
-#[tactic(auto, unfolding(crate::specs::Lists::report_at))]
-pub fn report_at<'a>(from: &mut Reader<'a>) -> Result<Report<'a>, WireError>
-    ensures { IsRead (λ x. (x, from.new)) result (report_at from.old) }
-{
-    let flag = from.u8(0, 1, WireError::Value)?;
-    if flag == 0 {
-        return Ok(Report::nothing());
-    }
-    filled_at(from)
 }

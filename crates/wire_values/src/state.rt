@@ -51,8 +51,5 @@ pub fn chunk_at<'a>(from: &mut Reader<'a>) -> Result<Chunk<'a>, WireError>
         return Err(WireError::Value);
     }
     let bytes = from.bytes(chunk_len(total.get(), index))?;
-    match Chunk::new(total, index, bytes) {
-        Some(chunk) => Ok(chunk),
-        None => Err(WireError::Value),
-    }
+    Chunk::new(total, index, bytes).ok_or(WireError::Value)
 }

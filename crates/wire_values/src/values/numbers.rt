@@ -28,7 +28,7 @@ impl Number {
     pub fn new(value: u64) -> Option<Number>
         ensures { SomeIff result ((1 ≤ value) × (value ≤ GREATEST_NUMBER)) value }
     {
-        if value == 0 || value > GREATEST_NUMBER {
+        if (value == 0) | (value > GREATEST_NUMBER) {
             return None;
         }
         Some(Number { value })
@@ -163,7 +163,7 @@ impl Progress {
     pub fn new(highest: Count, stable: Count) -> Option<Progress>
         ensures { SomeIff result ((stable ≤ highest) × (highest ≤ stable + WINDOW)) (record { highest = highest; stable = stable }) }
     {
-        if stable.get() > highest.get() || highest.get() > stable.get() + WINDOW {
+        if (stable.get() > highest.get()) | (highest.get() > stable.get() + WINDOW) {
             return None;
         }
         Some(Progress { highest, stable })

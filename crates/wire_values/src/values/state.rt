@@ -67,7 +67,7 @@ impl Total {
     pub fn new(value: u32) -> Option<Total>
         ensures { SomeIff result (IsTotal value) value }
     {
-        if value as usize <= WHOLE_STATE || value as usize > STATE {
+        if (value as usize <= WHOLE_STATE) | (value as usize > STATE) {
             return None;
         }
         Some(Total { total: value })

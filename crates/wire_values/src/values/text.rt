@@ -29,22 +29,18 @@ fn is_name_byte(byte: u8) -> bool
     matches!(byte, b'a'..=b'z' | b'A'..=b'Z' | b'0'..=b'9' | b'-' | b'_')
 }
 
-fn is_plain(bytes: &[u8]) -> bool
-    ensures { result ≡ list_all is_name_byte bytes.now }
-{
-    let Some((first, rest)) = bytes.split_first() else {
-        return true;
-    };
-    is_name_byte(*first) && is_plain(rest)
-}
-
 impl<'a> GroupName<'a> {
     /// The name of these bytes; `None` where they are no name of a group.
     pub fn new(bytes: &'a [u8]) -> Option<GroupName<'a>>
         ensures { SomeIff result (is_group_name bytes.now ≡ true) bytes.now }
     {
-        if bytes.is_empty() || bytes.len() > GROUP_NAME || !is_plain(bytes) {
+        if bytes.is_empty() | (bytes.len() > GROUP_NAME) {
             return None;
+        }
+        for byte in bytes {
+            if !is_name_byte(*byte) {
+                return None;
+            }
         }
         Some(GroupName { name: bytes })
     }

@@ -1,5 +1,0 @@
-use Rattle.std.proofs.Common.{length}
-use Rattle.wire_values.proofs.values.text.+is_plain.Given as goal
-
-abbrev pub decreases-is_plain : goal.decreases-is_plain
-decreases-is_plain l = length l.bytes.now
