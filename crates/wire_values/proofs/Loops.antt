@@ -111,7 +111,7 @@ whole_text read spell Fits part n bytes fits e =
     let t = list_takes read spell Fits part n bytes values [] fits (whole_ok (list_at read n bytes) e) in
     (t.0.parts ∙ append-nil (flat_map spell values), t.2)
 
-rest_ok : {A : Type 0} (r : Read (List A)) (rest : List ℕ) → rest_of r ≡ Ok rest → (xs : List A) × (r ≡ Ok (xs, rest))
+pub rest_ok : {A : Type 0} (r : Read (List A)) (rest : List ℕ) → rest_of r ≡ Ok rest → (xs : List A) × (r ≡ Ok (xs, rest))
 rest_ok (Ok x) rest e = (x.0, ap (λ (t : List ℕ). Ok (x.0, t)) (ok_is x.1 rest e))
 rest_ok (Err d) rest e = absurd cc
 

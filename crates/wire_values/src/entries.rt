@@ -177,16 +177,6 @@ fn placed_at<'a>(from: &mut Reader<'a>) -> Result<(Number, Entry<'a>), WireError
     Ok((place, entry))
 }
 
-// Passes so many entries with their places.
-fn pass_placed(count: u8, from: &mut Reader<'_>) -> Result<(), WireError>
-    ensures { IsRead (λ _. from.new) result (rest_of (list_at placed_at count from.old)) }
-{
-    for _ in 0..count {
-        let _ = placed_at(from)?;
-    }
-    Ok(())
-}
-
 // The greatest place that may follow the last.
 pub(crate) fn highest_next(stable: u64, delivered: u64, last: u64) -> u64
     requires count { delivered ≤ GREATEST_NUMBER }
@@ -226,18 +216,18 @@ impl<'a> Held<'a> {
         ensures spelled { (held : List (ℕ × EntryValue)) → AllByRecursion IsPlaced held → length held ≡ count → bytes.now ≡ flat_map placed_bytes held → result ≡ Some held }
     {
         let mut ahead = Reader::new(bytes);
-        match pass_placed(count, &mut ahead) {
-            Ok(()) => {
-                if !ahead.rest().is_empty() {
-                    return None;
-                }
-                Some(Held {
-                    len: count,
-                    text: bytes,
-                })
-            }
-            Err(_) => None,
+        for _ in 0..count {
+            let Ok(_) = placed_at(&mut ahead) else {
+                return None;
+            };
         }
+        if !ahead.rest().is_empty() {
+            return None;
+        }
+        Some(Held {
+            len: count,
+            text: bytes,
+        })
     }
 
     /// How many entries there are.
