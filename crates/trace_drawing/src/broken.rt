@@ -2,7 +2,7 @@
 
 ghost use Rattle.std.specs.Prelude.{◌≡◌, ◌++◌, ◌∷◌, List, codes, slice_get};
 ghost use Rattle.vsync_text.specs.Written.{Appends};
-ghost use Rattle.trace_drawing.specs.Broken.{words_of, broken_start, broken_words, broken_group, broken_in, broken_text, room_for};
+ghost use Rattle.trace_drawing.specs.Broken.{words_of, broken_words, broken_group, broken_in, broken_text, room_for};
 ghost use Rattle.std.specs.Option.{option_copied};
 
 use crate::marks::{Mark, place_of, x_of, y_of};
@@ -48,17 +48,6 @@ pub fn room_for(verdict: Verdict) -> u64
     }
 }
 
-// Appends the beginning of a broken rule's group.
-fn put_broken_start(out: &mut Text, rule: Rule, event: &Event)
-    ensures { Appends (broken_start rule event.now) out.old out.new }
-{
-    out.put(b"<g><title>");
-    out.put(words_of(rule));
-    out.put(b"\n");
-    out.append_event(event);
-    out.put(b"</title>");
-}
-
 // Appends the words beside the mark of a broken rule.
 fn put_broken_words(out: &mut Text, rule: Rule, level: u32, column: u32)
     ensures { Appends (broken_words rule level column) out.old out.new }
@@ -77,7 +66,11 @@ fn put_broken_words(out: &mut Text, rule: Rule, level: u32, column: u32)
 fn put_broken_group(out: &mut Text, rule: Rule, row: &Row, event: &Event)
     ensures { Appends (broken_group rule row.now event.now) out.old out.new }
 {
-    put_broken_start(out, rule, event);
+    out.put(b"<g><title>");
+    out.put(words_of(rule));
+    out.put(b"\n");
+    out.append_event(event);
+    out.put(b"</title>");
     put_mark(out, Mark::Broken(place_of(row.level, row.column)));
     put_broken_words(out, rule, row.level, row.column);
     out.put(b"</g>\n");

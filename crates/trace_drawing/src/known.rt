@@ -65,13 +65,9 @@ fn blocked_after(blocked: bool, event: &Event) -> bool
     ensures { result ≡ blocked_after blocked event.now }
 {
     match event {
-        Event::Started(_) => blocked,
-        Event::Sent(_) => blocked,
-        Event::Delivered(_) => blocked,
         Event::Blocked(_) => true,
         Event::Installed(_) => false,
-        Event::Left(_) => blocked,
-        Event::Crashed(_) => blocked,
+        _ => blocked,
     }
 }
 
@@ -79,15 +75,7 @@ fn blocked_after(blocked: bool, event: &Event) -> bool
 fn is_end(event: &Event) -> bool
     ensures { result ≡ is_end event.now }
 {
-    match event {
-        Event::Started(_) => false,
-        Event::Sent(_) => false,
-        Event::Delivered(_) => false,
-        Event::Blocked(_) => false,
-        Event::Installed(_) => false,
-        Event::Left(_) => true,
-        Event::Crashed(_) => true,
-    }
+    matches!(event, Event::Left(_) | Event::Crashed(_))
 }
 
 // From where an event is reached.
@@ -99,8 +87,6 @@ fn origin(
     ensures { result ≡ reached_by (get same_message sends.now) (get same_view_id installs.now) event.now }
 {
     match event {
-        Event::Started(_) => None,
-        Event::Sent(_) => None,
         Event::Delivered(delivery) => sends
             .get(&MessageKey {
                 view: delivery.view,
@@ -108,10 +94,8 @@ fn origin(
                 number: delivery.message.number,
             })
             .copied(),
-        Event::Blocked(_) => None,
         Event::Installed(install) => installs.get(&install.get().view.id()).copied(),
-        Event::Left(_) => None,
-        Event::Crashed(_) => None,
+        _ => None,
     }
 }
 
@@ -171,18 +155,6 @@ fn note_again(
     }
 }
 
-// Keeps a member's lifeline.
-fn put_lifeline(
-    lifelines: &mut HashMap<Address, Lifeline>,
-    member: Address,
-    lifeline: Lifeline,
-) -> Result<(), AllocError>
-    ensures { OnOk result ((other : Address) → get same_address lifelines.new other ≡ (if same_address member other then Some lifeline else get same_address lifelines.old other)) }
-{
-    lifelines.insert(member, lifeline)?;
-    Ok(())
-}
-
 // Keeps the first event of a member, in a column.
 fn note_first(
     members: &mut Vec<Address>,
@@ -196,8 +168,8 @@ fn note_first(
     ensures lifelines { OnOk result ((other : Address) → get same_address lifelines.new other ≡ (if same_address member other then Some (lifeline_after None column level event.now) else get same_address lifelines.old other)) }
 {
     members.push(member)?;
-    let lifeline = lifeline_after(None, column, level, event);
-    put_lifeline(lifelines, member, lifeline)
+    lifelines.insert(member, lifeline_after(None, column, level, event))?;
+    Ok(())
 }
 
 // Keeps the next event of a member, at a level, and answers how its row is laid out. Refused where there are 2^32 members already.
@@ -236,17 +208,12 @@ fn message_sent(event: &Event) -> Option<MessageKey>
     ensures { result ≡ message_sent event.now }
 {
     match event {
-        Event::Started(_) => None,
         Event::Sent(sending) => Some(MessageKey {
             view: sending.view,
             sender: sending.member,
             number: sending.message.number,
         }),
-        Event::Delivered(_) => None,
-        Event::Blocked(_) => None,
-        Event::Installed(_) => None,
-        Event::Left(_) => None,
-        Event::Crashed(_) => None,
+        _ => None,
     }
 }
 
@@ -255,13 +222,8 @@ fn view_installed(event: &Event) -> Option<ViewId>
     ensures { result ≡ view_installed event.now }
 {
     match event {
-        Event::Started(_) => None,
-        Event::Sent(_) => None,
-        Event::Delivered(_) => None,
-        Event::Blocked(_) => None,
         Event::Installed(install) => Some(install.get().view.id()),
-        Event::Left(_) => None,
-        Event::Crashed(_) => None,
+        _ => None,
     }
 }
 

@@ -24,7 +24,12 @@ fn is_printable(byte: u8) -> bool
 fn is_text(bytes: &[u8]) -> bool
     ensures { result ≡ is_text bytes.now }
 {
-    bytes.iter().all(|byte| is_printable(*byte))
+    for byte in bytes {
+        if !is_printable(*byte) {
+            return false;
+        }
+    }
+    true
 }
 
 // Appends a byte as text of XML.
@@ -49,7 +54,12 @@ fn is_plain(byte: u8) -> bool
 fn is_plain_text(bytes: &[u8]) -> bool
     ensures { result ≡ list_all is_plain bytes.now }
 {
-    bytes.iter().all(|byte| is_plain(*byte))
+    for byte in bytes {
+        if !is_plain(*byte) {
+            return false;
+        }
+    }
+    true
 }
 
 // Appends bytes as text of XML.

@@ -1,6 +1,6 @@
 //! Where asides stand between events.
 
-ghost use Rattle.std.specs.Prelude.{◌≡◌, ◌≤◌, ◌<◌, ◌+◌, ◌++◌, ◌∷◌, [], List, length, nat_eq, take, IfOk, OnOk};
+ghost use Rattle.std.specs.Prelude.{◌≡◌, ◌≤◌, ◌<◌, ◌+◌, List, length, nat_eq, take, IfOk, OnOk};
 ghost use Rattle.std.specs.Option.{option_copied};
 ghost use Rattle.std.specs.HashMap.{get};
 ghost use Rattle.trace_props.specs.declared.event.Event.{Event};
@@ -36,13 +36,6 @@ fn later(front: usize, place: usize) -> usize
     if place <= front { front } else { place }
 }
 
-// Keeps where something happened last at a node.
-fn note_node(nodes: &mut HashMap<Node, u32>, event: &Event, number: u32) -> Result<(), AllocError>
-    ensures { OnOk result ((t : List Event) → number ≡ length t → KnowsNodes (get nat_eq nodes.old) t → KnowsNodes (get nat_eq nodes.new) (t ++ event.now ∷ [])) }
-{
-    put_row(nodes, member(event).node(), number)
-}
-
 // Keeps where something happened last at each node, from one event on up to another.
 fn note_nodes(
     nodes: &mut HashMap<Node, u32>,
@@ -55,7 +48,7 @@ fn note_nodes(
 {
     let end = if to < events.len() { to } else { events.len() };
     for number in from..end {
-        note_node(nodes, &events[number], number as u32)?;
+        put_row(nodes, member(&events[number]).node(), number as u32)?;
     }
     Ok(())
 }

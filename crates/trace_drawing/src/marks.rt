@@ -165,15 +165,7 @@ fn edge_towards(level: u32, from: u32, to: u32) -> Place
 pub fn is_delivery(event: &Event) -> bool
     ensures { result ≡ is_delivery event.now }
 {
-    match event {
-        Event::Started(_) => false,
-        Event::Sent(_) => false,
-        Event::Delivered(_) => true,
-        Event::Blocked(_) => false,
-        Event::Installed(_) => false,
-        Event::Left(_) => false,
-        Event::Crashed(_) => false,
-    }
+    matches!(event, Event::Delivered(_))
 }
 
 // The mark by which an event is reached from another.

@@ -1,15 +1,15 @@
 //! The marks of packets.
 
-ghost use Rattle.std.specs.Prelude.{◌≡◌, ◌++◌, ◌+◌, List, codes, flat_map, option_to_list, false};
+ghost use Rattle.std.specs.Prelude.{◌≡◌, ◌+◌, List, codes, false};
 ghost use Rattle.vsync_text.specs.PacketText.{kind_in};
 ghost use Rattle.vsync_text.specs.Written.{Appends};
 ghost use Rattle.trace_drawing.specs.declared.aside.AsideRow.{AsideRow};
-ghost use Rattle.trace_drawing.specs.Spelling.{mark_text, start_behind};
+ghost use Rattle.trace_drawing.specs.Spelling.{start_behind};
 ghost use Rattle.trace_drawing.specs.Marks.{x_in, y_of};
-ghost use Rattle.trace_drawing.specs.Packets.{bytes_numbered, packet_start, packet_name, packet_group, handed_start, handed_name, handed_group, row_in, KnowsWays};
+ghost use Rattle.trace_drawing.specs.Packets.{bytes_numbered, packet_start, packet_name, packet_group, handed_group, row_in, KnowsWays};
 
 use crate::aside::AsideRow;
-use crate::marks::{Mark, Place, aside_place, x_in, y_of};
+use crate::marks::{Mark, aside_place, x_in, y_of};
 use crate::spelling::{put_mark, put_over, put_some_mark, put_text_start};
 use crate::ways::Ways;
 use address::Bytes;
@@ -22,12 +22,9 @@ pub fn bytes_numbered(packets: &[Bytes], number: u64) -> &[u8]
     if number == 0 {
         return b"";
     }
-    match usize::try_from(number - 1) {
-        Err(_) => b"",
-        Ok(index) => match packets.get(index) {
-            None => b"",
-            Some(packet) => packet.as_slice(),
-        },
+    match packets.get((number - 1) as usize) {
+        None => b"",
+        Some(packet) => packet.as_slice(),
     }
 }
 
@@ -65,48 +62,27 @@ fn put_packet_name(out: &mut Text, row: &AsideRow, number: u64, kind: &[u8])
     out.put(b"</text>");
 }
 
-// Appends the mark of a packet, and its way if it is lost.
-fn put_packet_marks(out: &mut Text, at: Place, lost: Option<Mark>)
-    ensures { Appends (mark_text (Mark.Packet at) ++ flat_map mark_text (option_to_list lost)) out.old out.new }
-{
-    put_mark(out, Mark::Packet(at));
-    put_some_mark(out, lost);
-}
-
 /// Appends all that is drawn of a packet in the row in which it is put out.
 pub fn put_packet_group(out: &mut Text, ways: &Ways, row: &AsideRow, number: u64, bytes: &[u8])
     ensures { (rows : List AsideRow) → KnowsWays (row_in ways.now.sources) (row_in ways.now.ends) rows → Appends (packet_group rows row.now number bytes.now) out.old out.new }
 {
     let kind = put_packet_start(out, number, bytes);
-    put_packet_marks(out, aside_place(row), ways.lost(row, number));
+    put_mark(out, Mark::Packet(aside_place(row)));
+    put_some_mark(out, ways.lost(row, number));
     put_packet_name(out, row, number, kind);
     out.put(b"</g>\n");
-}
-
-// Appends the beginning of the group of a packet that is handed over.
-fn put_handed_start(out: &mut Text, number: u64)
-    ensures { Appends (handed_start number) out.old out.new }
-{
-    let mut last = *b"00000000000000000000\n</title>";
-    out.put(b"<g><title>deliver ");
-    put_over(out, number, &mut last);
-}
-
-// Appends the number of a packet.
-fn put_handed_name(out: &mut Text, row: &AsideRow, number: u64)
-    ensures { Appends (handed_name row.now number) out.old out.new }
-{
-    let mut last = *b"00000000000000000000</text>";
-    put_name_start(out, row);
-    put_over(out, number, &mut last);
 }
 
 /// Appends all that is drawn of a packet in a row in which it is handed over.
 pub fn put_handed_group(out: &mut Text, ways: &Ways, rows: &[AsideRow], row: &AsideRow, number: u64)
     ensures { KnowsWays (row_in ways.now.sources) (row_in ways.now.ends) rows.now → Appends (handed_group rows.now row.now number) out.old out.new }
 {
-    put_handed_start(out, number);
+    let mut title = *b"00000000000000000000\n</title>";
+    let mut name = *b"00000000000000000000</text>";
+    out.put(b"<g><title>deliver ");
+    put_over(out, number, &mut title);
     put_some_mark(out, ways.to(rows, row, number));
-    put_handed_name(out, row, number);
+    put_name_start(out, row);
+    put_over(out, number, &mut name);
     out.put(b"</g>\n");
 }

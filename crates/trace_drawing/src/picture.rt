@@ -1,10 +1,10 @@
 //! The picture of a trace, as an SVG.
 
-ghost use Rattle.std.specs.Prelude.{◌≡◌, ◌++◌, length, flat_map, option_to_list, IfOk};
+ghost use Rattle.std.specs.Prelude.{◌≡◌, ◌<◌, length, flat_map, IfOk};
 ghost use Rattle.vsync_text.specs.Written.{Appends};
 ghost use Rattle.trace_drawing.specs.Marks.{marks_of};
 ghost use Rattle.trace_drawing.specs.Spelling.{mark_text};
-ghost use Rattle.trace_drawing.specs.Picture.{colour_of, colour, group_start, event_start, event_group, event_groups, line_group, svg_start, head_text, picture_of};
+ghost use Rattle.trace_drawing.specs.Picture.{colour_of, colour, group_start, event_start, event_group, event_groups, line_group, head_text, picture_of};
 
 use crate::aside::Aside;
 use crate::asides::put_asides;
@@ -118,25 +118,14 @@ fn put_event(out: &mut Text, rows: &[Row], number: u32, row: &Row, event: &Event
 }
 
 // Appends all that is drawn of events.
-fn put_events(out: &mut Text, rows: &[Row], events: &[Event], count: u32)
-    requires rows { length rows.now ≡ count }
-    requires events { length events.now ≡ count }
+fn put_events(out: &mut Text, rows: &[Row], events: &[Event])
+    requires small { length rows.now < 4294967296 }
+    requires events { length events.now ≡ length rows.now }
     ensures { Appends (event_groups rows.now 0 rows.now events.now) out.old out.new }
 {
-    for number in 0..count {
-        let index = number as usize;
-        let row = &rows[index];
-        let event = &events[index];
-        put_event(out, rows, number, row, event);
+    for number in 0..rows.len() {
+        put_event(out, rows, number as u32, &rows[number], &events[number]);
     }
-}
-
-// Appends the marks of a member's line.
-fn put_line_marks(out: &mut Text, line: Mark, stretch: Option<Mark>)
-    ensures { Appends (mark_text line ++ flat_map mark_text (option_to_list stretch)) out.old out.new }
-{
-    put_mark(out, line);
-    put_some_mark(out, stretch);
 }
 
 // Appends a member's line.
@@ -144,7 +133,8 @@ fn put_line(out: &mut Text, bottom: u64, line: &Line)
     ensures { Appends (line_group bottom line.now) out.old out.new }
 {
     put_line_title(out, &line.member);
-    put_line_marks(out, line_mark(bottom, line), last_stretch(bottom, line));
+    put_mark(out, line_mark(bottom, line));
+    put_some_mark(out, last_stretch(bottom, line));
     out.put(b"</g>\n");
 }
 
@@ -157,9 +147,9 @@ fn put_lines(out: &mut Text, bottom: u64, lines: &[Line])
     }
 }
 
-// Appends the beginning of an SVG.
-fn put_svg_start(out: &mut Text, width: u64, height: u64)
-    ensures { Appends (svg_start width height) out.old out.new }
+// Appends the beginning of a picture.
+fn put_head(out: &mut Text, width: u64, height: u64)
+    ensures { Appends (head_text width height) out.old out.new }
 {
     put_number(
         out,
@@ -168,13 +158,6 @@ fn put_svg_start(out: &mut Text, width: u64, height: u64)
     );
     put_number(out, b"' height='", height);
     out.put(b"'>");
-}
-
-// Appends the beginning of a picture.
-fn put_head(out: &mut Text, width: u64, height: u64)
-    ensures { Appends (head_text width height) out.old out.new }
-{
-    put_svg_start(out, width, height);
     out.put(STYLE);
     out.put(b"<rect class='w' width='100%' height='100%'/>\n");
 }
@@ -201,14 +184,13 @@ pub fn draw(
     ensures { IfOk result (λ picture. picture.items ≡ picture_of events.now asides.now packets.now verdict) }
 {
     let layout = lay_out(alloc, events, asides)?;
-    let count = counted(layout.rows.len())?;
     let columns = counted(layout.lines.len())?;
     let levels = counted(layout.rows.len() + layout.asides.len())?;
     let bottom = y_of(levels);
     let mut out = Text::new(alloc);
     put_head(&mut out, x_of(columns) + room_for(verdict), bottom + 20);
     put_lines(&mut out, bottom, layout.lines.as_slice());
-    put_events(&mut out, layout.rows.as_slice(), events, count);
+    put_events(&mut out, layout.rows.as_slice(), events);
     put_asides(alloc, &mut out, layout.asides.as_slice(), packets);
     put_broken(&mut out, layout.rows.as_slice(), events, verdict);
     out.put(b"</svg>\n");

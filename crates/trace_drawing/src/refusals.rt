@@ -2,7 +2,7 @@
 
 ghost use Rattle.std.specs.Prelude.{◌≡◌};
 ghost use Rattle.vsync_text.specs.Written.{Appends};
-ghost use Rattle.trace_drawing.specs.Refused.{reason_of, refused_place, refused_title, refused_group};
+ghost use Rattle.trace_drawing.specs.Refused.{reason_of, refused_place, refused_group};
 
 use crate::aside::AsideRow;
 use crate::marks::{x_in, y_of};
@@ -37,21 +37,14 @@ fn put_refused_place(out: &mut Text, row: &AsideRow)
     out.put(b"'>");
 }
 
-// Appends the title of a refusal's mark, and a crossed ring.
-fn put_refused_title(out: &mut Text, line: u64, refusal: Refusal)
-    ensures { Appends (refused_title line refusal) out.old out.new }
-{
-    out.put(b"<title>");
-    out.append_refusal(line, refusal.number());
-    out.put(b"</title>&#8856; ");
-}
-
 /// Appends all that is drawn of the refusal of a line's event.
 pub fn put_refused_group(out: &mut Text, row: &AsideRow, line: u64, refusal: Refusal)
     ensures { Appends (refused_group row.now line refusal) out.old out.new }
 {
     put_refused_place(out, row);
-    put_refused_title(out, line, refusal);
+    out.put(b"<title>");
+    out.append_refusal(line, refusal.number());
+    out.put(b"</title>&#8856; ");
     out.put(reason_of(refusal));
     out.put(b"</text>\n");
 }

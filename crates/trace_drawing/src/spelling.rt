@@ -47,23 +47,16 @@ fn put_straight(out: &mut Text, before: &[u8], from: Place, to: Place)
     out.put(b"'/>");
 }
 
-// Appends a bow to the left, down to a place.
-fn put_bow(out: &mut Text, from: Place, to: Place)
-    ensures { Appends (bow from to) out.old out.new }
-{
-    let down = to.y.saturating_sub(from.y);
-    let mut first = *b"00000000000000000000 0 ";
-    out.put(b"c-30 0-30 ");
-    put_over(out, down, &mut first);
-    out.put_decimal(down);
-}
-
 // Appends a message's line that is bowed to the left.
 fn put_bowed(out: &mut Text, from: Place, to: Place)
     ensures { Appends (path (codes "m") from (bow from to)) out.old out.new }
 {
+    let down = to.y.saturating_sub(from.y);
+    let mut first = *b"00000000000000000000 0 ";
     put_point(out, b"<path class='m' d='M", from.x, from.y);
-    put_bow(out, from, to);
+    out.put(b"c-30 0-30 ");
+    put_over(out, down, &mut first);
+    out.put_decimal(down);
     out.put(b"'/>");
 }
 

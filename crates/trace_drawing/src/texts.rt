@@ -6,8 +6,8 @@ ghost use Rattle.address.specs.Ids.{text_of_address, text_of_view_id};
 ghost use Rattle.vsync_text.specs.Written.{Appends};
 ghost use Rattle.trace_drawing.specs.Labels.{label};
 ghost use Rattle.trace_drawing.specs.Marks.{x_of, y_of, place_of};
-ghost use Rattle.trace_drawing.specs.Spelling.{start_behind, text_behind, text_at};
-ghost use Rattle.trace_drawing.specs.Picture.{beside, given_text, back_text, install_text, texts_of, same_block, name_above, name_text, number_text, line_start};
+ghost use Rattle.trace_drawing.specs.Spelling.{start_behind, text_behind};
+ghost use Rattle.trace_drawing.specs.Picture.{beside, given_text, back_text, install_text, texts_of, same_block, name_text, number_text, line_start};
 
 use crate::labels::put_label;
 use crate::marks::{BLOCK, names_y, place_of, x_of, y_of};
@@ -90,20 +90,13 @@ fn put_back(out: &mut Text, back: &[Numbered], level: u32, column: u32)
     put_over(out, back.len() as u64, &mut last);
 }
 
-// Appends the id of a view that is installed.
-fn put_installed(out: &mut Text, view: ViewId, level: u32, column: u32)
-    ensures { Appends (text_at (codes "i") (x_of column) (y_of level + 4) (text_of_view_id view)) out.old out.new }
-{
-    put_text_start(out, b"<text class='i' x='", x_of(column), y_of(level) + 4);
-    put_view_id(out, view);
-    out.put(b"</text>");
-}
-
 // Appends the texts of an install.
 fn put_install(out: &mut Text, install: &Install, level: u32, column: u32)
     ensures { Appends (install_text install.now level column) out.old out.new }
 {
-    put_installed(out, install.view.id(), level, column);
+    put_text_start(out, b"<text class='i' x='", x_of(column), y_of(level) + 4);
+    put_view_id(out, install.view.id());
+    out.put(b"</text>");
     put_given(out, install.given.as_ref(), level, column);
     put_back(out, install.handed_back.as_slice(), level, column);
 }
@@ -149,21 +142,19 @@ fn same_block(level: u32, before: Option<u32>) -> bool
     }
 }
 
-// Appends the name of a member above a column.
-fn put_above(out: &mut Text, level: u32, column: u32, member: &Address)
-    ensures { Appends (name_above level column member.now) out.old out.new }
-{
-    put_text_start(out, b"<text class='n' x='", x_of(column), names_y(level));
-    put_name(out, member);
-    out.put(b"</text>");
-}
-
 /// Appends the name of a member above its column, at its first event in a block of rows.
 pub fn put_name_above(out: &mut Text, row: &Row, member: &Address)
     ensures { Appends (name_text row.now member.now) out.old out.new }
 {
     if !same_block(row.level, row.before) {
-        put_above(out, row.level, row.column, member);
+        put_text_start(
+            out,
+            b"<text class='n' x='",
+            x_of(row.column),
+            names_y(row.level),
+        );
+        put_name(out, member);
+        out.put(b"</text>");
     }
 }
 

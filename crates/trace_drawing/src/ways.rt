@@ -4,7 +4,7 @@ ghost use Rattle.std.specs.Prelude.{◌≡◌, ◌++◌, ◌∷◌, [], List, le
 ghost use Rattle.std.specs.Option.{option_copied};
 ghost use Rattle.trace_drawing.specs.declared.aside.AsideRow.{AsideRow};
 ghost use Rattle.trace_drawing.specs.Marks.{x_in};
-ghost use Rattle.trace_drawing.specs.Packets.{towards, in_the_air, lost_way, way_to, row_in, KnowsWays};
+ghost use Rattle.trace_drawing.specs.Packets.{towards, lost_way, way_to, row_in, KnowsWays};
 
 use crate::aside::{AsideKind, AsideRow};
 use crate::marks::{Mark, Place, aside_place, x_in, y_of};
@@ -39,16 +39,6 @@ fn towards(from: Option<u32>, to: Option<u32>) -> u64
         x + 34
     } else {
         x
-    }
-}
-
-// Where a lost packet ends.
-fn in_the_air(row: &AsideRow) -> Place
-    ensures { result ≡ in_the_air row.now }
-{
-    Place {
-        x: towards(row.column, row.towards),
-        y: y_of(row.level) + 16,
     }
 }
 
@@ -94,7 +84,10 @@ impl Ways {
         }
         Some(Mark::Lost {
             from: aside_place(row),
-            to: in_the_air(row),
+            to: Place {
+                x: towards(row.column, row.towards),
+                y: y_of(row.level) + 16,
+            },
         })
     }
 
