@@ -92,10 +92,13 @@ fn put_broken_in(out: &mut Text, rule: Rule, row: Option<&Row>, event: Option<&E
     }
 }
 
-// Appends what is drawn of a rule that breaks at a place, from 1.
-fn put_broken_at(out: &mut Text, rows: &[Row], events: &[Event], rule: Rule, place: u64)
-    ensures { Appends (broken_text rows.now events.now (Verdict.Breaks rule place)) out.old out.new }
+/// Appends what is drawn of a verdict.
+pub fn put_broken(out: &mut Text, rows: &[Row], events: &[Event], verdict: Verdict)
+    ensures { Appends (broken_text rows.now events.now verdict) out.old out.new }
 {
+    let Verdict::Breaks { rule, place } = verdict else {
+        return;
+    };
     if place == 0 {
         return;
     }
@@ -105,15 +108,5 @@ fn put_broken_at(out: &mut Text, rows: &[Row], events: &[Event], rule: Rule, pla
             let index = number as usize;
             put_broken_in(out, rule, rows.get(index), events.get(index))
         }
-    }
-}
-
-/// Appends what is drawn of a verdict.
-pub fn put_broken(out: &mut Text, rows: &[Row], events: &[Event], verdict: Verdict)
-    ensures { Appends (broken_text rows.now events.now verdict) out.old out.new }
-{
-    match verdict {
-        Verdict::Holds => (),
-        Verdict::Breaks { rule, place } => put_broken_at(out, rows, events, rule, place),
     }
 }

@@ -66,19 +66,6 @@ fn column_in(rows: &[Row], event: Option<&u32>) -> Option<u32>
     }
 }
 
-// The level of an aside behind others, and behind events.
-fn level(count: usize, front: usize) -> Result<u32, AllocError>
-    ensures { IfOk result (λ level. level ≡ count + front) }
-{
-    match count.checked_add(front) {
-        None => Err(AllocError),
-        Some(level) => match u32::try_from(level) {
-            Ok(level) => Ok(level),
-            Err(_) => Err(AllocError),
-        },
-    }
-}
-
 // Where an aside is drawn.
 fn aside_row(
     rows: &[Row],
@@ -89,7 +76,12 @@ fn aside_row(
 ) -> Result<AsideRow, AllocError>
     ensures { IfOk result (λ row. (t : List Event) → KnowsNodes (get nat_eq nodes.now) (take front t) → row ≡ aside_row rows.now t count front aside.now) }
 {
-    let level = level(count, front)?;
+    let Some(level) = count.checked_add(front) else {
+        return Err(AllocError);
+    };
+    let Ok(level) = u32::try_from(level) else {
+        return Err(AllocError);
+    };
     let column = column_in(rows, nodes.get(&aside.node));
     let towards = column_in(rows, nodes.get(&aside.towards));
     Ok(AsideRow {

@@ -2,7 +2,7 @@
 
 ghost use Rattle.std.specs.Prelude.{◌≡◌, ◌+◌, ◌*◌, ◌/◌};
 ghost use Rattle.std.specs.Option.{option_copied};
-ghost use Rattle.trace_drawing.specs.Marks.{x_of, y_of, names_y, place_of, x_in, aside_place, own_mark, blocked_stretch, edge_towards, is_delivery, reach, origin_row, link, line_mark, last_stretch};
+ghost use Rattle.trace_drawing.specs.Marks.{x_of, y_of, names_y, place_of, x_in, aside_place, own_mark, blocked_stretch, edge_towards, is_delivery, origin_row, link, line_mark, last_stretch};
 
 use crate::aside::AsideRow;
 use crate::row::{Line, Row};
@@ -168,23 +168,6 @@ pub fn is_delivery(event: &Event) -> bool
     matches!(event, Event::Delivered(_))
 }
 
-// The mark by which an event is reached from another.
-fn reach(event: &Event, from: &Row, to: &Row) -> Mark
-    ensures { result ≡ reach event.now from.now to.now }
-{
-    if is_delivery(event) {
-        Mark::Message {
-            from: place_of(from.level, from.column),
-            to: place_of(to.level, to.column),
-        }
-    } else {
-        Mark::Band {
-            from: edge_towards(from.level, from.column, to.column),
-            to: place_of(to.level, to.column),
-        }
-    }
-}
-
 /// The row from which an event is reached.
 pub fn origin_row<'a>(rows: &'a [Row], row: &Row) -> Option<&'a Row>
     ensures { option_copied result ≡ origin_row rows.now row.now }
@@ -201,7 +184,17 @@ pub fn link(rows: &[Row], row: &Row, event: &Event) -> Option<Mark>
 {
     match origin_row(rows, row) {
         None => None,
-        Some(from) => Some(reach(event, from, row)),
+        Some(from) => Some(if is_delivery(event) {
+            Mark::Message {
+                from: place_of(from.level, from.column),
+                to: place_of(row.level, row.column),
+            }
+        } else {
+            Mark::Band {
+                from: edge_towards(from.level, from.column, row.column),
+                to: place_of(row.level, row.column),
+            }
+        }),
     }
 }
 

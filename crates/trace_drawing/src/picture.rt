@@ -4,7 +4,7 @@ ghost use Rattle.std.specs.Prelude.{◌≡◌, ◌<◌, length, flat_map, IfOk};
 ghost use Rattle.vsync_text.specs.Written.{Appends};
 ghost use Rattle.trace_drawing.specs.Marks.{marks_of};
 ghost use Rattle.trace_drawing.specs.Spelling.{mark_text};
-ghost use Rattle.trace_drawing.specs.Picture.{colour_of, colour, group_start, event_start, event_group, event_groups, line_group, head_text, picture_of};
+ghost use Rattle.trace_drawing.specs.Picture.{colour, event_group, event_groups, line_group, head_text, picture_of};
 
 use crate::aside::Aside;
 use crate::asides::put_asides;
@@ -17,7 +17,7 @@ use crate::marks::{
 };
 use crate::row::{Line, Row};
 use crate::spelling::{put_mark, put_number, put_over, put_some_mark};
-use crate::texts::{put_line_title, put_name_above, put_row_number, put_texts};
+use crate::texts::{put_name, put_name_above, put_row_number, put_texts};
 use address::Bytes;
 use std::alloc::{AllocError, Global};
 use trace_props::{Event, Verdict};
@@ -57,13 +57,6 @@ text{fill:#ddd}.r{fill:#777}.t{fill:#aaa}.b,.t{stroke:#16181c}.w,.o{fill:#16181c
 .c6{color:#f07fd6}.c7{color:#b5c25a}.c8{color:#4fc9d6}.c9{color:#e6bf45}.c10{color:#8f9bff}.c11{color:#ff7070}}\
 </style>";
 
-// The colour of a row's column.
-fn colour_of(row: &Row) -> u32
-    ensures { result ≡ colour_of row.now }
-{
-    row.column % COLOURS
-}
-
 // The colour of an event: its member's, or that of a delivered message's sender.
 fn colour(rows: &[Row], row: &Row, event: &Event) -> u32
     ensures { result ≡ colour rows.now row.now event.now }
@@ -71,22 +64,11 @@ fn colour(rows: &[Row], row: &Row, event: &Event) -> u32
     if is_delivery(event) {
         match origin_row(rows, row) {
             None => COLOURS,
-            Some(from) => colour_of(from),
+            Some(from) => from.column % COLOURS,
         }
     } else {
-        colour_of(row)
+        row.column % COLOURS
     }
-}
-
-// Appends the beginning of an event's group.
-fn put_group_start(out: &mut Text, colour: u32, event: &Event)
-    ensures { Appends (group_start colour event.now) out.old out.new }
-{
-    let mut first = *b"00000000000000000000'><title>";
-    out.put(b"<g class='c");
-    put_over(out, u64::from(colour), &mut first);
-    out.append_event(event);
-    out.put(b"</title>");
 }
 
 // Appends the marks of an event.
@@ -98,20 +80,17 @@ fn put_marks(out: &mut Text, rows: &[Row], row: &Row, event: &Event)
     put_mark(out, own_mark(event, place_of(row.level, row.column)));
 }
 
-// Appends what stands before an event's marks.
-fn put_event_start(out: &mut Text, rows: &[Row], number: u32, row: &Row, event: &Event)
-    ensures { Appends (event_start rows.now number row.now event.now) out.old out.new }
-{
-    put_group_start(out, colour(rows, row, event), event);
-    put_name_above(out, row, &member(event));
-    put_row_number(out, number, row.level);
-}
-
 // Appends all that is drawn of an event.
 fn put_event(out: &mut Text, rows: &[Row], number: u32, row: &Row, event: &Event)
     ensures { Appends (event_group rows.now number row.now event.now) out.old out.new }
 {
-    put_event_start(out, rows, number, row, event);
+    let mut first = *b"00000000000000000000'><title>";
+    out.put(b"<g class='c");
+    put_over(out, u64::from(colour(rows, row, event)), &mut first);
+    out.append_event(event);
+    out.put(b"</title>");
+    put_name_above(out, row, &member(event));
+    put_row_number(out, number, row.level);
     put_marks(out, rows, row, event);
     put_texts(out, event, row.level, row.column);
     out.put(b"</g>\n");
@@ -132,7 +111,9 @@ fn put_events(out: &mut Text, rows: &[Row], events: &[Event])
 fn put_line(out: &mut Text, bottom: u64, line: &Line)
     ensures { Appends (line_group bottom line.now) out.old out.new }
 {
-    put_line_title(out, &line.member);
+    out.put(b"<g><title>");
+    put_name(out, &line.member);
+    out.put(b"</title>");
     put_mark(out, line_mark(bottom, line));
     put_some_mark(out, last_stretch(bottom, line));
     out.put(b"</g>\n");

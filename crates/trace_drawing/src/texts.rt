@@ -7,7 +7,7 @@ ghost use Rattle.vsync_text.specs.Written.{Appends};
 ghost use Rattle.trace_drawing.specs.Labels.{label};
 ghost use Rattle.trace_drawing.specs.Marks.{x_of, y_of, place_of};
 ghost use Rattle.trace_drawing.specs.Spelling.{start_behind, text_behind};
-ghost use Rattle.trace_drawing.specs.Picture.{beside, given_text, back_text, install_text, texts_of, same_block, name_text, number_text, line_start};
+ghost use Rattle.trace_drawing.specs.Picture.{beside, given_text, back_text, install_text, texts_of, same_block, name_text, number_text};
 
 use crate::labels::put_label;
 use crate::marks::{BLOCK, names_y, place_of, x_of, y_of};
@@ -17,8 +17,8 @@ use address::{Address, Bytes, ViewId};
 use trace_props::{Event, Install, Numbered};
 use vsync_text::Text;
 
-// Appends an address.
-fn put_name(out: &mut Text, member: &Address)
+/// Appends an address.
+pub fn put_name(out: &mut Text, member: &Address)
     ensures { Appends (text_of_address member.now) out.old out.new }
 {
     out.put_decimal(u64::from(member.node().number()));
@@ -167,13 +167,4 @@ pub fn put_row_number(out: &mut Text, number: u32, level: u32)
     out.put(b"<text class='r' x='40' y='");
     put_over(out, y_of(level) + 4, &mut first);
     put_over(out, u64::from(number) + 1, &mut second);
-}
-
-/// Appends the title of a member's line: its address.
-pub fn put_line_title(out: &mut Text, member: &Address)
-    ensures { Appends (line_start member.now) out.old out.new }
-{
-    out.put(b"<g><title>");
-    put_name(out, member);
-    out.put(b"</title>");
 }
