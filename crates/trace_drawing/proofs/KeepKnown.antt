@@ -123,11 +123,9 @@ members-noted at ms ns m n t e level column here stands comes updates was =
           (λ q. has_ended-other q t e);
     }
 
--- what is kept of a member of which something was kept before
-pub noted-again : (m n : Address → Option Lifeline) (e : Event) (p : Address) (kept : Lifeline) (level column : ℕ) → p ≡ member_of e → Some kept ≡ m p → kept.column ≡ column
-    → ((q : Address) → n q ≡ cond (same_address p q) (Some (lifeline_after (Some kept) kept.column level e)) (m q))
-    → (q : Address) → n q ≡ cond (same_address (member_of e) q) (Some (lifeline_after (m (member_of e)) column level e)) (m q)
-noted-again m n e p kept level column of is stands updates q =
-    updates q ∙ ap (λ o. cond (same_address p q) (Some (lifeline_after o kept.column level e)) (m q)) is
-    ∙ ap (λ r. cond (same_address r q) (Some (lifeline_after (m r) kept.column level e)) (m q)) of
-    ∙ ap (λ k. cond (same_address (member_of e) q) (Some (lifeline_after (m (member_of e)) k level e)) (m q)) stands
+-- what is kept of one member is what is kept of the event's
+pub noted-of : (m n : Address → Option Lifeline) (e : Event) (p : Address) (o : Option Lifeline) (new : Lifeline) (level column : ℕ) → p ≡ member_of e → o ≡ m p → new ≡ lifeline_after o column level e
+    → ((q : Address) → n q ≡ cond (same_address p q) (Some new) (m q)) → (q : Address) → n q ≡ cond (same_address (member_of e) q) (Some (lifeline_after (m (member_of e)) column level e)) (m q)
+noted-of m n e p o new level column of is made updates q =
+    updates q ∙ ap (λ l. cond (same_address p q) (Some l) (m q)) (made ∙ ap (λ x. lifeline_after x column level e) is)
+    ∙ ap (λ r. cond (same_address r q) (Some (lifeline_after (m r) column level e)) (m q)) of

@@ -6,7 +6,7 @@ ghost use Rattle.std.specs.HashMap.{get};
 ghost use Rattle.address.specs.Ids.{Address, same_address, same_view_id};
 ghost use Rattle.trace_props.specs.declared.event.Event.{Event};
 ghost use Rattle.trace_props.specs.Observed.{member_of, is_end};
-ghost use Rattle.trace_drawing.specs.Layout.{same_message, message_sent, view_installed, reached_by, row_of, member_line};
+ghost use Rattle.trace_drawing.specs.Layout.{same_message, reached_by, row_of, member_line};
 ghost use Rattle.trace_drawing.specs.Known.{blocked_after, lifeline_after, row_after, KnowsSends, KnowsInstalls, Knows};
 
 use crate::row::{Line, MessageKey, Row};
@@ -134,44 +134,6 @@ fn row_after(kept: &Lifeline, level: u32, origin: Option<u32>) -> Row
     }
 }
 
-// Keeps the next event of a member of which something is kept, and answers what that was.
-fn note_again(
-    lifelines: &mut HashMap<Address, Lifeline>,
-    member: Address,
-    event: &Event,
-    level: u32,
-) -> Option<Lifeline>
-    ensures before { result ≡ get same_address lifelines.old member }
-    ensures known { IfSome result (λ kept. (other : Address) → get same_address lifelines.new other ≡ (if same_address member other then Some (lifeline_after (Some kept) kept.column level event.now) else get same_address lifelines.old other)) }
-    ensures unknown { IfNone result ((other : Address) → get same_address lifelines.new other ≡ get same_address lifelines.old other) }
-{
-    match lifelines.get_mut(&member) {
-        None => None,
-        Some(kept) => {
-            let before = *kept;
-            *kept = lifeline_after(Some(&before), before.column, level, event);
-            Some(before)
-        }
-    }
-}
-
-// Keeps the first event of a member, in a column.
-fn note_first(
-    members: &mut Vec<Address>,
-    lifelines: &mut HashMap<Address, Lifeline>,
-    member: Address,
-    event: &Event,
-    column: u32,
-    level: u32,
-) -> Result<(), AllocError>
-    ensures members { OnOk result (members.new.items ≡ members.old.items ++ member ∷ []) }
-    ensures lifelines { OnOk result ((other : Address) → get same_address lifelines.new other ≡ (if same_address member other then Some (lifeline_after None column level event.now) else get same_address lifelines.old other)) }
-{
-    members.push(member)?;
-    lifelines.insert(member, lifeline_after(None, column, level, event))?;
-    Ok(())
-}
-
 // Keeps the next event of a member, at a level, and answers how its row is laid out. Refused where there are 2^32 members already.
 fn note_member(
     members: &mut Vec<Address>,
@@ -185,46 +147,23 @@ fn note_member(
     ensures lifelines { IfOk result (λ row. (other : Address) → get same_address lifelines.new other ≡ (if same_address (member_of event.now) other then Some (lifeline_after (get same_address lifelines.old (member_of event.now)) row.column level event.now) else get same_address lifelines.old other)) }
 {
     let member = member(event);
-    match note_again(lifelines, member, event, level) {
-        Some(kept) => Ok(row_after(&kept, level, origin)),
-        None => match u32::try_from(members.len()) {
-            Err(_) => Err(AllocError),
-            Ok(column) => {
-                note_first(members, lifelines, member, event, column, level)?;
-                Ok(Row {
-                    column,
-                    level,
-                    before: None,
-                    blocked: false,
-                    origin,
-                })
-            }
-        },
+    if let Some(kept) = lifelines.get_mut(&member) {
+        let before = *kept;
+        *kept = lifeline_after(Some(&before), before.column, level, event);
+        return Ok(row_after(&before, level, origin));
     }
-}
-
-// The message that an event sends.
-fn message_sent(event: &Event) -> Option<MessageKey>
-    ensures { result ≡ message_sent event.now }
-{
-    match event {
-        Event::Sent(sending) => Some(MessageKey {
-            view: sending.view,
-            sender: sending.member,
-            number: sending.message.number,
-        }),
-        _ => None,
-    }
-}
-
-// The view that an event installs.
-fn view_installed(event: &Event) -> Option<ViewId>
-    ensures { result ≡ view_installed event.now }
-{
-    match event {
-        Event::Installed(install) => Some(install.get().view.id()),
-        _ => None,
-    }
+    let Ok(column) = u32::try_from(members.len()) else {
+        return Err(AllocError);
+    };
+    members.push(member)?;
+    lifelines.insert(member, lifeline_after(None, column, level, event))?;
+    Ok(Row {
+        column,
+        level,
+        before: None,
+        blocked: false,
+        origin,
+    })
 }
 
 /// Keeps the number of an event under a key.
@@ -239,31 +178,28 @@ pub fn put_row<K: Eq + Hash + Copy + Drop>(
     Ok(())
 }
 
-// Keeps the row of a message that an event sends.
-fn note_sent(
+// Keeps the row of the message that an event sends, or of the view that it installs.
+fn note_origin(
     sends: &mut HashMap<MessageKey, u32>,
-    event: &Event,
-    number: u32,
-) -> Result<(), AllocError>
-    ensures { OnOk result ((t : List Event) → number ≡ length t → KnowsSends (get same_message sends.old) t → KnowsSends (get same_message sends.new) (t ++ event.now ∷ [])) }
-{
-    match message_sent(event) {
-        Some(message) => put_row(sends, message, number),
-        None => Ok(()),
-    }
-}
-
-// Keeps the row of a view that an event installs.
-fn note_installed(
     installs: &mut HashMap<ViewId, u32>,
     event: &Event,
     number: u32,
 ) -> Result<(), AllocError>
-    ensures { OnOk result ((t : List Event) → number ≡ length t → KnowsInstalls (get same_view_id installs.old) t → KnowsInstalls (get same_view_id installs.new) (t ++ event.now ∷ [])) }
+    ensures { OnOk result ((t : List Event) → number ≡ length t → KnowsSends (get same_message sends.old) t → KnowsInstalls (get same_view_id installs.old) t
+        → KnowsSends (get same_message sends.new) (t ++ event.now ∷ []) × KnowsInstalls (get same_view_id installs.new) (t ++ event.now ∷ [])) }
 {
-    match view_installed(event) {
-        Some(view) => put_row(installs, view, number),
-        None => Ok(()),
+    match event {
+        Event::Sent(sending) => put_row(
+            sends,
+            MessageKey {
+                view: sending.view,
+                sender: sending.member,
+                number: sending.message.number,
+            },
+            number,
+        ),
+        Event::Installed(install) => put_row(installs, install.get().view.id(), number),
+        _ => Ok(()),
     }
 }
 
@@ -290,8 +226,7 @@ impl Known {
     {
         let origin = origin(&self.sends, &self.installs, event);
         let row = note_member(&mut self.members, &mut self.lifelines, event, level, origin)?;
-        note_sent(&mut self.sends, event, number)?;
-        note_installed(&mut self.installs, event, number)?;
+        note_origin(&mut self.sends, &mut self.installs, event, number)?;
         Ok(row)
     }
 

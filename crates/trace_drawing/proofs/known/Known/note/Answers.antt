@@ -17,6 +17,6 @@ returns-clause-known c = λ at t number here knows. record {
   of_members = members-noted at c.args.self.now.members.items c.note_member.new.members.items (get same_address c.args.self.now.lifelines) (get same_address c.note_member.new.lifelines) t c.args.event.now c.args.level c.in_ok-row.row.column
       here (ap (λ r. r.column) c.in_ok-row.ensures.row ∙ column-kept at c.args.self.now.members.items (get same_address c.args.self.now.lifelines) t c.args.event.now knows.of_members)
       c.in_ok-row.ensures.members c.in_ok-row.ensures.lifelines knows.of_members;
-  of_sends = c.in_ok-note_sent.ensures t number knows.of_sends;
-  of_installs = c.in_ok-note_installed.ensures t number knows.of_installs;
+  of_sends = (c.in_ok-note_origin.ensures t number knows.of_sends knows.of_installs).0;
+  of_installs = (c.in_ok-note_origin.ensures t number knows.of_sends knows.of_installs).1;
 }
