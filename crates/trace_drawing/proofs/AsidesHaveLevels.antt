@@ -52,13 +52,10 @@ grows-at place k n m true true e f less = omega (arith, less)
 grows-at place k n m true false e f less = absurd (omega (arith, leb-true place k e, leb-false place (k + 1) f))
 grows-at place k n m false d e f less = omega arith
 
-above-grows : (asides : List Aside) (k : ℕ) → above asides k ≤ above asides (k + 1)
+-- those above an event stand above the next one
+pub above-grows : (asides : List Aside) (k : ℕ) → above asides k ≤ above asides (k + 1)
 above-grows [] k = omega arith
 above-grows (r ∷ rs) k = grows-at r.place k (above rs k) (above rs (k + 1)) (nat_le r.place k) (nat_le r.place (k + 1)) refl refl (above-grows rs k)
-
--- those above an event stand above the next one
-pub above-next : (asides : List Aside) (k n : ℕ) → n ≡ above asides k → n ≤ above asides (k + 1)
-above-next asides k n is = omega (arith, is, above-grows asides k)
 
 -- the level of the next event
 pub level-here : (asides : List Aside) (events : List Event) (i n : ℕ) → i < length events → n ≡ above asides i → i + n ≡ level_of asides (length (take i events))

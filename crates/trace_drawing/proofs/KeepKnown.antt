@@ -1,17 +1,15 @@
 -- What is kept of the events, one event further.
-use Rattle.std.proofs.Common.{◌≡◌, ℕ, Bool, true, false, cond, List, [], ◌∷◌, ◌++◌, length, Option, Some, None, is_some, unwrap_or, option_map, nat_eq, sym, refl, ap, ◌∙◌}
-use Rattle.std.specs.Option.{option_map_or}
+use Rattle.std.proofs.Common.{◌≡◌, ℕ, Bool, true, false, cond, List, [], ◌∷◌, ◌++◌, length, Option, Some, None, is_some, unwrap_or, option_map, sym, refl, ap, ◌∙◌}
 use Rattle.std.proofs.lemmas.List.Sums.{fold-append}
-use Rattle.address.specs.Ids.{Address, ViewId, same_address, same_view_id}
+use Rattle.address.specs.Ids.{Address, same_address}
 use Rattle.address.proofs.SameIds.{same_address-true, same_address-refl, same_address-sym}
 use Rattle.trace_props.specs.declared.event.Event.{Event}
 use Rattle.trace_props.specs.declared.event.Event.TheVariants.{Started, Sent, Delivered, Blocked, Installed, Left, Crashed}
 use Rattle.trace_props.specs.Observed.{member_of, is_blocked, has_ended, is_end}
 use Rattle.trace_props.proofs.ObservedGrow.{is_blocked-push, is_blocked-other, is_blocked-now, is_blocked-open, has_ended-still, has_ended-other, has_ended-now}
-use Rattle.trace_drawing.specs.declared.row.MessageKey.{MessageKey}
 use Rattle.trace_drawing.specs.declared.known.Lifeline.{Lifeline}
-use Rattle.trace_drawing.specs.Layout.{first_place, last_place, rank_in, come_up, members_in, column_of, happens_to, happens_at, same_message, message_sent, view_installed, sends, installs}
-use Rattle.trace_drawing.specs.Known.{blocked_after, lifeline_after, KnowsMembers, KnowsSends, KnowsInstalls, KnowsNodes}
+use Rattle.trace_drawing.specs.Layout.{first_place, last_place, rank_in, come_up, members_in, column_of, happens_to}
+use Rattle.trace_drawing.specs.Known.{blocked_after, lifeline_after, KnowsMembers}
 use Rattle.trace_drawing.proofs.FirstAndLast.{last_place-push, last-hit, last-miss, first-hit, first-miss}
 
 -- TABLES OF LAST PLACES
@@ -21,24 +19,6 @@ pub lasts-noted : {K : Type 0} (tests : K → Event → Bool) (m n : K → Optio
     → ((q : K) → m q ≡ last_place (tests q) t) → (q : K) → n q ≡ last_place (tests q) (t ++ e ∷ [])
 lasts-noted tests m n t e row at updates was q =
     updates q ∙ ap (λ r. cond (tests q e) (Some r) (m q)) at ∙ ap (λ o. cond (tests q e) (Some (length t)) o) (was q) ∙ sym (last_place-push (tests q) t e)
-
-pub sends-noted : (m n : MessageKey → Option ℕ) (t : List Event) (e : Event) (row : ℕ) (k : MessageKey) → Some k ≡ message_sent e → row ≡ length t
-    → ((q : MessageKey) → n q ≡ cond (same_message k q) (Some row) (m q)) → KnowsSends m t → KnowsSends n (t ++ e ∷ [])
-sends-noted m n t e row k is at updates was = lasts-noted sends m n t e row at (λ q. updates q ∙ ap (λ o. cond (option_map_or (λ j. same_message j q) o false) (Some row) (m q)) is) was
-
-pub sends-left : (m : MessageKey → Option ℕ) (t : List Event) (e : Event) → None ≡ message_sent e → KnowsSends m t → KnowsSends m (t ++ e ∷ [])
-sends-left m t e is was q = was q ∙ sym (last-miss (sends q) t e (ap (λ o. option_map_or (λ j. same_message j q) o false) (sym is)))
-
-pub installs-noted : (m n : ViewId → Option ℕ) (t : List Event) (e : Event) (row : ℕ) (v : ViewId) → Some v ≡ view_installed e → row ≡ length t
-    → ((q : ViewId) → n q ≡ cond (same_view_id v q) (Some row) (m q)) → KnowsInstalls m t → KnowsInstalls n (t ++ e ∷ [])
-installs-noted m n t e row v is at updates was = lasts-noted installs m n t e row at (λ q. updates q ∙ ap (λ o. cond (option_map_or (λ w. same_view_id w q) o false) (Some row) (m q)) is) was
-
-pub installs-left : (m : ViewId → Option ℕ) (t : List Event) (e : Event) → None ≡ view_installed e → KnowsInstalls m t → KnowsInstalls m (t ++ e ∷ [])
-installs-left m t e is was q = was q ∙ sym (last-miss (installs q) t e (ap (λ o. option_map_or (λ w. same_view_id w q) o false) (sym is)))
-
-pub nodes-noted : (m n : ℕ → Option ℕ) (t : List Event) (e : Event) (row : ℕ) → row ≡ length t
-    → ((q : ℕ) → n q ≡ cond (nat_eq (member_of e).node q) (Some row) (m q)) → KnowsNodes m t → KnowsNodes n (t ++ e ∷ [])
-nodes-noted m n t e row at updates was = lasts-noted happens_at m n t e row at updates was
 
 -- MEMBERS
 

@@ -51,15 +51,9 @@ rows_from-push : (at : ℕ → ℕ) (past t : List Event) (e : Event) → rows_f
 rows_from-push at past [] e = ap (λ p. row_of at p e ∷ []) (sym (append-nil past))
 rows_from-push at past (x ∷ xs) e = ap (λ rs. row_of at past x ∷ rs) (rows_from-push at (past ++ x ∷ []) xs e ∙ ap (λ p. rows_from at (past ++ x ∷ []) xs ++ row_of at p e ∷ []) (append_assoc past (x ∷ []) xs))
 
-pub next-take : {X : Type 0} (xs : List X) (i : ℕ) (x : X) → x ≡ get_or xs i x → i < length xs → take (i + 1) xs ≡ take i xs ++ x ∷ []
-next-take xs i x at inside =
-    let e : i + 1 ≡ suc i = omega arith in
-    ap (λ n. take n xs) e ∙ take-suc xs i x inside ∙ ap (λ y. take i xs ++ y ∷ []) (sym at)
-
 pub next-take-at : {X : Type 0} (xs : List X) (i : ℕ) (x d : X) → x ≡ get_or xs i d → i < length xs → take (i + 1) xs ≡ take i xs ++ x ∷ []
 next-take-at xs i x d at inside =
-    let e : i + 1 ≡ suc i = omega arith in
-    ap (λ n. take n xs) e ∙ take-suc xs i d inside ∙ ap (λ y. take i xs ++ y ∷ []) (sym at)
+    ap (λ n. take n xs) (let e : i + 1 ≡ suc i = omega arith in e) ∙ take-suc xs i d inside ∙ ap (λ y. take i xs ++ y ∷ []) (sym at)
 
 pub length-front : {X : Type 0} (xs : List X) (i : ℕ) → i < length xs → i ≡ length (take i xs)
 length-front xs i inside = omega (arith, length-take i xs)
@@ -69,11 +63,11 @@ pub rows-next : (at : ℕ → ℕ) (events : List Event) (i : ℕ) (e : Event) (
     → rows ≡ rows_of at (take i events) → r ≡ row_of at (take i events) e → more ≡ rows ++ r ∷ [] → more ≡ rows_of at (take (i + 1) events)
 rows-next at events i e rows more r stands inside so_far is pushed =
     pushed ∙ ap (λ rs. rs ++ r ∷ []) so_far ∙ ap (λ x. rows_of at (take i events) ++ x ∷ []) is
-    ∙ sym (ap (rows_of at) (next-take events i e stands inside) ∙ rows_from-push at [] (take i events) e)
+    ∙ sym (ap (rows_of at) (next-take-at events i e e stands inside) ∙ rows_from-push at [] (take i events) e)
 
 pub known-next : (events : List Event) (i : ℕ) (e : Event) (K : List Event → Type 0) → e ≡ get_or events i e → i < length events
     → (i ≡ length (take i events) → K (take i events ++ e ∷ [])) → K (take (i + 1) events)
-known-next events i e K at inside then = subst K (sym (next-take events i e at inside)) (then (length-front events i inside))
+known-next events i e K at inside then = subst K (sym (next-take-at events i e e at inside)) (then (length-front events i inside))
 
 -- LINES
 
@@ -82,5 +76,5 @@ pub lines-next : (at : ℕ → ℕ) (t : List Event) (members items : List Addre
     → lines ≡ filter_map (member_line at t) (take i members) → (o : Option Line) → o ≡ member_line at t p → lines ++ cons_option o [] ≡ filter_map (member_line at t) (take (i + 1) members)
 lines-next at t members items i p lines same stands inside so_far o is =
     ap (λ ls. ls ++ cons_option o []) so_far ∙ ap (λ xs. filter_map (member_line at t) (take i xs) ++ cons_option o []) (sym same) ∙ ap (λ x. filter_map (member_line at t) (take i items) ++ cons_option x []) is
-    ∙ sym (ap (filter_map (member_line at t)) (next-take items i p stands inside) ∙ filter_map-append (member_line at t) (take i items) (p ∷ []))
+    ∙ sym (ap (filter_map (member_line at t)) (next-take-at items i p p stands inside) ∙ filter_map-append (member_line at t) (take i items) (p ∷ []))
     ∙ ap (λ xs. filter_map (member_line at t) (take (i + 1) xs)) same

@@ -6,7 +6,7 @@ use Rattle.address.specs.Ids.{same_address, same_view_id}
 use Rattle.trace_drawing.specs.Layout.{same_message, level_of, rows_of}
 use Rattle.trace_drawing.specs.Known.{Knows}
 use Rattle.trace_drawing.proofs.RowsAndLines.{rows-next, known-next}
-use Rattle.trace_drawing.proofs.AsidesHaveLevels.{level-here, above-next}
+use Rattle.trace_drawing.proofs.AsidesHaveLevels.{level-here, above-grows}
 use Rattle.trace_drawing.proofs.layout.rows_and_lines.Goals as goal
 
 -- nothing is laid out, and no aside is passed
@@ -25,7 +25,7 @@ loop-index-preserved c =
           (λ t. Knows at c.note.new.self.members.items (get same_address c.note.new.self.lifelines) (get same_message c.note.new.self.sends) (get same_view_id c.note.new.self.installs) t)
           c.index-events-index.is c.loop-index-test.true
           (λ number. c.in_ok-note.ensures.known at past number here c.loop-index.invariant.1),
-      above-next c.args.asides.now c.loop-index.index c.above-passed.result c.above-passed.ensures.is,
+      omega (arith, c.above-passed.ensures.is, above-grows c.args.asides.now c.loop-index.index),
       search rules,
     )
 
