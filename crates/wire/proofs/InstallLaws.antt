@@ -1,25 +1,23 @@
 -- The laws of a report with its flag, and of an install.
-use Rattle.std.proofs.Common.{◌≡◌, ℕ, ◌+◌, ◌≤◌, Bool, true, false, cond, leb, eqb, ◌&&◌, List, [], ◌++◌, length, Option, Some, None, Result, Ok, refl, sym, ap, subst, ◌∙◌, append_assoc, arith, inl, inr}
-use Rattle.std.specs.Prelude.{IfSome, ◌⊎◌}
+use Rattle.std.proofs.Common.{◌≡◌, ℕ, ◌+◌, ◌≤◌, true, cond, leb, eqb, ◌&&◌, List, [], ◌++◌, length, Option, Some, None, Ok, refl, sym, ap, subst, ◌∙◌, append_assoc, arith, inl, inr}
+use Rattle.std.specs.Prelude.{IfSome}
 use Rattle.std.specs.List.{flat_map, AllByRecursion}
 use Rattle.std.specs.Option.{option_map_or}
 use Rattle.std.proofs.lemmas.Bool.{leb-true, le-leb, eqb-true, and_parts}
-use Rattle.std.proofs.lemmas.Bool.Decides.{nat_tests}
 use Rattle.std.proofs.lemmas.List.{nil_from_length}
 use Rattle.byteorder.specs.Endian.{big_bytes}
 use Rattle.address.specs.Ids.{Address, ViewId}
-use Rattle.address.specs.declared.limits.TheConstants.{GREATEST_NUMBER, MEMBERS, WINDOW, STATE}
+use Rattle.address.specs.declared.limits.TheConstants.{GREATEST_NUMBER, MEMBERS, WINDOW}
 use Rattle.view.specs.Members.{View}
-use Rattle.wire_values.specs.declared.error.WireError.{WireError}
 use Rattle.wire_values.specs.declared.error.WireError.TheVariants.{Length, Value}
 use Rattle.wire_values.specs.Values.{Entry, Report, Install, nothing_reported}
 use Rattle.wire_values.specs.declared.values.state.GivenState.{GivenState}
-use Rattle.wire_values.specs.Reading.{◌>>=◌, bytes_at, number_at, list_at}
+use Rattle.wire_values.specs.Reading.{◌>>=◌, number_at, list_at}
 use Rattle.wire_values.specs.Fields.{IsAddress, IsViewId, IsEntry, IsPlaced, address_bytes, number_bytes, entry_bytes, entry_at}
 use Rattle.wire_values.specs.Lists.{IsReport, IsInstall, IsGiven, is_filled, is_nothing, is_report, filled_bytes, report_bytes, filled_at, report_at, is_in_order, is_install, addresses_bytes, view_bytes, items_bytes, state_bytes, given_bytes, install_bytes, IsView, view_at, together_at, items_count_at, state_at, given_at, install_at}
 use Rattle.big_endian.specs.Spelled.{IsBytes}
-use Rattle.big_endian.proofs.Bytes.{wide1, wide4, wide8}
-use Rattle.wire_values.proofs.FieldLaws.{bind_ok, ok_is, along, back, Takes, Takes-then, IsPart, entry_part, bytes_takes, bytes_again, number_takes, number_again, eight_again}
+use Rattle.big_endian.proofs.Bytes.{wide1, wide8}
+use Rattle.wire_values.proofs.FieldLaws.{bind_ok, ok_is, along, back, Takes, Takes-then, IsPart, entry_part, number_takes, number_again, eight_again}
 use Rattle.wire.proofs.ChunkLaws.{state_part}
 use Rattle.wire.proofs.FlagLaws.{chosen, flag_one}
 use Rattle.wire_values.proofs.ListLaws.{list_takes, list_again}

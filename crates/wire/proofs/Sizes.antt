@@ -10,10 +10,10 @@ use Rattle.address.specs.declared.limits.TheConstants.{MEMBERS, PAYLOAD, WINDOW,
 use Rattle.wire_values.specs.declared.packet.Body.{Body}
 use Rattle.wire_values.specs.declared.packet.Body.TheVariants as bodies
 use Rattle.wire_values.specs.declared.packet.Packet.{Packet}
-use Rattle.wire_values.specs.Values.{Entry, Report, Install, Chunk}
+use Rattle.wire_values.specs.Values.{Report, Install, Chunk}
 use Rattle.wire_values.specs.declared.values.state.GivenState.{GivenState}
 use Rattle.wire_values.specs.declared.values.state.GivenState.TheVariants as given
-use Rattle.wire_values.specs.Fields.{IsEntry, IsPlaced, address_bytes, number_bytes, view_id_bytes, payload_bytes, entry_bytes, placed_bytes}
+use Rattle.wire_values.specs.Fields.{IsPlaced, address_bytes, number_bytes, view_id_bytes, payload_bytes, entry_bytes, placed_bytes}
 use Rattle.wire_values.specs.Lists.{IsView, IsReport, IsInstall, IsGiven, IsChunk, chunk_bytes, is_filled, is_nothing, addresses_bytes, view_bytes, held_bytes, filled_bytes, report_bytes, items_bytes, state_bytes, given_bytes, install_bytes}
 use Rattle.wire_values.specs.Kinds.{kind_of}
 use Rattle.wire.specs.Packets.{IsBody, body_bytes, IsPacket, front_bytes, header_bytes, spelling}

@@ -94,17 +94,6 @@ pub fn put_entry(
     Ok(())
 }
 
-fn put_addresses(addresses: &[Address], out: &mut Vec<u8>)
-    requires { vec_len out.old + length (flat_map address_bytes addresses.now) ≤ vec_capacity out.old }
-    ensures items { out.new.items ≡ out.old.items ++ flat_map address_bytes addresses.now }
-    ensures room { vec_capacity out.old ≤ vec_capacity out.new }
-    ensures fits { AllByRecursion IsAddress addresses.now }
-{
-    for address in addresses {
-        put_address(*address, out);
-    }
-}
-
 fn put_members(addresses: &[Address], out: &mut Vec<u8>)
     requires few { length addresses.now ≤ MEMBERS }
     requires room { vec_len out.old + length (addresses_bytes addresses.now) ≤ vec_capacity out.old }
@@ -113,7 +102,9 @@ fn put_members(addresses: &[Address], out: &mut Vec<u8>)
     ensures fits { AllByRecursion IsAddress addresses.now }
 {
     put_u8(addresses.len() as u8, out);
-    put_addresses(addresses, out);
+    for address in addresses {
+        put_address(*address, out);
+    }
 }
 
 fn put_view(view: &Roster, out: &mut Vec<u8>)
@@ -126,31 +117,6 @@ fn put_view(view: &Roster, out: &mut Vec<u8>)
     put_members(view.members().as_slice(), out);
 }
 
-// The view of a report, and its counts.
-fn put_counts(previous: ViewId, report: &Report<'_>, out: &mut Vec<u8>)
-    requires { vec_len out.old + length (view_id_bytes previous ++ number_bytes report.now.stable ++ number_bytes report.now.delivered) ≤ vec_capacity out.old }
-    ensures items { out.new.items ≡ out.old.items ++ (view_id_bytes previous ++ number_bytes report.now.stable ++ number_bytes report.now.delivered) }
-    ensures room { vec_capacity out.old ≤ vec_capacity out.new }
-    ensures fits { IsViewId previous }
-{
-    put_numbers(
-        previous,
-        report.stable().get(),
-        report.delivered().get(),
-        out,
-    );
-}
-
-fn put_held(held: &Held<'_>, out: &mut Vec<u8>)
-    requires { vec_len out.old + length (held_bytes held.now) ≤ vec_capacity out.old }
-    ensures items { out.new.items ≡ out.old.items ++ held_bytes held.now }
-    ensures room { vec_capacity out.old ≤ vec_capacity out.new }
-    ensures fits { AllByRecursion IsPlaced held.now }
-{
-    put_u8(held.len() as u8, out);
-    put(held.text(), out);
-}
-
 // A report's body behind its flag.
 fn put_filled(previous: ViewId, report: &Report<'_>, out: &mut Vec<u8>)
     requires { vec_len out.old + length (filled_bytes previous report.now) ≤ vec_capacity out.old }
@@ -159,8 +125,11 @@ fn put_filled(previous: ViewId, report: &Report<'_>, out: &mut Vec<u8>)
     ensures previous { IsViewId previous }
     ensures held { AllByRecursion IsPlaced report.now.held }
 {
-    put_counts(previous, report, out);
-    put_held(&report.held(), out);
+    let held = report.held();
+    let (stable, delivered) = (report.stable(), report.delivered());
+    put_numbers(previous, stable.get(), delivered.get(), out);
+    put_u8(held.len() as u8, out);
+    put(held.text(), out);
 }
 
 fn put_report(report: &Report<'_>, out: &mut Vec<u8>)
@@ -176,15 +145,6 @@ fn put_report(report: &Report<'_>, out: &mut Vec<u8>)
             put_filled(previous, report, out);
         }
     }
-}
-
-fn put_total(total: Total, out: &mut Vec<u8>)
-    requires { vec_len out.old + 4 ≤ vec_capacity out.old }
-    ensures items { out.new.items ≡ out.old.items ++ big_bytes 4 total }
-    ensures room { vec_capacity out.old ≤ vec_capacity out.new }
-    ensures fits { IsTotal total }
-{
-    put_u32(total.get(), out);
 }
 
 fn put_state(state: &GivenState<'_>, out: &mut Vec<u8>)
@@ -203,7 +163,7 @@ fn put_state(state: &GivenState<'_>, out: &mut Vec<u8>)
         }
         GivenState::Chunked(total) => {
             put_u8(2, out);
-            put_total(*total, out);
+            put_u32(total.get(), out);
         }
     }
 }
@@ -255,63 +215,6 @@ fn put_numbers(view: ViewId, first: u64, second: u64, out: &mut Vec<u8>)
     put_u64(second, out);
 }
 
-fn put_forward(view: ViewId, number: Number, payload: &Payload<'_>, out: &mut Vec<u8>)
-    requires { vec_len out.old + length (view_id_bytes view ++ number_bytes number ++ payload_bytes payload.now) ≤ vec_capacity out.old }
-    ensures items { out.new.items ≡ out.old.items ++ (view_id_bytes view ++ number_bytes number ++ payload_bytes payload.now) }
-    ensures room { vec_capacity out.old ≤ vec_capacity out.new }
-    ensures view { IsViewId view }
-    ensures number { IsNumber number }
-    ensures payload { length payload.now ≤ PAYLOAD }
-{
-    put_number(view, number.get(), out);
-    put_payload(payload, out);
-}
-
-fn put_order(view: ViewId, place: Number, entry: &Entry<'_>, out: &mut Vec<u8>)
-    requires { vec_len out.old + length (view_id_bytes view ++ number_bytes place ++ entry_bytes entry.now) ≤ vec_capacity out.old }
-    ensures items { out.new.items ≡ out.old.items ++ (view_id_bytes view ++ number_bytes place ++ entry_bytes entry.now) }
-    ensures room { vec_capacity out.old ≤ vec_capacity out.new }
-    ensures view { IsViewId view }
-    ensures place { IsNumber place }
-    ensures entry { IsEntry entry.now }
-{
-    put_number(view, place.get(), out);
-    put_entry_text(entry, out);
-}
-
-fn put_reported(proposal: ViewId, report: &Report<'_>, out: &mut Vec<u8>)
-    requires { vec_len out.old + length (view_id_bytes proposal ++ report_bytes report.now) ≤ vec_capacity out.old }
-    ensures items { out.new.items ≡ out.old.items ++ (view_id_bytes proposal ++ report_bytes report.now) }
-    ensures room { vec_capacity out.old ≤ vec_capacity out.new }
-    ensures proposal { IsViewId proposal }
-    ensures report { IsReport report.now }
-{
-    put_view_id(proposal, out);
-    put_report(report, out);
-}
-
-fn put_chunk(chunk: &Chunk<'_>, out: &mut Vec<u8>)
-    requires { vec_len out.old + length (chunk_bytes chunk.now) ≤ vec_capacity out.old }
-    ensures items { out.new.items ≡ out.old.items ++ chunk_bytes chunk.now }
-    ensures room { vec_capacity out.old ≤ vec_capacity out.new }
-    ensures fits { IsChunk chunk.now }
-{
-    put_total(chunk.total(), out);
-    put_u8(chunk.index(), out);
-    put(chunk.as_slice(), out);
-}
-
-fn put_sent_state(proposal: ViewId, chunk: &Chunk<'_>, out: &mut Vec<u8>)
-    requires { vec_len out.old + length (view_id_bytes proposal ++ chunk_bytes chunk.now) ≤ vec_capacity out.old }
-    ensures items { out.new.items ≡ out.old.items ++ (view_id_bytes proposal ++ chunk_bytes chunk.now) }
-    ensures room { vec_capacity out.old ≤ vec_capacity out.new }
-    ensures proposal { IsViewId proposal }
-    ensures chunk { IsChunk chunk.now }
-{
-    put_view_id(proposal, out);
-    put_chunk(chunk, out);
-}
-
 fn put_body(body: &Body<'_>, out: &mut Vec<u8>)
     requires { vec_len out.old + length (body_bytes body.now) ≤ vec_capacity out.old }
     ensures items { out.new.items ≡ out.old.items ++ body_bytes body.now }
@@ -326,8 +229,14 @@ fn put_body(body: &Body<'_>, out: &mut Vec<u8>)
             view,
             number,
             payload,
-        } => put_forward(*view, *number, payload, out),
-        Body::Order { view, place, entry } => put_order(*view, *place, entry, out),
+        } => {
+            put_number(*view, number.get(), out);
+            put_payload(payload, out);
+        }
+        Body::Order { view, place, entry } => {
+            put_number(*view, place.get(), out);
+            put_entry_text(entry, out);
+        }
         Body::Nak { view, missing } => {
             put_numbers(*view, missing.first().get(), missing.last().get(), out);
         }
@@ -342,22 +251,19 @@ fn put_body(body: &Body<'_>, out: &mut Vec<u8>)
         }
         Body::Flush(proposal) => put_view(proposal, out),
         Body::Behind { proposal, counter } => put_number(*proposal, counter.get(), out),
-        Body::Report { proposal, report } => put_reported(*proposal, report, out),
+        Body::Report { proposal, report } => {
+            put_view_id(*proposal, out);
+            put_report(report, out);
+        }
         Body::Install(install) => put_install(install, out),
         Body::Merge(view) => put_view(view, out),
-        Body::State { proposal, chunk } => put_sent_state(*proposal, chunk, out),
+        Body::State { proposal, chunk } => {
+            put_view_id(*proposal, out);
+            put_u32(chunk.total().get(), out);
+            put_u8(chunk.index(), out);
+            put(chunk.as_slice(), out);
+        }
     }
-}
-
-fn put_group(group: &GroupName<'_>, out: &mut Vec<u8>)
-    requires { vec_len out.old + length (group_bytes group.now) ≤ vec_capacity out.old }
-    ensures items { out.new.items ≡ out.old.items ++ group_bytes group.now }
-    ensures room { vec_capacity out.old ≤ vec_capacity out.new }
-    ensures fits { is_group_name group.now ≡ true }
-{
-    let bytes = group.as_slice();
-    put_u8(bytes.len() as u8, out);
-    put(bytes, out);
 }
 
 fn put_front(kind: u8, out: &mut Vec<u8>)
@@ -381,8 +287,10 @@ fn put_header(packet: &Packet<'_>, out: &mut Vec<u8>)
     ensures source { IsAddress packet.now.source }
     ensures destination { IsAddress packet.now.destination }
 {
+    let group = packet.group.as_slice();
     put_front(packet.body.kind(), out);
-    put_group(&packet.group, out);
+    put_u8(group.len() as u8, out);
+    put(group, out);
     put_address(packet.source, out);
     put_address(packet.destination, out);
 }
@@ -405,20 +313,13 @@ fn view_len(view: &Roster) -> usize
     VIEW_ID + COUNT + ADDRESS * view.members().len()
 }
 
-fn items_len(items: &Items<'_>) -> usize
-    ensures size { result ≡ length (flat_map entry_bytes items.now) }
-    ensures few { result < 2 ^ 18 }
-{
-    items.text().len()
-}
-
 fn install_len(install: &Install<'_>) -> usize
     ensures size { result ≡ length (install_bytes install.now) }
     ensures few { result < 2 ^ 19 }
 {
     let view = view_len(install.view());
     let together = ADDRESS * install.together().len();
-    NUMBER + 2 * COUNT + view + together + items_len(&install.items()) + state_len(install.state())
+    NUMBER + 2 * COUNT + view + together + install.items().text().len() + state_len(install.state())
 }
 
 fn report_len(report: &Report<'_>) -> usize

@@ -18,7 +18,7 @@ returns-clause-size c =
       ap (λ (v : View). length (view_bytes v)) c.view.ensures.view,
       c.len-together.ensures.count,
       ap length c.together.ensures,
-      c.items_len.ensures.size,
+      ap length c.text.ensures.text,
       ap (λ (l : List Entry). length (flat_map entry_bytes l)) c.items.ensures,
       c.state_len.ensures.size,
       ap (λ (s : GivenState). length (state_bytes s)) c.state.ensures,
