@@ -19,7 +19,7 @@ ghost use Rattle.traffic.specs.InViews.{in_view};
 use crate::Coordinator;
 use crate::delivering::deliver_kept;
 use address::Address;
-use nak_stream::{Entry, OwnedPayload};
+use nak_stream::Entry;
 use state_transfer::Receiver;
 use std::alloc::AllocError;
 use step_output::{Identity, Output};
@@ -37,13 +37,6 @@ impl Coordinator {
     {
         let _taken = self.orderer.forward(sender, number, payload)?;
         Ok(())
-    }
-
-    // Takes a message of its own among those that are to be ordered.
-    pub(crate) fn queue_own(&mut self, sender: &Address, number: Number, payload: OwnedPayload)
-        ensures { self.new ≡ queued sender.now number payload self.old }
-    {
-        let _taken = self.orderer.take(sender, number, payload);
     }
 
     // Takes the next message out of its queue, where one may be ordered, and delivers it here. Answers its number in the order, and the message.

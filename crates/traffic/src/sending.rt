@@ -61,22 +61,6 @@ pub(crate) fn say(
 }
 
 impl Coordinator {
-    // A message of its own is sent: it is outstanding, and the event is recorded.
-    fn say(
-        &mut self,
-        who: &Identity,
-        payload: OwnedPayload,
-        out: &mut Output,
-    ) -> Result<Number, AllocError>
-        requires { push_refusal self.old.forwards ≡ None }
-        ensures number { IfOk result (λ n. n ≡ self.old.forwards.sent + 1) }
-        ensures now { OnOk result (self.new ≡ pushing payload self.old) }
-        ensures happens { OnOk result (Grows who.now.group out.old out.new [] (Sent (sending who.now.address self.old.view.id (self.old.forwards.sent + 1) payload) ∷ [])) }
-        ensures short { OnOk result (length payload ≤ PAYLOAD) }
-    {
-        say(who, self.view.id(), payload, &mut self.forwards, out)
-    }
-
     // A message of its own is sent, and waits to be ordered: its payload is copied once.
     fn say_and_queue(
         &mut self,
@@ -91,8 +75,8 @@ impl Coordinator {
     {
         let kept = OwnedPayload::copy_of(who.alloc, payload)?;
         let waiting = kept.shared(who.alloc)?;
-        let number = self.say(who, kept, out)?;
-        self.queue_own(&who.address, number, waiting);
+        let number = say(who, self.view.id(), kept, &mut self.forwards, out)?;
+        let _taken = self.orderer.take(&who.address, number, waiting);
         Ok(())
     }
 

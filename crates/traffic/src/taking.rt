@@ -126,22 +126,15 @@ impl Follower {
         Some(missing)
     }
 
-    // Puts out a NAK to the coordinator.
-    fn ask(&self, who: &Identity, missing: Missing, out: &mut Output) -> Result<(), AllocError>
-        ensures { OnOk result (Grows who.now.group out.old out.new (packet who.now.address (bodies.Nak self.now.view.id missing) self.now.view.id.creator ∷ []) []) }
-    {
-        let view = self.view.id();
-        who.put(self.view.first(), Body::Nak { view, missing }, out)
-    }
-
     // Puts out a NAK of what is missing up to the highest, where something is.
     fn ask_up_to(&self, who: &Identity, highest: u64, out: &mut Output) -> Result<(), AllocError>
         requires { highest ≤ GREATEST_NUMBER }
         ensures { OnOk result (AsksUpTo (who_of who.now) highest self.now out.old out.new) }
     {
+        let view = self.view.id();
         match self.missing(highest) {
             None => Ok(()),
-            Some(missing) => self.ask(who, missing, out),
+            Some(missing) => who.put(self.view.first(), Body::Nak { view, missing }, out),
         }
     }
 
@@ -245,26 +238,11 @@ impl Follower {
     {
         match rest.split_first() {
             None => Ok(()),
-            Some(parts) => {
-                self.forward_one(who, parts.0, out)?;
-                self.forward_all(who, parts.1, out)
+            Some((first, others)) => {
+                self.forward_one(who, first, out)?;
+                self.forward_all(who, others, out)
             }
         }
-    }
-
-    // A message of its own is sent: it is outstanding, and the event is recorded.
-    fn say(
-        &mut self,
-        who: &Identity,
-        payload: OwnedPayload,
-        out: &mut Output,
-    ) -> Result<Number, AllocError>
-        requires { push_refusal self.old.forwards ≡ None }
-        ensures number { IfOk result (λ n. n ≡ self.old.forwards.sent + 1) }
-        ensures now { OnOk result (self.new ≡ follower_pushing payload self.old) }
-        ensures happens { OnOk result (Grows who.now.group out.old out.new [] (Sent (sending who.now.address self.old.view.id (self.old.forwards.sent + 1) payload) ∷ [])) }
-    {
-        say(who, self.view.id(), payload, &mut self.forwards, out)
     }
 
     /// Sends a message: it is outstanding, and its FORWARD goes to the coordinator. After an error for want of memory nothing is said of the member.
@@ -281,8 +259,8 @@ impl Follower {
     {
         let body = payload.as_slice();
         let kept = OwnedPayload::copy_of(who.alloc, payload)?;
-        let number = self.say(who, kept, out)?;
         let view = self.view.id();
+        let number = say(who, view, kept, &mut self.forwards, out)?;
         let Some(payload) = Payload::new(body) else {
             unreachable!();
         };
