@@ -36,15 +36,6 @@ pub fn deliver<R: Receiver>(
     who.record(Event::Delivered(delivery), out)
 }
 
-// An own message that is delivered is outstanding no longer.
-fn note_delivered(who: &Identity, entry: &Entry, forwards: &mut Forwards)
-    ensures { forwards.new ≡ after_delivery who.now.address entry.now forwards.old }
-{
-    if entry.sender == who.address {
-        forwards.oldest_delivered();
-    }
-}
-
 /// Delivers a message that is kept, whose payload the event shares. An own one is outstanding no longer.
 pub(crate) fn deliver_kept<R: Receiver>(
     who: &Identity,
@@ -64,6 +55,8 @@ pub(crate) fn deliver_kept<R: Receiver>(
         payload: entry.payload.bytes(who.alloc)?,
     };
     deliver(who, view, message, receiver, out)?;
-    note_delivered(who, entry, forwards);
+    if entry.sender == who.address {
+        forwards.oldest_delivered();
+    }
     Ok(())
 }
