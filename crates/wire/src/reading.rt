@@ -3,13 +3,21 @@
 ghost use Rattle.std.specs.Prelude.{◌≡◌, Ok, Some, IfOk, IfErr};
 ghost use Rattle.wire_values.specs.Reading.{IsRead};
 ghost use Rattle.wire_values.specs.declared.packet.Packet.{Packet as PacketValue};
-ghost use Rattle.wire.specs.Packets.{forward_at, order_at, nak_at, ack_at, status_at, behind_at, reported_at, sent_state_at, body_at, front_at, packet_at, packet_of, Spells, wire_refusal};
+ghost use Rattle.wire.specs.Packets.{redirect_at, forward_at, order_at, nak_at, ack_at, status_at, flush_at, behind_at, reported_at, installed_at, merge_at, sent_state_at, body_at, front_at, packet_at, packet_of, Spells, wire_refusal};
 
 use address::limits::{DATAGRAM, GREATEST_NUMBER, KINDS, MAGIC, VERSION, WINDOW};
 use wire_values::{
     Body, Missing, Packet, Progress, Reader, WireError, chunk_at, count_at, entry_at, group_at,
     install_at, number_at, payload_at, report_at, view_at,
 };
+
+#[tactic(auto, unfolding(crate::specs::Packets::redirect_at))]
+fn redirect_at<'a>(from: &mut Reader<'a>) -> Result<Body<'a>, WireError>
+    ensures { IsRead (λ x. (x, from.new)) result (redirect_at from.old) }
+{
+    let coordinator = from.address()?;
+    Ok(Body::Redirect(coordinator))
+}
 
 #[tactic(auto, unfolding(crate::specs::Packets::forward_at))]
 fn forward_at<'a>(from: &mut Reader<'a>) -> Result<Body<'a>, WireError>
@@ -71,6 +79,14 @@ fn status_at<'a>(from: &mut Reader<'a>) -> Result<Body<'a>, WireError>
     }
 }
 
+#[tactic(auto, unfolding(crate::specs::Packets::flush_at))]
+fn flush_at<'a>(from: &mut Reader<'a>) -> Result<Body<'a>, WireError>
+    ensures { IsRead (λ x. (x, from.new)) result (flush_at from.old) }
+{
+    let proposal = view_at(from)?;
+    Ok(Body::Flush(proposal))
+}
+
 #[tactic(auto, unfolding(crate::specs::Packets::behind_at))]
 fn behind_at<'a>(from: &mut Reader<'a>) -> Result<Body<'a>, WireError>
     ensures { IsRead (λ x. (x, from.new)) result (behind_at from.old) }
@@ -89,6 +105,22 @@ fn reported_at<'a>(from: &mut Reader<'a>) -> Result<Body<'a>, WireError>
     Ok(Body::Report { proposal, report })
 }
 
+#[tactic(auto, unfolding(crate::specs::Packets::installed_at))]
+fn installed_at<'a>(from: &mut Reader<'a>) -> Result<Body<'a>, WireError>
+    ensures { IsRead (λ x. (x, from.new)) result (installed_at from.old) }
+{
+    let install = install_at(from)?;
+    Ok(Body::Install(install))
+}
+
+#[tactic(auto, unfolding(crate::specs::Packets::merge_at))]
+fn merge_at<'a>(from: &mut Reader<'a>) -> Result<Body<'a>, WireError>
+    ensures { IsRead (λ x. (x, from.new)) result (merge_at from.old) }
+{
+    let view = view_at(from)?;
+    Ok(Body::Merge(view))
+}
+
 #[tactic(auto, unfolding(crate::specs::Packets::sent_state_at))]
 fn sent_state_at<'a>(from: &mut Reader<'a>) -> Result<Body<'a>, WireError>
     ensures { IsRead (λ x. (x, from.new)) result (sent_state_at from.old) }
@@ -98,24 +130,24 @@ fn sent_state_at<'a>(from: &mut Reader<'a>) -> Result<Body<'a>, WireError>
     Ok(Body::State { proposal, chunk })
 }
 
-#[tactic(auto, unfolding(crate::specs::Packets::body_at, crate::specs::Packets::redirect_at, crate::specs::Packets::flush_at, crate::specs::Packets::installed_at, crate::specs::Packets::merge_at))]
+#[tactic(auto, unfolding(crate::specs::Packets::body_at))]
 fn body_at<'a>(kind: u8, from: &mut Reader<'a>) -> Result<Body<'a>, WireError>
     ensures { IsRead (λ x. (x, from.new)) result (body_at kind from.old) }
 {
     match kind {
         1 => Ok(Body::Join),
-        2 => Ok(Body::Redirect(from.address()?)),
+        2 => redirect_at(from),
         3 => Ok(Body::Leave),
         4 => forward_at(from),
         5 => order_at(from),
         6 => nak_at(from),
         7 => ack_at(from),
         8 => status_at(from),
-        9 => Ok(Body::Flush(view_at(from)?)),
+        9 => flush_at(from),
         10 => behind_at(from),
         11 => reported_at(from),
-        12 => Ok(Body::Install(install_at(from)?)),
-        13 => Ok(Body::Merge(view_at(from)?)),
+        12 => installed_at(from),
+        13 => merge_at(from),
         14 => sent_state_at(from),
         _ => Err(WireError::Kind),
     }
