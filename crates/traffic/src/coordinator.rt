@@ -3,6 +3,7 @@ ghost use Rattle.sequencer.specs.Queues.{idle};
 ghost use Rattle.stability.specs.Counts.{unheard};
 ghost use Rattle.traffic.specs.ViewStates.{fresh_coordinator};
 
+use crate::follower::no_messages;
 use nak_stream::Window;
 use sequencer::{Forwards, Orderer};
 use stability::Acks;
@@ -31,17 +32,28 @@ impl Drop for Coordinator {
     }
 }
 
+// What was acknowledged in a new view, and what waits to be ordered there: nothing.
+fn nothing_heard(alloc: Global, view: &View) -> Result<(Acks, Orderer), AllocError>
+    ensures { IfOk result (λ h. h ≡ (map unheard view.now.members, record { ordered = 0; queues = map idle view.now.members })) }
+{
+    let acks = Acks::new(alloc, view)?;
+    let orderer = Orderer::new(alloc, view)?;
+    Ok((acks, orderer))
+}
+
 impl Coordinator {
     /// In a new view: nothing was sent, ordered or acknowledged. An error comes for want of memory.
     pub fn fresh(alloc: Global, view: View) -> Result<Coordinator, AllocError>
         ensures { IfOk result (λ m. m ≡ fresh_coordinator view) }
     {
+        let (window, forwards) = no_messages(alloc)?;
+        let (acks, orderer) = nothing_heard(alloc, &view)?;
         Ok(Coordinator {
-            window: Window::new(alloc)?,
-            forwards: Forwards::new(alloc)?,
-            acks: Acks::new(alloc, &view)?,
-            orderer: Orderer::new(alloc, &view)?,
             view,
+            window,
+            forwards,
+            acks,
+            orderer,
         })
     }
 }

@@ -36,6 +36,15 @@ pub fn deliver<R: Receiver>(
     who.record(Event::Delivered(delivery), out)
 }
 
+// An own message that is delivered is outstanding no longer.
+fn note_delivered(who: &Identity, entry: &Entry, forwards: &mut Forwards)
+    ensures { forwards.new ≡ after_delivery who.now.address entry.now forwards.old }
+{
+    if entry.sender == who.address {
+        forwards.oldest_delivered();
+    }
+}
+
 /// Delivers a message that is kept, whose payload the event shares. An own one is outstanding no longer.
 pub(crate) fn deliver_kept<R: Receiver>(
     who: &Identity,
@@ -55,8 +64,6 @@ pub(crate) fn deliver_kept<R: Receiver>(
         payload: entry.payload.bytes(who.alloc)?,
     };
     deliver(who, view, message, receiver, out)?;
-    if entry.sender == who.address {
-        forwards.oldest_delivered();
-    }
+    note_delivered(who, entry, forwards);
     Ok(())
 }

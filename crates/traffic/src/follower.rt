@@ -25,15 +25,25 @@ impl Drop for Follower {
     }
 }
 
+// The messages of a new view, and a member's own that are outstanding there: none.
+pub(crate) fn no_messages(alloc: Global) -> Result<(Window, Forwards), AllocError>
+    ensures { IfOk result (λ m. m ≡ (empty_window, no_forwards)) }
+{
+    let window = Window::new(alloc)?;
+    let forwards = Forwards::new(alloc)?;
+    Ok((window, forwards))
+}
+
 impl Follower {
     /// In a new view: nothing was sent, and nothing came. An error comes for want of memory.
     pub fn fresh(alloc: Global, view: View) -> Result<Follower, AllocError>
         ensures { IfOk result (λ m. m ≡ fresh_follower view) }
     {
+        let (window, forwards) = no_messages(alloc)?;
         Ok(Follower {
-            window: Window::new(alloc)?,
-            forwards: Forwards::new(alloc)?,
             view,
+            window,
+            forwards,
         })
     }
 }

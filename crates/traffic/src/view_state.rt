@@ -32,6 +32,17 @@ impl Drop for ViewState {
     }
 }
 
+fn put_placed(number: u64, entry: &Entry, out: &mut Vec<u8>) -> Result<(), AllocError>
+    requires { IsNumber number }
+    ensures bytes { OnOk result (out.new.items ≡ out.old.items ++ placed_bytes (number, entry.now)) }
+    ensures placed { OnOk result (IsPlaced (number, entry.now)) }
+{
+    let Some(place) = Number::new(number) else {
+        unreachable!();
+    };
+    put_entry(Some(place), &entry.lent(), out)
+}
+
 fn put_window(window: &Window, out: &mut Vec<u8>) -> Result<(), AllocError>
     ensures bytes { OnOk result (out.new.items ≡ out.old.items ++ flat_map placed_bytes window.now.held) }
     ensures placed { OnOk result (AllByRecursion IsPlaced window.now.held) }
@@ -41,10 +52,7 @@ fn put_window(window: &Window, out: &mut Vec<u8>) -> Result<(), AllocError>
     for slot in window.slots() {
         number += 1;
         if let Some(entry) = slot {
-            let Some(place) = Number::new(number) else {
-                unreachable!();
-            };
-            put_entry(Some(place), &entry.lent(), out)?;
+            put_placed(number, entry, out)?;
         }
     }
     Ok(())

@@ -1,4 +1,4 @@
-use Rattle.std.proofs.Common.{rules, ◌≡◌, ℕ, List, ◌∷◌, Option, Some, length, sym, ap, ◌∙◌, subst}
+use Rattle.std.proofs.Common.{◌≡◌, ℕ, List, ◌∷◌, Option, Some, length, sym, ap, ◌∙◌, subst}
 use Rattle.address.specs.declared.limits.TheConstants.{WINDOW}
 use Rattle.wire_values.specs.Values.{Entry}
 use Rattle.nak_stream.specs.Rings.{numbered}
@@ -20,4 +20,4 @@ loop-slot-preserved-in-Continue-1 c =
     let at : c.loop-slot.slot-iterator ≡ Some c.in-Some-slot.entry ∷ left = c.in-Some.ensures.steps ∙ ap (λ (o : Option Entry). o ∷ left) c.in-Some-slot.is in
     put-one _ _ c.loop-slot.number c.in-Some-slot.entry left c.loop-slot.out.items _
     (subst (λ (l : List (Option Entry)). IsPut c.args.out.now.items c.args.window.now.held c.loop-slot.number l c.loop-slot.out.items) at c.loop-slot.invariant)
-    (search rules) (search rules)
+    c.in_ok-put_placed.ensures.placed c.in_ok-put_placed.ensures.bytes
