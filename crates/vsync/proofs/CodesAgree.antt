@@ -7,8 +7,8 @@ use Rattle.udp_net.specs.Errors.{settings_number, bind_number}
 use Rattle.udp_net.specs.declared.error.SettingsError.TheVariants as settings
 use Rattle.udp_net.specs.declared.error.BindError.TheVariants as bind
 use Rattle.commands.specs.Checks.{rule_code}
-use Rattle.vsync_words.specs.Topics.{code_of}
-use Rattle.vsync_words.specs.declared.topic.Topic.TheVariants.{Rule as OfRule, Settings, Socket}
+use Rattle.vsync.specs.Topics.{code_of}
+use Rattle.vsync.specs.declared.topic.Topic.TheVariants.{Rule as OfRule, Settings, Socket}
 
 pub rules : (r : Rule) → rule_code r ≡ code_of (OfRule r)
 rules rule.WellPlaced = refl

@@ -1,2 +1,12 @@
+pub mod Answering
+pub mod Codes
 pub mod CodesAgree
+pub mod EachIsFound
+pub mod Entering
+pub mod Grammars
+pub mod Numbers
+pub mod OnePath
+pub mod PlainWords
 pub mod SettingsOfBytes
+pub mod SeveralPaths
+pub mod TwoPaths

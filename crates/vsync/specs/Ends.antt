@@ -24,10 +24,10 @@ use Rattle.commands.specs.Processes.{ChecksProcesses}
 use Rattle.commands.specs.Draws.{DrawsScript, DrawsTrace}
 use Rattle.endings.specs.declared.status.Status.{Status}
 use Rattle.endings.specs.declared.status.Status.TheVariants.{Done, Memory, Outside, Usage}
-use Rattle.vsync_words.specs.declared.kept_words.Kept.{Kept}
-use Rattle.vsync_words.specs.declared.kept_words.Kept.TheVariants as kept
-use Rattle.vsync_words.specs.declared.text_words.Task.{Task}
-use Rattle.vsync_words.specs.declared.text_words.Task.TheVariants.{World, States, Packets, Settle, Check, Draw, DrawPackets, DrawTrace}
+use Rattle.vsync.specs.declared.kept_words.Kept.{Kept}
+use Rattle.vsync.specs.declared.kept_words.Kept.TheVariants as kept
+use Rattle.vsync.specs.declared.text_words.Task.{Task}
+use Rattle.vsync.specs.declared.text_words.Task.TheVariants.{World, States, Packets, Settle, Check, Draw, DrawPackets, DrawTrace}
 
 -- the task is done, from a reader with these bytes left to a writer: a script is run; or it is run and the states, or the packets, are
 -- printed; or a trace is checked; or a picture is drawn of a script's run, or of a trace. Its members keep what has this meaning, these words and this line

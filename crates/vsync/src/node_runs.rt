@@ -8,6 +8,7 @@ use crate::output::Output;
 use crate::programs::{complain, mistaken, say, without_memory};
 use crate::udp_programs::ended;
 use crate::watched::Watched;
+use crate::{Kept, MemberOptions};
 use address::Address;
 use application::Application;
 use chat_log::{ChatLog, LongChat};
@@ -23,7 +24,6 @@ use std::time::Duration;
 use std::{io, thread};
 use udp_net::{Hosts, Settings};
 use udp_runs::{LineTrouble, Lines, Loopback, MemberPlan, NodeManner, Tally, run_member};
-use vsync_words::{Kept, MemberOptions};
 
 // How long a tick takes where it is not given, in milliseconds.
 const TICK: u16 = 20;

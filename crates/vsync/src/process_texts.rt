@@ -2,11 +2,12 @@
 
 ghost use Rattle.std.specs.Prelude.{◌≡◌, true, IfErr};
 ghost use Rattle.commands.specs.Processes.{texts_of};
-ghost use Rattle.vsync_words.specs.Kept.{flags_keep_two};
+ghost use Rattle.vsync.specs.Kept.{flags_keep_two};
 ghost use Rattle.vsync.specs.Ends.{DoesProcesses, EndsBy};
 
 use crate::output::Output;
 use crate::programs::{MAP_AND_LOCKS, bytes_at, bytes_of, complain, mistaken, without_memory};
+use crate::{Kept, ProcessesWords};
 use chat_log::{ChatLog, LongChat};
 use commands::run_check_processes;
 use endings::Status;
@@ -14,7 +15,6 @@ use lock_table::LockTable;
 use replicated_map::ReplicatedMap;
 use std::alloc::Global;
 use std::io::{self, Write};
-use vsync_words::{Kept, ProcessesWords};
 
 /// Checks texts, to a writer, whose members keep this.
 fn check_texts<W: Write>(alloc: Global, kept: Kept, texts: &[Vec<u8>], writer: &mut W) -> Status

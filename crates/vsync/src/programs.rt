@@ -1,13 +1,14 @@
 ghost use Rattle.std.specs.Prelude.{◌≡◌, ◌≢◌, ◌⊎◌, ◌<◌, [], true, length, map, string_bytes, IfErr, IfSome, MatchResult};
 ghost use Rattle.clap.specs.Words.{kind_of};
 ghost use Rattle.vsync.specs.Ends.{DoesBy, DoesWith, EndsBy, EndsByFault};
-ghost use Rattle.vsync_words.specs.Kept.{flags_keep, flags_keep_two};
-ghost use Rattle.vsync_words.specs.Words.{faults_of};
+ghost use Rattle.vsync.specs.Kept.{flags_keep, flags_keep_two};
+ghost use Rattle.vsync.specs.Words.{faults_of};
 
 use crate::explaining::explain_code;
 use crate::output::Output;
 use crate::process_texts::check_processes;
 use crate::udp_programs::{member, udp};
+use crate::{Invocation, Kept, Task, TextCommand, command};
 use application::Application;
 use chat_log::{ChatLog, LongChat};
 use clap::Error;
@@ -21,7 +22,6 @@ use replicated_map::ReplicatedMap;
 use std::alloc::Global;
 use std::io::{Read, Write};
 use std::{env, fs, io};
-use vsync_words::{Invocation, Kept, Task, TextCommand, command};
 
 /// Says something on the standard error.
 pub(crate) fn say(rt: &HostRuntime, what: &str) {

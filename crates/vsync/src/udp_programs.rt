@@ -1,9 +1,9 @@
 //! The commands for members over datagrams, on files and sockets.
 
 ghost use Rattle.std.specs.Prelude.{◌≡◌, ◌⊎◌, Err, IfErr, true};
-ghost use Rattle.vsync_words.specs.declared.udp_words.MemberMistake.{MemberMistake};
+ghost use Rattle.vsync.specs.declared.udp_words.MemberMistake.{MemberMistake};
 ghost use Rattle.vsync.specs.Ends.{EndsBy};
-ghost use Rattle.vsync_words.specs.Plans.{contact_of, keeps_two, payload_of, text_of};
+ghost use Rattle.vsync.specs.Plans.{contact_of, keeps_two, payload_of, text_of};
 ghost use Rattle.vsync.specs.Settings.{EndsWithout, GivesSettings};
 
 use crate::hosts::{PeersError, peers_in};
@@ -12,6 +12,7 @@ use crate::node_runs::{NodeRun, run_from};
 use crate::output::Output;
 use crate::programs::{bytes_at, failed, mistaken, outside, say, without_memory};
 use crate::said::Appended;
+use crate::{MemberOptions, MemberWords, UdpWords};
 use address::{Address, Node};
 use chat_log::ChatLog;
 use endings::Status;
@@ -19,7 +20,6 @@ use std::io::Read;
 use std::{fs, io};
 use udp_net::{BindError, Hosts, Settings, SettingsError, settings};
 use udp_runs::{Loopback, MemberPlan, NoLines, run_udp};
-use vsync_words::{MemberOptions, MemberWords, UdpWords};
 
 /// Says that the input is refused as a whole.
 pub(crate) fn refuse(rt: &HostRuntime, number: u8) -> Status

@@ -1,5 +1,5 @@
 use Rattle.std.proofs.Common.{◌≡◌, ◌∙◌, sym, None, Some}
-use Rattle.vsync_words.specs.declared.topic.Topic.TheVariants.{Rule as OfRule}
+use Rattle.vsync.specs.declared.topic.Topic.TheVariants.{Rule as OfRule}
 use Rattle.vsync.proofs.CodesAgree.{rules}
 use Rattle.vsync.proofs.explaining.explain_code.Goals as goal
 

@@ -1,5 +1,0 @@
-use Rattle.std.proofs.Common.{refl}
-use Rattle.vsync_words.proofs.check_words.processes_command.Goals as goal
-
-pub returns : goal.returns
-returns c = λ stand. (refl, stand, record { paths = c.in-Ok.ensures; flags = c.kept_flags-flags.ensures })

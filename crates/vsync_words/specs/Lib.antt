@@ -1,5 +1,0 @@
-pub mod Grammar
-pub mod Plans
-pub mod Words
-pub mod Kept
-pub mod Topics
