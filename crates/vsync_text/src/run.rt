@@ -1,11 +1,12 @@
-ghost use Rattle.std.specs.Prelude.{◌≡◌, [], map};
-ghost use Rattle.vsync_text.specs.TraceText.{line_of};
-ghost use Rattle.vsync_text.specs.Runs.{stretch, refused_lines, answer_lines, reply_lines, lines_of_run};
-ghost use Rattle.vsync_text.specs.Writing.{Writes, Prints};
+ghost use Rattle.std.specs.Prelude.{◌≡◌, ◌++◌, [], true, false, IfOk, OnOk, OnErr};
+ghost use Rattle.std.specs.List.{concat};
+ghost use Rattle.vsync_text.specs.Runs.{answer_lines, lines_of_run};
+ghost use Rattle.vsync_text.specs.Writing.{lines_left, Advances, Prints};
 
-use crate::buffered::{PIECE, Unwritten, settle, write_event, write_refusal};
+use crate::buffered::{PIECE, settle};
+use crate::{append_event, append_refusal};
 use address::limits::Refusal;
-use std::alloc::Global;
+use std::alloc::{AllocError, Global};
 use std::io::Write;
 use trace_props::Event;
 use world_model::{Answer, Reply};
@@ -21,137 +22,89 @@ pub enum Printed {
     Failed,
 }
 
-/// The events from one place up to another, as far as there are any.
-fn stretch(from: usize, to: usize, events: &[Event]) -> &[Event]
-    ensures { result.now ≡ stretch from to events.now }
-{
-    if from >= to || events.len() <= from {
-        let (none, _) = events.split_at(0);
-        return none;
-    }
-    let (_, rest) = events.split_at(from);
-    let count = to - from;
-    if rest.len() <= count {
-        return rest;
-    }
-    let (these, _) = rest.split_at(count);
-    these
-}
-
-/// Writes the lines of events.
-fn write_events<W: Write>(
-    writer: &mut W,
-    buffer: &mut Vec<u8>,
-    events: &[Event],
-) -> Result<(), Unwritten>
-    ensures { Writes (W.contents writer.old) (W.contents writer.new) buffer.old.items buffer.new.items result (map line_of events.now) }
-{
-    let mut rest = events;
-    while let Some((event, later)) = rest.split_first() {
-        if let Err(why) = write_event(writer, buffer, event) {
-            return Err(why);
-        }
-        rest = later;
-    }
-    Ok(())
-}
-
-/// Writes the refusal of the event of a line, unless it is that memory was refused.
-fn write_refused<W: Write>(
-    writer: &mut W,
-    buffer: &mut Vec<u8>,
-    line: u64,
-    refusal: Refusal,
-) -> Result<(), Unwritten>
-    ensures { Writes (W.contents writer.old) (W.contents writer.new) buffer.old.items buffer.new.items result (refused_lines line refusal) }
-{
-    let number = refusal.number();
-    if number == Refusal::Memory.number() {
-        return Ok(());
-    }
-    write_refusal(writer, buffer, line, number)
-}
-
-/// Writes what stands at the place of a reply to the event of a line.
-fn write_answer<W: Write>(
-    writer: &mut W,
-    buffer: &mut Vec<u8>,
-    line: u64,
-    answer: Answer,
-) -> Result<(), Unwritten>
-    ensures { Writes (W.contents writer.old) (W.contents writer.new) buffer.old.items buffer.new.items result (answer_lines line answer) }
+/// Appends what stands at the place of a reply to the event of a line: its refusal, unless it is that memory was refused.
+fn append_answer(out: &mut Vec<u8>, line: u64, answer: Answer) -> Result<(), AllocError>
+    ensures text { OnOk result (out.new.items ≡ out.old.items ++ concat (answer_lines line answer)) }
+    ensures err { OnErr result (out.new.items ≡ out.old.items) }
 {
     match answer {
         Answer::Done => Ok(()),
         Answer::Sent(_) => Ok(()),
-        Answer::Refused(refusal) => write_refused(writer, buffer, line, refusal),
-    }
-}
-
-/// Writes what happened up to a reply, and its refusal.
-#[tactic(auto, using(crate::proofs::LinesWritten::writes_then, crate::proofs::LinesWritten::writes_stops))]
-fn write_reply<W: Write>(
-    writer: &mut W,
-    buffer: &mut Vec<u8>,
-    from: usize,
-    line: u64,
-    reply: &Reply,
-    events: &[Event],
-) -> Result<(), Unwritten>
-    ensures { Writes (W.contents writer.old) (W.contents writer.new) buffer.old.items buffer.new.items result (reply_lines from line reply.now events.now) }
-{
-    if let Err(why) = write_events(writer, buffer, stretch(from, reply.place, events)) {
-        return Err(why);
-    }
-    write_answer(writer, buffer, line, reply.answer)
-}
-
-/// Writes that of all replies.
-fn write_replies<W: Write>(
-    writer: &mut W,
-    buffer: &mut Vec<u8>,
-    lines: &[u64],
-    replies: &[Reply],
-    events: &[Event],
-) -> Result<(), Unwritten>
-    ensures { Writes (W.contents writer.old) (W.contents writer.new) buffer.old.items buffer.new.items result (lines_of_run lines.now replies.now events.now) }
-{
-    let mut from = 0;
-    let mut lines = lines;
-    let mut replies = replies;
-    while let Some((line, later_lines)) = lines.split_first() {
-        let Some((reply, later)) = replies.split_first() else {
-            return Ok(());
-        };
-        if let Err(why) = write_reply(writer, buffer, from, *line, reply, events) {
-            return Err(why);
+        Answer::Refused(refusal) => {
+            let number = refusal.number();
+            if number == Refusal::Memory.number() {
+                return Ok(());
+            }
+            append_refusal(out, line, number)
         }
-        from = reply.place;
-        lines = later_lines;
-        replies = later;
     }
-    Ok(())
 }
 
-/// Writes the text of a run through a buffer that holds nothing yet.
-#[tactic(auto, using(crate::proofs::LinesWritten::all_taken, crate::proofs::LinesWritten::beginning_taken, crate::proofs::LinesWritten::lines_taken, crate::proofs::LinesWritten::text_taken))]
-fn write_through<W: Write>(
-    writer: &mut W,
-    buffer: &mut Vec<u8>,
-    lines: &[u64],
-    replies: &[Reply],
-    events: &[Event],
-) -> Printed
+/// What is left to be written of a run: the events from a place on, and the replies with their lines.
+#[derive(Drop)]
+pub(crate) struct Rest<'a> {
+    from: usize,
+    lines: &'a [u64],
+    replies: &'a [Reply],
+    events: &'a [Event],
+}
+
+impl<'a> Rest<'a> {
+    /// Appends the next of its lines, an event or the answer behind a reply's events. Answers whether there was one. An answer may have no text.
+    fn append_next(&mut self, out: &mut Vec<u8>) -> Result<bool, AllocError>
+        ensures next { IfOk result (λ more. more ≡ true → Advances self.old self.new out.old.items out.new.items) }
+        ensures over { IfOk result (λ more. more ≡ false → lines_left self.old ≡ []) }
+        ensures same { IfOk result (λ more. more ≡ false → out.new.items ≡ out.old.items) }
+        ensures err { OnErr result (out.new.items ≡ out.old.items) }
+    {
+        let Some((line, lines)) = self.lines.split_first() else {
+            return Ok(false);
+        };
+        let Some((reply, replies)) = self.replies.split_first() else {
+            return Ok(false);
+        };
+        let place = reply.place;
+        if (self.from < place) & (self.from < self.events.len()) {
+            append_event(out, &self.events[self.from])?;
+            self.from += 1;
+            return Ok(true);
+        }
+        append_answer(out, *line, reply.answer)?;
+        self.from = place;
+        self.lines = lines;
+        self.replies = replies;
+        Ok(true)
+    }
+}
+
+/// Writes what is left of a run through a buffer that holds nothing yet.
+fn write_through<W: Write>(writer: &mut W, buffer: &mut Vec<u8>, mut rest: Rest<'_>) -> Printed
     requires empty { buffer.old.items ≡ [] }
-    ensures { Prints (W.contents writer.old) (W.contents writer.new) result (lines_of_run lines.now replies.now events.now) }
+    ensures { Prints (W.contents writer.old) (W.contents writer.new) result (lines_left rest.entry) }
 {
-    match write_replies(writer, buffer, lines, replies, events) {
-        Err(Unwritten::Memory) => Printed::Memory,
-        Err(Unwritten::Failed) => Printed::Failed,
-        Ok(()) => match settle(writer, buffer) {
-            Err(_) => Printed::Failed,
-            Ok(()) => Printed::All,
-        },
+    loop {
+        match rest.append_next(buffer) {
+            Ok(true) => {
+                if buffer.len() < PIECE {
+                    continue;
+                }
+                if !settle(writer, buffer) {
+                    return Printed::Failed;
+                }
+            }
+            Ok(false) => {
+                if settle(writer, buffer) {
+                    return Printed::All;
+                }
+                return Printed::Failed;
+            }
+            Err(_) => {
+                if settle(writer, buffer) {
+                    return Printed::Memory;
+                }
+                return Printed::Failed;
+            }
+        }
     }
 }
 
@@ -174,5 +127,11 @@ pub fn write_run<W: Write>(
     let Ok(mut buffer) = Vec::with_capacity(alloc, 2 * PIECE) else {
         return Printed::Memory;
     };
-    write_through(writer, &mut buffer, lines, replies, events)
+    let rest = Rest {
+        from: 0,
+        lines,
+        replies,
+        events,
+    };
+    write_through(writer, &mut buffer, rest)
 }
