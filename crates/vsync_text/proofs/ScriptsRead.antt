@@ -13,22 +13,6 @@ use Rattle.vsync_text.specs.UdpScript.{udp_script_of, udp_said, numbered}
 use Rattle.vsync_text.specs.Texts.{FaultAt, said_by, and_then}
 use Rattle.vsync_text.proofs.TextsRead.{AddsAll, with_more, going_on, going_on_is, text_is_going_on}
 
-first_is : (b : Bool) (n m : ℕ) (r : Option ℕ) → r ≡ cond b (Some n) None → (b ≡ false → m ≡ n) → MatchOption r (m ≡ n) (λ k. k ≡ n)
-first_is true n m None e h = absurd cc
-first_is true n m (Some k) e h = cc
-first_is false n m None e h = h refl
-first_is false n m (Some k) e h = absurd cc
-
--- where a test first passes, and the length where it never does
-pub until_first : (p : ℕ → Bool) (xs : List ℕ) (r : Option ℕ) → r ≡ position p xs
-    → MatchOption r (length xs ≡ position_or_len p xs) (λ k. k ≡ position_or_len p xs)
-until_first p xs r e =
-    first_is (nat_lt (position_or_len p xs) (length xs)) (position_or_len p xs) (length xs) r e
-    (λ f. omega (arith, prefix_len-le-length (λ x. not (p x)) xs, ltb-false _ _ f))
-
-pub nowhere : (p : ℕ → Bool) (xs : List ℕ) → None ≡ position p xs → length xs ≡ position_or_len p xs
-nowhere p xs e = until_first p xs None e
-
 value_grows : (n : ℕ) (digits : List ℕ) → n ≤ value_after n digits
 value_grows n [] = omega arith
 value_grows n (d ∷ ds) = omega (arith, value_grows (10 * n + (d - 48)) ds)

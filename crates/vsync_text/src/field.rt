@@ -1,10 +1,10 @@
-ghost use Rattle.std.specs.Prelude.{◌≡◌, ◌<◌, ◌≤◌, ◌∷◌, None, Some, length, nat_eq, nat_le, position, MatchResult, if◌then◌else◌};
+ghost use Rattle.std.specs.Prelude.{◌≡◌, ◌<◌, ◌≤◌, ◌∷◌, ◌++◌, ℕ, List, None, Some, length, nat_eq, nat_le, IfSome, MatchResult, if◌then◌else◌};
 ghost use Rattle.std.specs.List.{list_all, position_or_len};
 ghost use Rattle.std.specs.Char.{is_ascii_digit};
 ghost use Rattle.std.specs.Option.{option_copied};
 ghost use Rattle.std.specs.Str.{bytes_eq};
 ghost use Rattle.vsync_text.specs.Lines.{lines_of, before_byte, behind_byte, field_of, behind_field};
-ghost use Rattle.vsync_text.specs.Numbers.{is_plain, has_plain_front, value_of, number_in};
+ghost use Rattle.vsync_text.specs.Numbers.{is_plain, value_of, number_in};
 ghost use Rattle.vsync_text.specs.AddressText.{address_of_text};
 ghost use Rattle.vsync_text.specs.Fields.{node_field, packet_field, address_field};
 ghost use Rattle.vsync_text.specs.UdpScript.{rounds_field};
@@ -13,6 +13,7 @@ use crate::Fault;
 use crate::udp_script::ROUNDS;
 use address::limits::{GREATEST_INCARNATION, GREATEST_NODE, GREATEST_NUMBER};
 use address::{Address, Node};
+use memchr::memchr;
 
 /// Whether a text is this word.
 pub fn is_word(text: &[u8], word: &[u8]) -> bool
@@ -21,20 +22,12 @@ pub fn is_word(text: &[u8], word: &[u8]) -> bool
     text == word
 }
 
-/// The index of the first byte of a text that is `byte`.
-fn index_of(byte: u8, text: &[u8]) -> Option<usize>
-    ensures { result ≡ position (λ b. nat_eq b byte) text.now }
-{
-    text.iter().position(|b| *b == byte)
-}
-
-/// How many bytes stand before the first that is `byte`: all of them where none is.
-#[tactic(auto, using(crate::proofs::ScriptsRead::until_first, crate::proofs::ScriptsRead::nowhere))]
+/// How many bytes stand before the first that is `byte`: all of them where none is. It is looked for many bytes at a time.
 fn length_until(byte: u8, text: &[u8]) -> usize
     ensures value { result ≡ position_or_len (λ b. nat_eq b byte) text.now }
     ensures within { result ≤ length text.now }
 {
-    match index_of(byte, text) {
+    match memchr(byte, text) {
         None => text.len(),
         Some(end) => end,
     }
@@ -52,6 +45,18 @@ pub fn first_line(text: &[u8]) -> (&[u8], &[u8])
     match rest.split_first() {
         None => (line, rest),
         Some((_, behind)) => (line, behind),
+    }
+}
+
+/// The first line of a text, without its line feed, and what stands behind that; `None` where no line ends in the text.
+pub(crate) fn whole_line_in_front(text: &[u8]) -> Option<(&[u8], &[u8])>
+    ensures lines { IfSome result (λ r. (more : List ℕ) → lines_of (text.now ++ more) ≡ r.0.now ∷ lines_of (r.1.now ++ more)) }
+    ensures shorter { IfSome result (λ r. length r.1.now < length text.now) }
+{
+    let (line, rest) = text.split_at(length_until(b'\n', text));
+    match rest.split_first() {
+        None => None,
+        Some((_, behind)) => Some((line, behind)),
     }
 }
 
@@ -76,25 +81,25 @@ pub fn first_field(text: &[u8]) -> (&[u8], Option<&[u8]>)
     split_at_first(b' ', text)
 }
 
+/// Whether each byte of a field is a decimal digit.
+fn are_digits(field: &[u8]) -> bool
+    ensures { result ≡ list_all is_ascii_digit field.now }
+{
+    for byte in field {
+        if !byte.is_ascii_digit() {
+            return false;
+        }
+    }
+    true
+}
+
 /// Whether a field has decimal digits alone, without leading zeros.
 fn is_plain(field: &[u8]) -> bool
     ensures { result ≡ is_plain field.now }
 {
-    has_plain_front(field) && are_digits(field)
-}
-
-fn are_digits(field: &[u8]) -> bool
-    ensures { result ≡ list_all is_ascii_digit field.now }
-{
-    field.iter().all(|b| b.is_ascii_digit())
-}
-
-fn has_plain_front(field: &[u8]) -> bool
-    ensures { result ≡ has_plain_front field.now }
-{
     match field.split_first() {
         None => false,
-        Some((first, rest)) => rest.is_empty() || *first != b'0',
+        Some((first, rest)) => (rest.is_empty() | (*first != b'0')) & are_digits(field),
     }
 }
 

@@ -11,7 +11,6 @@ mod fronts;
 mod hexadecimal;
 mod law;
 mod line_fields;
-mod lines;
 mod member_plan;
 mod packet_lines;
 mod part;

@@ -6,9 +6,9 @@ ghost use Rattle.vsync_text.specs.Texts.{reading_by, HasRead, IsUnread};
 ghost use Rattle.vsync_text.specs.Traces.{said_in_line, with_said, trace_of};
 ghost use Rattle.vsync_text.specs.Pieces.{text_from};
 
-use crate::lines::{line_in_front, whole_line_in_front};
+use crate::field::whole_line_in_front;
 use crate::read_line::said_in_line;
-use crate::{Unread, is_skipped};
+use crate::{Unread, first_line, is_skipped};
 use std::alloc::{AllocError, Global};
 use trace_props::{Event, Trace};
 
@@ -52,7 +52,7 @@ pub(crate) fn read_lines(
     let mut rest = text;
     let mut number = before;
     while !rest.is_empty() {
-        let (line, behind) = line_in_front(rest);
+        let (line, behind) = first_line(rest);
         let Some(next) = number.checked_add(1) else {
             return Err(Unread::Memory);
         };
