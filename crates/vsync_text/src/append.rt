@@ -1,11 +1,11 @@
 //! Texts of ids, payloads and lists, appended to a buffer. Each comes behind one byte that separates it from what stands before.
 //! Where memory is refused, a part may have been appended.
 
-ghost use Rattle.std.specs.Prelude.{◌≡◌, ◌<◌, ◌++◌, ◌∷◌, flat_map, OnOk};
+ghost use Rattle.std.specs.Prelude.{◌≡◌, ◌<◌, ◌++◌, ◌∷◌, OnOk};
 ghost use Rattle.std.specs.Option.{option_copied};
 ghost use Rattle.std.specs.Fmt.{decimal};
 ghost use Rattle.address.specs.Ids.{text_of_address, text_of_view_id};
-ghost use Rattle.vsync_text.specs.TraceText.{GoesOnFrom, hex_digit, hex_of, text_of_payload, text_of_previous, text_of_addresses, text_of_numbered, text_of_handed_back, text_of_given};
+ghost use Rattle.vsync_text.specs.TraceText.{GoesOnFrom, hex_digit, hex_of, text_of_payload, text_of_addresses, text_of_handed_back, text_of_given};
 
 use address::{Address, Bytes, ViewId};
 use itoa::Buffer;
@@ -59,22 +59,6 @@ pub fn put_view_id(out: &mut Vec<u8>, before: u8, view: &ViewId) -> Result<(), A
 {
     put_number(out, before, view.counter())?;
     put_address(out, b'@', &view.creator())
-}
-
-/// Appends the view id, or `-`.
-#[tactic(auto, using(crate::proofs::KeepFront::goes_on))]
-pub(crate) fn put_previous(
-    out: &mut Vec<u8>,
-    before: u8,
-    view: Option<&ViewId>,
-) -> Result<(), AllocError>
-    ensures text { OnOk result (out.new.items ≡ out.old.items ++ before ∷ text_of_previous (option_copied view.entry)) }
-    ensures kept { GoesOnFrom out.old.items out.new.items }
-{
-    match view {
-        None => put(out, &[before, b'-']),
-        Some(view) => put_view_id(out, before, view),
-    }
 }
 
 /// The digit of a number below 16.
@@ -146,57 +130,23 @@ pub(crate) fn put_given(
     }
 }
 
-/// Appends addresses, each behind a comma.
-#[tactic(auto, using(crate::proofs::KeepFront::goes_on, crate::proofs::KeepFront::stays))]
-fn put_more_addresses(out: &mut Vec<u8>, members: &[Address]) -> Result<(), AllocError>
-    ensures text { OnOk result (out.new.items ≡ out.old.items ++ flat_map (λ p. 44 ∷ text_of_address p) members.now) }
-    ensures kept { GoesOnFrom out.old.items out.new.items }
-{
-    for member in members {
-        put_address(out, b',', member)?;
-    }
-    Ok(())
-}
-
 /// Appends addresses behind one byte, joined by commas. Where memory is refused, what stood before is kept, and a part may have been appended.
-#[tactic(auto, using(crate::proofs::KeepFront::goes_on))]
 pub fn put_addresses(out: &mut Vec<u8>, before: u8, members: &[Address]) -> Result<(), AllocError>
     ensures text { OnOk result (out.new.items ≡ out.old.items ++ before ∷ text_of_addresses members.now) }
     ensures kept { GoesOnFrom out.old.items out.new.items }
 {
-    match members.split_first() {
-        None => put(out, &[before]),
-        Some((first, more)) => {
-            put_address(out, before, first)?;
-            put_more_addresses(out, more)
-        }
+    if members.is_empty() {
+        return put(out, &[before]);
     }
-}
-
-/// Appends a message that was handed back: its number and its payload.
-#[tactic(auto, using(crate::proofs::KeepFront::goes_on))]
-fn put_numbered(out: &mut Vec<u8>, before: u8, message: &Numbered) -> Result<(), AllocError>
-    ensures text { OnOk result (out.new.items ≡ out.old.items ++ before ∷ text_of_numbered message.now) }
-    ensures kept { GoesOnFrom out.old.items out.new.items }
-{
-    put_number(out, before, message.number)?;
-    put_hex_behind(out, b':', message.payload.as_slice())
-}
-
-/// Appends messages, each behind a comma.
-#[tactic(auto, using(crate::proofs::KeepFront::goes_on, crate::proofs::KeepFront::stays))]
-fn put_more_numbered(out: &mut Vec<u8>, messages: &[Numbered]) -> Result<(), AllocError>
-    ensures text { OnOk result (out.new.items ≡ out.old.items ++ flat_map (λ m. 44 ∷ text_of_numbered m) messages.now) }
-    ensures kept { GoesOnFrom out.old.items out.new.items }
-{
-    for message in messages {
-        put_numbered(out, b',', message)?;
+    let mut mark = before;
+    for member in members {
+        put_address(out, mark, member)?;
+        mark = b',';
     }
     Ok(())
 }
 
 /// Appends messages that were handed back, joined by commas, `-` for none.
-#[tactic(auto, using(crate::proofs::KeepFront::goes_on))]
 pub(crate) fn put_handed_back(
     out: &mut Vec<u8>,
     before: u8,
@@ -205,11 +155,14 @@ pub(crate) fn put_handed_back(
     ensures text { OnOk result (out.new.items ≡ out.old.items ++ before ∷ text_of_handed_back messages.now) }
     ensures kept { GoesOnFrom out.old.items out.new.items }
 {
-    match messages.split_first() {
-        None => put(out, &[before, b'-']),
-        Some((first, more)) => {
-            put_numbered(out, before, first)?;
-            put_more_numbered(out, more)
-        }
+    if messages.is_empty() {
+        return put(out, &[before, b'-']);
     }
+    let mut mark = before;
+    for message in messages {
+        put_number(out, mark, message.number)?;
+        put_hex_behind(out, b':', message.payload.as_slice())?;
+        mark = b',';
+    }
+    Ok(())
 }

@@ -1,17 +1,18 @@
 //! The lines of packets as text (docs/FORMATS.md, "The packets' lines").
 
-ghost use Rattle.std.specs.Prelude.{◌≡◌, ◌++◌, ◌∷◌, [], ℕ, Ok, take, IfOk, OnOk, OnErr};
+ghost use Rattle.std.specs.Prelude.{◌≡◌, ◌++◌, ℕ, take, IfOk, OnOk, OnErr};
 ghost use Rattle.std.specs.List.{concat};
+ghost use Rattle.std.specs.Fmt.{decimal};
 ghost use Rattle.wire.specs.Packets.{packet_of};
-ghost use Rattle.vsync_text.specs.TraceText.{GoesOnFrom, field, hex_of};
+ghost use Rattle.vsync_text.specs.TraceText.{GoesOnFrom};
 ghost use Rattle.vsync_text.specs.PacketText.{kind_name, kind_in, packet_fields, packet_line, packet_lines};
 
 use crate::append::put_hex_behind;
-use crate::{Part, put, put_decimal, put_parts};
+use crate::{Part, put, put_parts};
 use address::Bytes;
 use std::alloc::AllocError;
 use wire::decode;
-use wire_values::{Body, Packet};
+use wire_values::Body;
 
 /// The name of what a packet says.
 fn kind_name(body: &Body<'_>) -> &'static [u8]
@@ -35,50 +36,32 @@ fn kind_name(body: &Body<'_>) -> &'static [u8]
     }
 }
 
-/// Appends what a packet says, by its name, who sent it and to whom, each behind a space.
-fn put_named(out: &mut Vec<u8>, kind: &[u8], packet: &Packet<'_>) -> Result<(), AllocError>
-    requires kind { kind.now ≡ kind_name packet.now.body }
-    ensures text { OnOk result (out.new.items ≡ out.old.items ++ packet_fields (Ok packet.now)) }
-    ensures kept { GoesOnFrom out.old.items out.new.items }
-{
-    let parts = [
-        Part::Text(b" "),
-        Part::Text(kind),
-        Part::Text(b" "),
-        Part::Address(packet.source),
-        Part::Text(b" "),
-        Part::Address(packet.destination),
-    ];
-    put_parts(out, &parts)
-}
-
-/// Appends what bytes say as a packet, who sent it and to whom, `-` for each where they spell none. Answers the first of these.
-fn put_fields(out: &mut Vec<u8>, bytes: &[u8]) -> Result<&'static [u8], AllocError>
-    ensures text { OnOk result (out.new.items ≡ out.old.items ++ packet_fields (packet_of bytes.now)) }
+/// Appends the number of a packet, and behind it what bytes say as one, who sent it and to whom, `-` for each where they spell none. Answers the first of these.
+fn put_front(out: &mut Vec<u8>, number: u64, bytes: &[u8]) -> Result<&'static [u8], AllocError>
+    ensures text { OnOk result (out.new.items ≡ out.old.items ++ (decimal number ++ packet_fields (packet_of bytes.now))) }
     ensures kind { IfOk result (λ kind. kind.now ≡ kind_in bytes.now) }
     ensures kept { GoesOnFrom out.old.items out.new.items }
 {
     match decode(bytes) {
         Ok(packet) => {
             let kind = kind_name(&packet.body);
-            put_named(out, kind, &packet)?;
+            let parts = [
+                Part::Number(number),
+                Part::Text(b" "),
+                Part::Text(kind),
+                Part::Text(b" "),
+                Part::Address(packet.source),
+                Part::Text(b" "),
+                Part::Address(packet.destination),
+            ];
+            put_parts(out, &parts)?;
             Ok(kind)
         }
         Err(_) => {
-            put(out, b" - - -")?;
+            put_parts(out, &[Part::Number(number), Part::Text(b" - - -")])?;
             Ok(b"-")
         }
     }
-}
-
-/// Appends bytes in hexadecimal behind a space, and a line feed.
-#[tactic(auto, using(crate::proofs::KeepFront::goes_on))]
-fn put_bytes(out: &mut Vec<u8>, bytes: &[u8]) -> Result<(), AllocError>
-    ensures text { OnOk result (out.new.items ≡ out.old.items ++ (field (hex_of bytes.now) ++ 10 ∷ [])) }
-    ensures kept { GoesOnFrom out.old.items out.new.items }
-{
-    put_hex_behind(out, b' ', bytes)?;
-    put(out, b"\n")
 }
 
 /// Appends the line of a packet or a part of it, and answers its kind.
@@ -88,9 +71,9 @@ fn put_packet(out: &mut Vec<u8>, number: u64, bytes: &[u8]) -> Result<&'static [
     ensures kind { IfOk result (λ kind. kind.now ≡ kind_in bytes.now) }
     ensures kept { GoesOnFrom out.old.items out.new.items }
 {
-    put_decimal(out, number)?;
-    let kind = put_fields(out, bytes)?;
-    put_bytes(out, bytes)?;
+    let kind = put_front(out, number, bytes)?;
+    put_hex_behind(out, b' ', bytes)?;
+    put(out, b"\n")?;
     Ok(kind)
 }
 

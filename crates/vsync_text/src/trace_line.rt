@@ -1,37 +1,23 @@
 ghost use Rattle.std.specs.Prelude.{◌≡◌, ◌++◌, OnOk, OnErr};
-ghost use Rattle.std.specs.Fmt.{decimal};
-ghost use Rattle.address.specs.Ids.{text_of_address, text_of_view_id};
-ghost use Rattle.vsync_text.specs.TraceText.{GoesOnFrom, field, text_of_payload, text_of_addresses, sending_fields, delivery_fields, install_view, install_rest, event_word, fields_of, line_of};
+ghost use Rattle.std.specs.Option.{option_copied};
+ghost use Rattle.vsync_text.specs.Parts.{text_of_part};
+ghost use Rattle.vsync_text.specs.TraceText.{GoesOnFrom, text_of_previous, sending_fields, delivery_fields, install_view, install_rest, event_word, fields_of, line_of};
 ghost use Rattle.vsync_text.specs.Runs.{refusal_line};
 
-use crate::append::{
-    put, put_address, put_addresses, put_given, put_handed_back, put_number, put_payload,
-    put_previous, put_view_id,
-};
+use crate::append::{put, put_address, put_addresses, put_given, put_handed_back, put_payload};
 use crate::{Part, put_parts};
-use address::{Address, ViewId};
+use address::ViewId;
 use std::alloc::AllocError;
 use trace_props::{Delivery, Event, Install, Sending};
-use view::View;
 
-/// Appends a member and the view in which it is.
-#[tactic(auto, using(crate::proofs::KeepFront::goes_on))]
-fn put_member_view(out: &mut Vec<u8>, member: &Address, view: &ViewId) -> Result<(), AllocError>
-    ensures text { OnOk result (out.new.items ≡ out.old.items ++ (field (text_of_address member.now) ++ field (text_of_view_id view.now))) }
-    ensures kept { GoesOnFrom out.old.items out.new.items }
+/// A view id as a part, or `-`.
+fn previous_part(previous: Option<&ViewId>) -> Part<'static>
+    ensures { text_of_part result ≡ text_of_previous (option_copied previous.entry) }
 {
-    put_address(out, b' ', member)?;
-    put_view_id(out, b' ', view)
-}
-
-/// Appends a message: its number and its payload.
-#[tactic(auto, using(crate::proofs::KeepFront::goes_on))]
-fn put_message(out: &mut Vec<u8>, number: u64, payload: &[u8]) -> Result<(), AllocError>
-    ensures text { OnOk result (out.new.items ≡ out.old.items ++ (field (decimal number) ++ field (text_of_payload payload.now))) }
-    ensures kept { GoesOnFrom out.old.items out.new.items }
-{
-    put_number(out, b' ', number)?;
-    put_payload(out, b' ', payload)
+    match previous {
+        None => Part::Text(b"-"),
+        Some(view) => Part::View(*view),
+    }
 }
 
 #[tactic(auto, using(crate::proofs::KeepFront::goes_on))]
@@ -39,12 +25,16 @@ fn put_sending_fields(out: &mut Vec<u8>, sending: &Sending) -> Result<(), AllocE
     ensures text { OnOk result (out.new.items ≡ out.old.items ++ sending_fields sending.now) }
     ensures kept { GoesOnFrom out.old.items out.new.items }
 {
-    put_member_view(out, &sending.member, &sending.view)?;
-    put_message(
-        out,
-        sending.message.number,
-        sending.message.payload.as_slice(),
-    )
+    let parts = [
+        Part::Text(b" "),
+        Part::Address(sending.member),
+        Part::Text(b" "),
+        Part::View(sending.view),
+        Part::Text(b" "),
+        Part::Number(sending.message.number),
+    ];
+    put_parts(out, &parts)?;
+    put_payload(out, b' ', sending.message.payload.as_slice())
 }
 
 #[tactic(auto, using(crate::proofs::KeepFront::goes_on))]
@@ -52,45 +42,18 @@ fn put_delivery_fields(out: &mut Vec<u8>, delivery: &Delivery) -> Result<(), All
     ensures text { OnOk result (out.new.items ≡ out.old.items ++ delivery_fields delivery.now) }
     ensures kept { GoesOnFrom out.old.items out.new.items }
 {
-    put_member_view(out, &delivery.member, &delivery.view)?;
-    put_address(out, b' ', &delivery.message.sender)?;
-    put_message(
-        out,
-        delivery.message.number,
-        delivery.message.payload.as_slice(),
-    )
-}
-
-/// Appends a view: its id and its members.
-#[tactic(auto, using(crate::proofs::KeepFront::goes_on))]
-fn put_view(out: &mut Vec<u8>, view: &View) -> Result<(), AllocError>
-    ensures text { OnOk result (out.new.items ≡ out.old.items ++ (field (text_of_view_id view.now.id) ++ field (text_of_addresses view.now.members))) }
-    ensures kept { GoesOnFrom out.old.items out.new.items }
-{
-    put_view_id(out, b' ', &view.id())?;
-    put_addresses(out, b' ', view.members().as_slice())
-}
-
-/// Appends which view a member installs, and from which it comes.
-#[tactic(auto, using(crate::proofs::KeepFront::goes_on))]
-fn put_install_view(out: &mut Vec<u8>, install: &Install) -> Result<(), AllocError>
-    ensures text { OnOk result (out.new.items ≡ out.old.items ++ install_view install.now) }
-    ensures kept { GoesOnFrom out.old.items out.new.items }
-{
-    put_address(out, b' ', &install.member)?;
-    put_previous(out, b' ', install.previous.as_ref())?;
-    put_view(out, &install.view)
-}
-
-/// Appends who comes together into a view, what is handed back, and the given state.
-#[tactic(auto, using(crate::proofs::KeepFront::goes_on))]
-fn put_install_rest(out: &mut Vec<u8>, install: &Install) -> Result<(), AllocError>
-    ensures text { OnOk result (out.new.items ≡ out.old.items ++ install_rest install.now) }
-    ensures kept { GoesOnFrom out.old.items out.new.items }
-{
-    put_addresses(out, b' ', install.together.as_slice())?;
-    put_handed_back(out, b' ', install.handed_back.as_slice())?;
-    put_given(out, b' ', install.given.as_ref())
+    let parts = [
+        Part::Text(b" "),
+        Part::Address(delivery.member),
+        Part::Text(b" "),
+        Part::View(delivery.view),
+        Part::Text(b" "),
+        Part::Address(delivery.message.sender),
+        Part::Text(b" "),
+        Part::Number(delivery.message.number),
+    ];
+    put_parts(out, &parts)?;
+    put_payload(out, b' ', delivery.message.payload.as_slice())
 }
 
 #[tactic(auto, using(crate::proofs::KeepFront::goes_on))]
@@ -98,8 +61,19 @@ fn put_install_fields(out: &mut Vec<u8>, install: &Install) -> Result<(), AllocE
     ensures text { OnOk result (out.new.items ≡ out.old.items ++ (install_view install.now ++ install_rest install.now)) }
     ensures kept { GoesOnFrom out.old.items out.new.items }
 {
-    put_install_view(out, install)?;
-    put_install_rest(out, install)
+    let parts = [
+        Part::Text(b" "),
+        Part::Address(install.member),
+        Part::Text(b" "),
+        previous_part(install.previous.as_ref()),
+        Part::Text(b" "),
+        Part::View(install.view.id()),
+    ];
+    put_parts(out, &parts)?;
+    put_addresses(out, b' ', install.view.members().as_slice())?;
+    put_addresses(out, b' ', install.together.as_slice())?;
+    put_handed_back(out, b' ', install.handed_back.as_slice())?;
+    put_given(out, b' ', install.given.as_ref())
 }
 
 /// Appends the fields of an event, each behind a space.
@@ -144,21 +118,6 @@ fn put_event(out: &mut Vec<u8>, event: &Event) -> Result<(), AllocError>
     put(out, b"\n")
 }
 
-/// Appends the refusal of the event of a line or a part of it.
-fn put_refusal(out: &mut Vec<u8>, line: u64, number: u8) -> Result<(), AllocError>
-    ensures text { OnOk result (out.new.items ≡ out.old.items ++ refusal_line line number) }
-    ensures kept { GoesOnFrom out.old.items out.new.items }
-{
-    let parts = [
-        Part::Text(b"# refused "),
-        Part::Number(line),
-        Part::Text(b" "),
-        Part::Number(u64::from(number)),
-        Part::Text(b"\n"),
-    ];
-    put_parts(out, &parts)
-}
-
 /// Appends the line of an event with its line feed, as `sent 1.1 1@1.1 1 6869`.
 ///
 /// # Errors
@@ -185,8 +144,15 @@ pub fn append_refusal(out: &mut Vec<u8>, line: u64, number: u8) -> Result<(), Al
     ensures text { OnOk result (out.new.items ≡ out.old.items ++ refusal_line line number) }
     ensures err { OnErr result (out.new.items ≡ out.old.items) }
 {
+    let parts = [
+        Part::Text(b"# refused "),
+        Part::Number(line),
+        Part::Text(b" "),
+        Part::Number(u64::from(number)),
+        Part::Text(b"\n"),
+    ];
     let before = out.len();
-    let result = put_refusal(out, line, number);
+    let result = put_parts(out, &parts);
     if result.is_err() {
         out.truncate(before);
     }
