@@ -6,12 +6,11 @@ ghost use Rattle.std.specs.Str.{bytes_eq};
 ghost use Rattle.vsync_text.specs.Lines.{lines_of, before_byte, behind_byte, field_of, behind_field};
 ghost use Rattle.vsync_text.specs.Numbers.{is_plain, value_of, number_in};
 ghost use Rattle.vsync_text.specs.AddressText.{address_of_text};
-ghost use Rattle.vsync_text.specs.Fields.{node_field, packet_field, address_field};
-ghost use Rattle.vsync_text.specs.UdpScript.{rounds_field};
+ghost use Rattle.vsync_text.specs.Fields.{spelled_at, last, node_field, address_field};
+ghost use Rattle.vsync_text.specs.Texts.{IsReadUnlessRefused};
 
-use crate::Fault;
-use crate::udp_script::ROUNDS;
-use address::limits::{GREATEST_INCARNATION, GREATEST_NODE, GREATEST_NUMBER};
+use crate::{Fault, Unheard};
+use address::limits::{GREATEST_INCARNATION, GREATEST_NODE};
 use address::{Address, Node};
 use memchr::memchr;
 
@@ -154,37 +153,18 @@ pub(crate) fn node_field(rest: Option<&[u8]>) -> Result<(Node, Option<&[u8]>), F
     }
 }
 
-/// The next field as the number of a packet, and what is left behind it.
-#[tactic(auto, unfolding(crate::specs::Fields::spelled_at, crate::specs::Fields::field_at))]
-pub(crate) fn packet_field(rest: Option<&[u8]>) -> Result<(u64, Option<&[u8]>), Fault>
-    ensures { MatchResult result
-        (λ read. packet_field (option_copied rest.entry) ≡ Ok (read.0, option_copied read.1))
-        (λ f. packet_field (option_copied rest.entry) ≡ Err f) }
+/// The number from `low` to `high` with which a line ends.
+#[tactic(auto, unfolding(crate::specs::Fields::spelled_at, crate::specs::Fields::field_at, crate::specs::Fields::last, crate::specs::Fields::end_at))]
+pub(crate) fn lone_number(low: u64, high: u64, rest: Option<&[u8]>) -> Result<u64, Unheard>
+    ensures { IsReadUnlessRefused (λ x. x) result (last (spelled_at (number_in low high) (option_copied rest.entry))) }
 {
     let Some(text) = rest else {
-        return Err(Fault::MissingField);
+        return Err(Unheard::Fault(Fault::MissingField));
     };
     let (field, rest) = first_field(text);
-    match number_in(1, GREATEST_NUMBER, field) {
-        None => Err(Fault::BadNumber),
-        Some(number) => Ok((number, rest)),
-    }
-}
-
-/// The next field as a number of rounds, and what is left behind it.
-#[tactic(auto, unfolding(crate::specs::Fields::spelled_at, crate::specs::Fields::field_at))]
-pub(crate) fn rounds_field(rest: Option<&[u8]>) -> Result<(u64, Option<&[u8]>), Fault>
-    ensures { MatchResult result
-        (λ read. rounds_field (option_copied rest.entry) ≡ Ok (read.0, option_copied read.1))
-        (λ f. rounds_field (option_copied rest.entry) ≡ Err f) }
-{
-    let Some(text) = rest else {
-        return Err(Fault::MissingField);
-    };
-    let (field, rest) = first_field(text);
-    match number_in(0, ROUNDS, field) {
-        None => Err(Fault::BadNumber),
-        Some(number) => Ok((number, rest)),
+    match number_in(low, high, field) {
+        Some(number) if rest.is_none() => Ok(number),
+        _ => Err(Unheard::Fault(Fault::BadNumber)),
     }
 }
 

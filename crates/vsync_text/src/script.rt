@@ -3,7 +3,7 @@ ghost use Rattle.vsync_text.specs.Script.{script_by, script_of, event_in_line, w
 ghost use Rattle.vsync_text.specs.Texts.{reading_by, HasRead, IsUnread};
 
 use crate::field::first_line;
-use crate::script_line::read_line;
+use crate::script_line::{event_in_line, is_skipped};
 use crate::{AsWritten, Payloads, Unread};
 use std::alloc::{AllocError, Global};
 use std::marker::Model;
@@ -66,10 +66,12 @@ impl Script {
     ) -> Result<(), Unread>
         ensures { HasRead with_event self.old number (reading_by (event_in_line P.payload_of) line.now) result self.new }
     {
-        match read_line::<P>(alloc, line) {
+        if is_skipped(line) {
+            return Ok(());
+        }
+        match event_in_line::<P>(alloc, line) {
             Err(unheard) => Err(unheard.at(number)),
-            Ok(None) => Ok(()),
-            Ok(Some(event)) => match self.add(number, event) {
+            Ok(event) => match self.add(number, event) {
                 Err(_) => Err(Unread::Memory),
                 Ok(()) => Ok(()),
             },

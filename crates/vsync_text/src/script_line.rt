@@ -1,13 +1,12 @@
 ghost use Rattle.std.specs.Prelude.{◌≡◌};
 ghost use Rattle.std.specs.Option.{option_copied};
-ghost use Rattle.world_model.specs.declared.WorldEvent.TheVariants as event;
-ghost use Rattle.vsync_text.specs.Fields.{last, node_field, packet_field, address_field};
-ghost use Rattle.vsync_text.specs.Script.{node_and_address, of_other, payload_in, sent, word_of, event_of, event_in_line};
-ghost use Rattle.vsync_text.specs.Texts.{is_skipped, reading_by, IsReadUnlessRefused};
+ghost use Rattle.vsync_text.specs.Fields.{last, node_field, address_field};
+ghost use Rattle.vsync_text.specs.Script.{node_and_address, payload_in, sent, word_of, event_of, event_in_line};
+ghost use Rattle.vsync_text.specs.Texts.{is_skipped, IsReadUnlessRefused};
 
-use crate::field::{address_field, first_field, node_field, packet_field};
+use crate::field::{address_field, first_field, lone_number, node_field};
 use crate::{Fault, Payloads, Unheard, is_word};
-use address::limits::SCRIPT_LINE;
+use address::limits::{GREATEST_NUMBER, SCRIPT_LINE};
 use address::{Address, Bytes, Node};
 use std::alloc::Global;
 use world_model::WorldEvent;
@@ -67,18 +66,6 @@ fn lone_node(rest: Option<&[u8]>) -> Result<Node, Unheard>
     }
 }
 
-/// The number of a packet, with which a line ends.
-#[tactic(auto, unfolding(crate::specs::Fields::last, crate::specs::Fields::end_at))]
-fn lone_packet(rest: Option<&[u8]>) -> Result<u64, Unheard>
-    ensures { IsReadUnlessRefused (λ x. x) result (last (packet_field (option_copied rest.entry))) }
-{
-    match packet_field(rest) {
-        Ok((number, None)) => Ok(number),
-        Ok(_) => Err(Unheard::Fault(Fault::BadNumber)),
-        Err(fault) => Err(Unheard::Fault(fault)),
-    }
-}
-
 /// The address with which a line ends.
 #[tactic(auto, unfolding(crate::specs::Fields::last, crate::specs::Fields::end_at))]
 fn lone_address(rest: Option<&[u8]>) -> Result<Address, Unheard>
@@ -102,30 +89,6 @@ fn node_and_address(rest: Option<&[u8]>) -> Result<(Node, Address), Unheard>
             Ok((node, address))
         }
     }
-}
-
-/// The event of `join N ADDR`.
-fn asked(rest: Option<&[u8]>) -> Result<WorldEvent, Unheard>
-    ensures { IsReadUnlessRefused (λ x. x) result (of_other event.Join (node_and_address (option_copied rest.entry))) }
-{
-    let (node, contact) = node_and_address(rest)?;
-    Ok(WorldEvent::Join(node, contact))
-}
-
-/// The event of `suspect N ADDR`.
-fn suspected(rest: Option<&[u8]>) -> Result<WorldEvent, Unheard>
-    ensures { IsReadUnlessRefused (λ x. x) result (of_other event.Suspect (node_and_address (option_copied rest.entry))) }
-{
-    let (node, address) = node_and_address(rest)?;
-    Ok(WorldEvent::Suspect(node, address))
-}
-
-/// The event of `hint N ADDR`.
-fn hinted(rest: Option<&[u8]>) -> Result<WorldEvent, Unheard>
-    ensures { IsReadUnlessRefused (λ x. x) result (of_other event.MergeHint (node_and_address (option_copied rest.entry))) }
-{
-    let (node, address) = node_and_address(rest)?;
-    Ok(WorldEvent::MergeHint(node, address))
 }
 
 /// The payload that the rest of a line says.
@@ -162,12 +125,21 @@ pub(crate) fn event_of<P: Payloads>(
     match word {
         Word::Start => Ok(WorldEvent::Start(lone_node(rest)?)),
         Word::Create => Ok(WorldEvent::Create(lone_node(rest)?)),
-        Word::Join => asked(rest),
+        Word::Join => {
+            let (node, contact) = node_and_address(rest)?;
+            Ok(WorldEvent::Join(node, contact))
+        }
         Word::Send => sent::<P>(alloc, rest),
-        Word::Deliver => Ok(WorldEvent::Deliver(lone_packet(rest)?)),
+        Word::Deliver => Ok(WorldEvent::Deliver(lone_number(1, GREATEST_NUMBER, rest)?)),
         Word::Tick => Ok(WorldEvent::Tick(lone_node(rest)?)),
-        Word::Suspect => suspected(rest),
-        Word::Hint => hinted(rest),
+        Word::Suspect => {
+            let (node, address) = node_and_address(rest)?;
+            Ok(WorldEvent::Suspect(node, address))
+        }
+        Word::Hint => {
+            let (node, address) = node_and_address(rest)?;
+            Ok(WorldEvent::MergeHint(node, address))
+        }
         Word::Leave => Ok(WorldEvent::Leave(lone_node(rest)?)),
         Word::Crash => Ok(WorldEvent::Crash(lone_node(rest)?)),
     }
@@ -184,7 +156,7 @@ pub fn is_skipped(line: &[u8]) -> bool
 }
 
 /// The event of a line that is not skipped.
-fn event_in_line<P: Payloads>(alloc: Global, line: &[u8]) -> Result<WorldEvent, Unheard>
+pub(crate) fn event_in_line<P: Payloads>(alloc: Global, line: &[u8]) -> Result<WorldEvent, Unheard>
     ensures { IsReadUnlessRefused (λ x. x) result (event_in_line P.payload_of line.now) }
 {
     if line.len() > SCRIPT_LINE {
@@ -195,17 +167,4 @@ fn event_in_line<P: Payloads>(alloc: Global, line: &[u8]) -> Result<WorldEvent, 
         None => Err(Unheard::Fault(Fault::UnknownWord)),
         Some(word) => event_of::<P>(alloc, word, rest),
     }
-}
-
-/// What a line says: nothing, or an event.
-pub(crate) fn read_line<P: Payloads>(
-    alloc: Global,
-    line: &[u8],
-) -> Result<Option<WorldEvent>, Unheard>
-    ensures { IsReadUnlessRefused (λ x. x) result (reading_by (event_in_line P.payload_of) line.now) }
-{
-    if is_skipped(line) {
-        return Ok(None);
-    }
-    Ok(Some(event_in_line::<P>(alloc, line)?))
 }

@@ -79,72 +79,56 @@ impl Text {
     pub fn push(&mut self, byte: u8)
         ensures { Appends (byte ∷ []) self.old self.new }
     {
-        if self.bytes.push(byte).is_err() {
-            self.is_short = true;
-        }
+        self.is_short |= self.bytes.push(byte).is_err();
     }
 
     /// Appends bytes.
     pub fn put(&mut self, bytes: &[u8])
         ensures { Appends bytes.now self.old self.new }
     {
-        if put(&mut self.bytes, bytes).is_err() {
-            self.is_short = true;
-        }
+        self.is_short |= put(&mut self.bytes, bytes).is_err();
     }
 
     /// Appends bytes by their hexadecimal digits.
     pub fn put_hex(&mut self, bytes: &[u8])
         ensures { Appends (hex_of bytes.now) self.old self.new }
     {
-        if put_hex(&mut self.bytes, bytes).is_err() {
-            self.is_short = true;
-        }
+        self.is_short |= put_hex(&mut self.bytes, bytes).is_err();
     }
 
     /// Appends a number in decimal.
     pub fn put_decimal(&mut self, number: u64)
         ensures { Appends (decimal number) self.old self.new }
     {
-        if put_decimal(&mut self.bytes, number).is_err() {
-            self.is_short = true;
-        }
+        self.is_short |= put_decimal(&mut self.bytes, number).is_err();
     }
 
     /// Appends an address as `3.1`, behind one byte.
     pub fn put_address(&mut self, before: u8, address: &Address)
         ensures { Appends (before ∷ text_of_address address.now) self.old self.new }
     {
-        if put_address(&mut self.bytes, before, address).is_err() {
-            self.is_short = true;
-        }
+        self.is_short |= put_address(&mut self.bytes, before, address).is_err();
     }
 
     /// Appends parts, one behind the other.
     pub fn put_parts(&mut self, parts: &[Part<'_>])
         ensures { Appends (flat_map text_of_part parts.now) self.old self.new }
     {
-        if put_parts(&mut self.bytes, parts).is_err() {
-            self.is_short = true;
-        }
+        self.is_short |= put_parts(&mut self.bytes, parts).is_err();
     }
 
     /// Appends the line of an event in a trace.
     pub fn append_event(&mut self, event: &Event)
         ensures { Appends (line_of event.now) self.old self.new }
     {
-        if append_event(&mut self.bytes, event).is_err() {
-            self.is_short = true;
-        }
+        self.is_short |= append_event(&mut self.bytes, event).is_err();
     }
 
     /// Appends the line of a refusal.
     pub fn append_refusal(&mut self, line: u64, number: u8)
         ensures { Appends (refusal_line line number) self.old self.new }
     {
-        if append_refusal(&mut self.bytes, line, number).is_err() {
-            self.is_short = true;
-        }
+        self.is_short |= append_refusal(&mut self.bytes, line, number).is_err();
     }
 
     /// Appends the line of a packet, and answers the name of what the packet says.

@@ -1,10 +1,9 @@
 ghost use Rattle.std.specs.Prelude.{◌≡◌, MatchResult};
 ghost use Rattle.std.specs.Option.{option_copied};
-ghost use Rattle.vsync_text.specs.Fields.{last};
-ghost use Rattle.vsync_text.specs.UdpScript.{rounds_field, node_event, numbered, udp_said, udp_script_of};
+ghost use Rattle.vsync_text.specs.UdpScript.{node_event, numbered, udp_said, udp_script_of};
 ghost use Rattle.vsync_text.specs.Texts.{and_then, reading_by, HasRead, IsReadUnlessRefused, IsUnread};
 
-use crate::field::{first_field, first_line, rounds_field};
+use crate::field::{first_field, first_line, lone_number};
 use crate::script_line::{Word, event_of, is_skipped, word_of};
 use crate::{AsWritten, Fault, Unheard, Unread, is_word};
 use address::limits::SCRIPT_LINE;
@@ -40,18 +39,6 @@ pub struct UdpLine {
     pub event: UdpEvent,
 }
 
-/// The number of rounds with which a line ends.
-#[tactic(auto, unfolding(crate::specs::Fields::last, crate::specs::Fields::end_at))]
-fn lone_rounds(rest: Option<&[u8]>) -> Result<u64, Unheard>
-    ensures { IsReadUnlessRefused (λ x. x) result (last (rounds_field (option_copied rest.entry))) }
-{
-    match rounds_field(rest) {
-        Ok((number, None)) => Ok(number),
-        Ok((_, Some(_))) => Err(Unheard::Fault(Fault::BadNumber)),
-        Err(fault) => Err(Unheard::Fault(fault)),
-    }
-}
-
 /// The event of a node that a line's first word and the rest of it spell: none of a delivery and a tick, which are the net's and the rounds' here.
 fn node_event(alloc: Global, name: &[u8], rest: Option<&[u8]>) -> Result<WorldEvent, Unheard>
     ensures { IsReadUnlessRefused (λ x. x) result (node_event name.now (option_copied rest.entry)) }
@@ -71,29 +58,21 @@ fn said(alloc: Global, line: &[u8]) -> Result<UdpEvent, Unheard>
     }
     let (name, rest) = first_field(line);
     if is_word(name, b"rounds") {
-        return Ok(UdpEvent::Rounds(lone_rounds(rest)?));
+        return Ok(UdpEvent::Rounds(lone_number(0, ROUNDS, rest)?));
     }
     Ok(UdpEvent::Node(node_event(alloc, name, rest)?))
-}
-
-/// What a line says: nothing, or an event.
-fn read_udp_line(alloc: Global, line: &[u8]) -> Result<Option<UdpEvent>, Unheard>
-    ensures { IsReadUnlessRefused (λ x. x) result (reading_by udp_said line.now) }
-{
-    if is_skipped(line) {
-        return Ok(None);
-    }
-    Ok(Some(said(alloc, line)?))
 }
 
 /// Adds what a line of this number says.
 fn read_on(alloc: Global, lines: &mut Vec<UdpLine>, number: u64, line: &[u8]) -> Result<(), Unread>
     ensures { HasRead (and_then numbered) lines.old.items number (reading_by udp_said line.now) result lines.new.items }
 {
-    match read_udp_line(alloc, line) {
+    if is_skipped(line) {
+        return Ok(());
+    }
+    match said(alloc, line) {
         Err(unheard) => Err(unheard.at(number)),
-        Ok(None) => Ok(()),
-        Ok(Some(event)) => match lines.push(UdpLine { number, event }) {
+        Ok(event) => match lines.push(UdpLine { number, event }) {
             Err(_) => Err(Unread::Memory),
             Ok(()) => Ok(()),
         },
