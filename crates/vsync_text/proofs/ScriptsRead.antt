@@ -1,9 +1,7 @@
 -- How fields, lines and scripts are read.
-use Rattle.std.proofs.Common.{◌≡◌, ℕ, ◌+◌, ◌<◌, ◌≤◌, Bool, true, false, List, [], ◌∷◌, ◌++◌, Option, None, Some, Result, Ok, Err, length, map, take, drop, nat_eq, nat_lt, cond, not, refl, sym, ◌∙◌, ap, arith, append_assoc, append-nil, suc, ◌-◌, ◌*◌, nat_le, get_or, if◌then◌else◌, ltb-false, add-one, drop-cons}
+use Rattle.std.proofs.Common.{◌≡◌, ℕ, ◌+◌, ◌<◌, ◌≤◌, Bool, true, false, List, [], ◌∷◌, ◌++◌, Result, Ok, Err, length, map, take, drop, nat_eq, cond, not, refl, sym, ◌∙◌, ap, arith, append_assoc, append-nil, suc, ◌-◌, ◌*◌, nat_le, get_or, if◌then◌else◌, add-one, drop-cons}
 use Rattle.std.proofs.lemmas.Bool.{lt-leb}
-use Rattle.std.specs.Prelude.{position, MatchOption}
 use Rattle.std.specs.List.{position_or_len}
-use Rattle.std.proofs.lemmas.List.Sums.{prefix_len-le-length}
 use Rattle.world_model.specs.declared.WorldEvent.{WorldEvent}
 use Rattle.vsync_text.specs.declared.fault.Fault.{Fault}
 use Rattle.vsync_text.specs.Lines.{lines_of, in_front}

@@ -1,5 +1,5 @@
 -- What a field of a trace spells, if it is of its form and range.
-use Rattle.std.specs.Prelude.{◌≡◌, ℕ, ◌≤◌, slice_get, List, [], ◌∷◌, Option, None, Some, length, nat_eq, nat_le, if◌then◌else◌}
+use Rattle.std.specs.Prelude.{◌≡◌, ℕ, ◌≤◌, slice_get, List, [], ◌∷◌, Option, None, Some, length, nat_le, if◌then◌else◌}
 use Rattle.std.specs.Str.{bytes_eq}
 use Rattle.address.specs.Ids.{Address, ViewId}
 use Rattle.address.specs.declared.limits.TheConstants.{GREATEST_NUMBER, PAYLOAD}
@@ -11,6 +11,7 @@ use Rattle.vsync_text.specs.Lines.{before_byte, behind_byte}
 use Rattle.vsync_text.specs.Numbers.{number_in}
 use Rattle.vsync_text.specs.AddressText.{address_of_text}
 use Rattle.vsync_text.specs.TraceText.{dash}
+use Rattle.vsync_text.specs.Fronts.{behind_mark}
 use Rattle.vsync_text.specs.Forms.{◌>>=◌, bytes_of_hex, parts_of, each_of}
 
 -- the number of a message in its view, 1 to `GREATEST_NUMBER`
@@ -89,8 +90,9 @@ AreShort messages = (k : ℕ) (m : Numbered) → slice_get messages k ≡ Some m
 
 -- `=` and a state in hexadecimal
 unfoldable pub state_of_text : List ℕ → Option (List ℕ)
-state_of_text [] = None
-state_of_text (b ∷ digits) = if nat_eq b 61 then bytes_of_hex digits else None
+state_of_text text = do
+  digits ← behind_mark 61 text
+  bytes_of_hex digits
 
 -- a given state, `-` for none
 unfoldable pub given_of_text : List ℕ → Option (Option (List ℕ))

@@ -58,7 +58,7 @@ pub(crate) fn number_in_front(high: u64, text: &[u8]) -> Option<(u64, &[u8])>
 }
 
 /// The text behind its first byte, if that is `byte`.
-fn behind_mark(byte: u8, text: &[u8]) -> Option<&[u8]>
+pub(crate) fn behind_mark(byte: u8, text: &[u8]) -> Option<&[u8]>
     ensures { option_copied result ≡ behind_mark byte text.now }
 {
     match text.split_first() {

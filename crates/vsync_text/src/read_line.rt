@@ -1,14 +1,13 @@
 //! A line of a trace as an event.
 
-ghost use Rattle.std.specs.Prelude.{◌≡◌, ◌≤◌, length, None, Some, Ok, IfOk, IfSome};
-ghost use Rattle.address.specs.declared.limits.TheConstants.{PAYLOAD};
+ghost use Rattle.std.specs.Prelude.{◌≡◌, None, Some, Ok, IfOk, IfSome};
 ghost use Rattle.trace_props.specs.declared.event.Event.TheVariants as event;
 ghost use Rattle.trace_props.specs.Recorded.{IsShort};
 ghost use Rattle.vsync_text.specs.Texts.{IsReadUnlessRefused};
 ghost use Rattle.vsync_text.specs.Fields.{spelled_at, last, made};
 ghost use Rattle.vsync_text.specs.AddressText.{address_of_text};
 ghost use Rattle.vsync_text.specs.Spelling.{AreShort};
-ghost use Rattle.vsync_text.specs.LineFields.{sending_at, delivery_at, view_at, install_at, stable_at};
+ghost use Rattle.vsync_text.specs.LineFields.{sending_at, delivery_at, install_at, stable_at};
 ghost use Rattle.vsync_text.specs.Traces.{word_of, event_of, said_in_line};
 
 use crate::line_fields::Fields;
@@ -17,7 +16,6 @@ use address::Address;
 use address::limits::TRACE_LINE;
 use std::alloc::Global;
 use trace_props::{BoxedInstall, Delivery, Event, Install, Message, Numbered, Sending};
-use view::View;
 
 /// A word with which a line of a trace begins.
 #[derive(Clone, Copy, Drop)]
@@ -53,63 +51,16 @@ fn word_of(name: &[u8]) -> Option<Word>
     }
 }
 
-/// `P V N X`.
-#[tactic(auto, unfolding(crate::specs::LineFields::sending_at))]
-fn sending(alloc: Global, fields: &mut Fields<'_>) -> Result<Sending, Unheard>
-    ensures gives { IsReadUnlessRefused (λ x. (x, fields.new)) result (sending_at fields.old) }
-    ensures short { IfOk result (λ x. length x.message.payload ≤ PAYLOAD) }
-{
-    let member = fields.address()?;
-    let view = fields.view_id()?;
-    let number = fields.number()?;
-    let payload = fields.payload(alloc)?;
-    Ok(Sending {
-        member,
-        view,
-        message: Numbered { number, payload },
-    })
-}
-
-/// `P V Q N X`.
-#[tactic(auto, unfolding(crate::specs::LineFields::delivery_at))]
-fn delivery(alloc: Global, fields: &mut Fields<'_>) -> Result<Delivery, Unheard>
-    ensures gives { IsReadUnlessRefused (λ x. (x, fields.new)) result (delivery_at fields.old) }
-    ensures short { IfOk result (λ x. length x.message.payload ≤ PAYLOAD) }
-{
-    let member = fields.address()?;
-    let view = fields.view_id()?;
-    let sender = fields.address()?;
-    let number = fields.number()?;
-    let payload = fields.payload(alloc)?;
-    Ok(Delivery {
-        member,
-        view,
-        message: Message {
-            sender,
-            number,
-            payload,
-        },
-    })
-}
-
-/// `W MEMBERS`.
-#[tactic(auto, unfolding(crate::specs::LineFields::view_at))]
-fn view(alloc: Global, fields: &mut Fields<'_>) -> Result<View, Unheard>
-    ensures { IsReadUnlessRefused (λ x. (x, fields.new)) result (view_at fields.old) }
-{
-    let id = fields.view_id()?;
-    fields.view(alloc, id)
-}
-
 /// `P PREV W MEMBERS TOGETHER BACK STATE`.
-#[tactic(auto, unfolding(crate::specs::LineFields::install_at))]
+#[tactic(auto, unfolding(crate::specs::LineFields::install_at, crate::specs::LineFields::view_at))]
 fn install(alloc: Global, fields: &mut Fields<'_>) -> Result<Install, Unheard>
     ensures gives { IsReadUnlessRefused (λ x. (x, fields.new)) result (install_at fields.old) }
     ensures short { IfOk result (λ x. AreShort x.handed_back) }
 {
     let member = fields.address()?;
     let previous = fields.previous()?;
-    let view = view(alloc, fields)?;
+    let id = fields.view_id()?;
+    let view = fields.view(alloc, id)?;
     let together = fields.together(alloc)?;
     let handed_back = fields.handed_back(alloc)?;
     let given = fields.given(alloc)?;
@@ -133,24 +84,47 @@ fn lone_address(mut fields: Fields<'_>) -> Result<Address, Unheard>
     Ok(address)
 }
 
-#[tactic(auto, unfolding(crate::specs::Fields::last))]
+/// The event of `P V N X`.
+#[tactic(auto, unfolding(crate::specs::Fields::last, crate::specs::LineFields::sending_at))]
 fn sent(alloc: Global, mut fields: Fields<'_>) -> Result<Event, Unheard>
     ensures gives { IsReadUnlessRefused (λ x. x) result (made event.Sent (last (sending_at fields.entry))) }
     ensures short { IfOk result IsShort }
 {
-    let sending = sending(alloc, &mut fields)?;
+    let member = fields.address()?;
+    let view = fields.view_id()?;
+    let number = fields.number()?;
+    let payload = fields.payload(alloc)?;
     fields.end()?;
-    Ok(Event::Sent(sending))
+    let message = Numbered { number, payload };
+    Ok(Event::Sent(Sending {
+        member,
+        view,
+        message,
+    }))
 }
 
-#[tactic(auto, unfolding(crate::specs::Fields::last))]
+/// The event of `P V Q N X`.
+#[tactic(auto, unfolding(crate::specs::Fields::last, crate::specs::LineFields::delivery_at))]
 fn delivered(alloc: Global, mut fields: Fields<'_>) -> Result<Event, Unheard>
     ensures gives { IsReadUnlessRefused (λ x. x) result (made event.Delivered (last (delivery_at fields.entry))) }
     ensures short { IfOk result IsShort }
 {
-    let delivery = delivery(alloc, &mut fields)?;
+    let member = fields.address()?;
+    let view = fields.view_id()?;
+    let sender = fields.address()?;
+    let number = fields.number()?;
+    let payload = fields.payload(alloc)?;
     fields.end()?;
-    Ok(Event::Delivered(delivery))
+    let message = Message {
+        sender,
+        number,
+        payload,
+    };
+    Ok(Event::Delivered(Delivery {
+        member,
+        view,
+        message,
+    }))
 }
 
 #[tactic(auto, unfolding(crate::specs::Fields::last))]
@@ -173,10 +147,10 @@ fn event_of(alloc: Global, word: Word, fields: Fields<'_>) -> Result<Event, Unhe
         Word::Sent => sent(alloc, fields),
         Word::Delivered => delivered(alloc, fields),
         Word::Installed => installed(alloc, fields),
-        Word::Started => lone_address(fields).map(Event::Started),
-        Word::Blocked => lone_address(fields).map(Event::Blocked),
-        Word::Left => lone_address(fields).map(Event::Left),
-        Word::Crashed => lone_address(fields).map(Event::Crashed),
+        Word::Started => Ok(Event::Started(lone_address(fields)?)),
+        Word::Blocked => Ok(Event::Blocked(lone_address(fields)?)),
+        Word::Left => Ok(Event::Left(lone_address(fields)?)),
+        Word::Crashed => Ok(Event::Crashed(lone_address(fields)?)),
     }
 }
 

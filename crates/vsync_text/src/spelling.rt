@@ -2,9 +2,10 @@
 
 ghost use Rattle.std.specs.Prelude.{◌≡◌, ◌≤◌, length, IfOk, IfSome};
 ghost use Rattle.view.specs.Members.{is_distinct};
-ghost use Rattle.vsync_text.specs.Spelling.{number_of_text, view_id_of_text, previous_of_text, short_of_hex, payload_of_text, view_of_text, together_of_text, message_of_text, messages_of_text, AreShort, handed_back_of_text, state_of_text, given_of_text};
+ghost use Rattle.vsync_text.specs.Spelling.{number_of_text, view_id_of_text, previous_of_text, short_of_hex, payload_of_text, view_of_text, together_of_text, message_of_text, AreShort, handed_back_of_text, given_of_text};
 
 use crate::forms::{addresses_in, next_part};
+use crate::fronts::behind_mark;
 use crate::hexadecimal::bytes_in;
 use crate::{address_in, is_word, number_in, split_at_first};
 use address::limits::{GREATEST_NUMBER, PAYLOAD};
@@ -136,12 +137,15 @@ fn message_in(alloc: Global, part: &[u8]) -> Result<Option<Numbered>, AllocError
     }
 }
 
-/// Messages joined by commas.
-#[tactic(auto, using(crate::proofs::ListsAreRead::part_read, crate::proofs::ListsAreRead::part_fails, crate::proofs::ListsAreRead::all_read, crate::proofs::ListsAreRead::short_push), unfolding(crate::specs::Spelling::messages_of_text))]
-fn messages_in(alloc: Global, field: &[u8]) -> Result<Option<HandedBack>, AllocError>
-    ensures read { IfOk result (λ read. read ≡ messages_of_text field.now) }
+/// Messages joined by commas, `-` for none.
+#[tactic(auto, using(crate::proofs::ListsAreRead::part_read, crate::proofs::ListsAreRead::part_fails, crate::proofs::ListsAreRead::all_read, crate::proofs::ListsAreRead::short_push), unfolding(crate::specs::Spelling::handed_back_of_text, crate::specs::Spelling::messages_of_text))]
+pub(crate) fn handed_back_in(alloc: Global, field: &[u8]) -> Result<Option<HandedBack>, AllocError>
+    ensures read { IfOk result (λ read. read ≡ handed_back_of_text field.now) }
     ensures short { IfOk result (λ read. IfSome read AreShort) }
 {
+    if is_word(field, b"-") {
+        return Ok(Some(HandedBack::nothing(alloc)));
+    }
     let mut messages = Vec::new(alloc);
     let mut left = Some(field);
     while let Some((part, behind)) = next_part(left) {
@@ -154,45 +158,19 @@ fn messages_in(alloc: Global, field: &[u8]) -> Result<Option<HandedBack>, AllocE
     Ok(Some(HandedBack::from_vec(messages)))
 }
 
-/// Messages joined by commas, `-` for none.
-#[tactic(auto, unfolding(crate::specs::Spelling::handed_back_of_text))]
-pub(crate) fn handed_back_in(alloc: Global, field: &[u8]) -> Result<Option<HandedBack>, AllocError>
-    ensures read { IfOk result (λ read. read ≡ handed_back_of_text field.now) }
-    ensures short { IfOk result (λ read. IfSome read AreShort) }
-{
-    if is_word(field, b"-") {
-        return Ok(Some(HandedBack::nothing(alloc)));
-    }
-    messages_in(alloc, field)
-}
-
-/// `=` and a state in hexadecimal.
-#[tactic(auto, unfolding(crate::specs::Spelling::state_of_text))]
-fn state_in(alloc: Global, field: &[u8]) -> Result<Option<Bytes>, AllocError>
-    ensures { IfOk result (λ read. read ≡ state_of_text field.now) }
-{
-    match field.split_first() {
-        None => Ok(None),
-        Some((first, digits)) => {
-            if *first == b'=' {
-                bytes_in(alloc, digits)
-            } else {
-                Ok(None)
-            }
-        }
-    }
-}
-
-/// A given state, `-` for none.
-#[tactic(auto, unfolding(crate::specs::Spelling::given_of_text))]
+/// A given state, `=` and its hexadecimal, `-` for none.
+#[tactic(auto, unfolding(crate::specs::Spelling::given_of_text, crate::specs::Spelling::state_of_text))]
 pub(crate) fn given_in(alloc: Global, field: &[u8]) -> Result<Option<Option<Bytes>>, AllocError>
     ensures { IfOk result (λ read. read ≡ given_of_text field.now) }
 {
     if is_word(field, b"-") {
         return Ok(Some(None));
     }
-    match state_in(alloc, field)? {
+    match behind_mark(b'=', field) {
         None => Ok(None),
-        Some(state) => Ok(Some(Some(state))),
+        Some(digits) => match bytes_in(alloc, digits)? {
+            None => Ok(None),
+            Some(state) => Ok(Some(Some(state))),
+        },
     }
 }

@@ -3,7 +3,7 @@ use Rattle.std.specs.Option.{option_copied}
 use Rattle.vsync_text.specs.Forms.{parts_of, parts_left, left_len, each_of}
 use Rattle.vsync_text.specs.Spelling.{message_of_text, AreShort}
 use Rattle.vsync_text.proofs.ListsAreRead.{with_front}
-use Rattle.vsync_text.proofs.spelling.messages_in.Given as goal
+use Rattle.vsync_text.proofs.spelling.handed_back_in.Given as goal
 
 -- the messages so far go on with the parts that are left
 abbrev pub invariant-loop-part : goal.invariant-loop-part
