@@ -261,6 +261,27 @@ alike spells spells' front front' s f is = record {
   rest = λ text x left e. is.rest text x left (sym (f text) ∙ e);
 }
 
+made_part : {A B : Type 0} (make : ℕ → A → B) (n : ℕ) (part : Option (A × List ℕ)) → (do
+  x ← part
+  Some (make n x.0, x.1)) ≡ with_part make n part
+made_part make n None = refl
+made_part make n (Some (x, left)) = refl
+
+made_behind : {A B : Type 0} (make : ℕ → A → B) (front : List ℕ → Option (A × List ℕ)) (n : ℕ) (more : Option (List ℕ)) → (do
+  rest ← more
+  x ← front rest
+  Some (make n x.0, x.1)) ≡ by_parts make front (Some n) more
+made_behind make front n None = refl
+made_behind make front n (Some more) = made_part make n (front more)
+
+made_parts : {A B : Type 0} (make : ℕ → A → B) (mark : ℕ) (front : List ℕ → Option (A × List ℕ)) (n : Option ℕ) (text : List ℕ) → (do
+  number ← with_behind n text
+  rest ← behind_mark mark number.1
+  x ← front rest
+  Some (make number.0 x.0, x.1)) ≡ by_parts make front n (behind_mark mark text)
+made_parts make mark front None text = refl
+made_parts make mark front (Some n) text = made_behind make front n (behind_mark mark text)
+
 -- ADDRESSES AND VIEW IDS
 
 abbrev made_address : ℕ → ℕ → Address
@@ -271,31 +292,10 @@ address_both None i = refl
 address_both (Some n) None = refl
 address_both (Some n) (Some i) = refl
 
-address_part : (n : ℕ) (part : Option (ℕ × List ℕ)) → (do
-  incarnation ← part
-  Some (made_address n incarnation.0, incarnation.1)) ≡ with_part made_address n part
-address_part n None = refl
-address_part n (Some (i, left)) = refl
-
-address_behind : (n : ℕ) (more : Option (List ℕ)) → (do
-  rest ← more
-  incarnation ← number_in_front GREATEST_INCARNATION rest
-  Some (made_address n incarnation.0, incarnation.1)) ≡ by_parts made_address (number_in_front GREATEST_INCARNATION) (Some n) more
-address_behind n None = refl
-address_behind n (Some more) = address_part n (number_in_front GREATEST_INCARNATION more)
-
-address_parts : (n : Option ℕ) (text : List ℕ) → (do
-  node ← with_behind n text
-  rest ← behind_mark 46 node.1
-  incarnation ← number_in_front GREATEST_INCARNATION rest
-  Some (made_address node.0 incarnation.0, incarnation.1)) ≡ by_parts made_address (number_in_front GREATEST_INCARNATION) n (behind_mark 46 text)
-address_parts None text = refl
-address_parts (Some n) text = address_behind n (behind_mark 46 text)
-
 address_by_parts : (text : List ℕ)
     → address_in_front text ≡ by_parts made_address (number_in_front GREATEST_INCARNATION) (number_in 1 GREATEST_NODE (digits_of text)) (behind_mark 46 (behind_digits text))
 unfolding address_in_front number_in_front
-address_by_parts text = address_parts (number_in 1 GREATEST_NODE (digits_of text)) (behind_digits text)
+address_by_parts text = made_parts made_address 46 (number_in_front GREATEST_INCARNATION) (number_in 1 GREATEST_NODE (digits_of text)) (behind_digits text)
 
 pub address_is_front : IsFront address_of_text address_in_front
 address_is_front =
@@ -332,31 +332,10 @@ view_id_both : (field : List ℕ) → view_id_of_text field ≡ both made_view_i
 unfolding view_id_of_text
 view_id_both field = view_id_said (number_in 1 GREATEST_NUMBER (before_byte 64 field)) (behind_byte 64 field)
 
-view_id_part : (n : ℕ) (part : Option (Address × List ℕ)) → (do
-  creator ← part
-  Some (made_view_id n creator.0, creator.1)) ≡ with_part made_view_id n part
-view_id_part n None = refl
-view_id_part n (Some (c, left)) = refl
-
-view_id_behind : (n : ℕ) (more : Option (List ℕ)) → (do
-  rest ← more
-  creator ← address_in_front rest
-  Some (made_view_id n creator.0, creator.1)) ≡ by_parts made_view_id address_in_front (Some n) more
-view_id_behind n None = refl
-view_id_behind n (Some more) = view_id_part n (address_in_front more)
-
-view_id_parts : (n : Option ℕ) (text : List ℕ) → (do
-  counter ← with_behind n text
-  rest ← behind_mark 64 counter.1
-  creator ← address_in_front rest
-  Some (made_view_id counter.0 creator.0, creator.1)) ≡ by_parts made_view_id address_in_front n (behind_mark 64 text)
-view_id_parts None text = refl
-view_id_parts (Some n) text = view_id_behind n (behind_mark 64 text)
-
 view_id_by_parts : (text : List ℕ)
     → view_id_in_front text ≡ by_parts made_view_id address_in_front (number_in 1 GREATEST_NUMBER (digits_of text)) (behind_mark 64 (behind_digits text))
 unfolding view_id_in_front number_in_front
-view_id_by_parts text = view_id_parts (number_in 1 GREATEST_NUMBER (digits_of text)) (behind_digits text)
+view_id_by_parts text = made_parts made_view_id 64 address_in_front (number_in 1 GREATEST_NUMBER (digits_of text)) (behind_digits text)
 
 pub view_id_is_front : IsFront view_id_of_text view_id_in_front
 view_id_is_front =
@@ -387,9 +366,9 @@ spelled_as spells front text read f e = ap (λ o. and_rest o (behind_field text)
 
 -- the field ends behind what was read
 pub field_read : {A : Type 0} (spells : List ℕ → Option A) (front : List ℕ → Option (A × List ℕ)) (line : Option (List ℕ)) (text rest : List ℕ) (x : A) (left : Option (List ℕ))
-    → IsFront spells front → line ≡ Some text → front text ≡ Some (x, rest) → left_behind rest ≡ Some left → spelled_at spells line ≡ Ok (x, left)
+    → IsFront spells front → line ≡ Some text → front text ≡ Some (x, rest) → Some left ≡ left_behind rest → spelled_at spells line ≡ Ok (x, left)
 field_read {A} spells front line text rest x left f s e l =
-    let at = left_at_end rest left l in
+    let at = left_at_end rest left (sym l) in
     ap (spelled_at spells) s
     ∙ spelled_as spells front text (Some (x, rest)) f e
     ∙ ap (λ t. and_rest (if◌then◌else◌ {A = Option A} t (Some x) None) (behind_field text)) at.0
@@ -397,11 +376,11 @@ field_read {A} spells front line text rest x left f s e l =
 
 -- the field goes on
 pub field_goes_on : {A : Type 0} (spells : List ℕ → Option A) (front : List ℕ → Option (A × List ℕ)) (line : Option (List ℕ)) (text rest : List ℕ) (x : A)
-    → IsFront spells front → line ≡ Some text → front text ≡ Some (x, rest) → left_behind rest ≡ None → spelled_at spells line ≡ Err BadNumber
+    → IsFront spells front → line ≡ Some text → front text ≡ Some (x, rest) → None ≡ left_behind rest → spelled_at spells line ≡ Err BadNumber
 field_goes_on {A} spells front line text rest x f s e l =
     ap (spelled_at spells) s
     ∙ spelled_as spells front text (Some (x, rest)) f e
-    ∙ ap (λ t. and_rest (if◌then◌else◌ {A = Option A} t (Some x) None) (behind_field text)) (not_at_end rest l)
+    ∙ ap (λ t. and_rest (if◌then◌else◌ {A = Option A} t (Some x) None) (behind_field text)) (not_at_end rest (sym l))
 
 -- nothing was read
 pub field_fails : {A : Type 0} (spells : List ℕ → Option A) (front : List ℕ → Option (A × List ℕ)) (line : Option (List ℕ)) (text : List ℕ)
@@ -412,16 +391,16 @@ field_fails spells front line text f s e = ap (spelled_at spells) s ∙ spelled_
 
 pub address_read : (line : Option (List ℕ)) (text rest : List ℕ) (x : Address) (left : Option (List ℕ))
     → line ≡ Some text → address_in_front text ≡ Some (x, rest) → Some left ≡ left_behind rest → spelled_at address_of_text line ≡ Ok (x, left)
-address_read line text rest x left s e l = field_read address_of_text address_in_front line text rest x left address_is_front s e (sym l)
+address_read line text rest x left s e l = field_read address_of_text address_in_front line text rest x left address_is_front s e l
 
 pub address_goes_on : (line : Option (List ℕ)) (text rest : List ℕ) (x : Address)
     → line ≡ Some text → address_in_front text ≡ Some (x, rest) → None ≡ left_behind rest → spelled_at address_of_text line ≡ Err BadNumber
-address_goes_on line text rest x s e l = field_goes_on address_of_text address_in_front line text rest x address_is_front s e (sym l)
+address_goes_on line text rest x s e l = field_goes_on address_of_text address_in_front line text rest x address_is_front s e l
 
 pub view_id_read : (line : Option (List ℕ)) (text rest : List ℕ) (x : ViewId) (left : Option (List ℕ))
     → line ≡ Some text → view_id_in_front text ≡ Some (x, rest) → Some left ≡ left_behind rest → spelled_at view_id_of_text line ≡ Ok (x, left)
-view_id_read line text rest x left s e l = field_read view_id_of_text view_id_in_front line text rest x left view_id_is_front s e (sym l)
+view_id_read line text rest x left s e l = field_read view_id_of_text view_id_in_front line text rest x left view_id_is_front s e l
 
 pub view_id_goes_on : (line : Option (List ℕ)) (text rest : List ℕ) (x : ViewId)
     → line ≡ Some text → view_id_in_front text ≡ Some (x, rest) → None ≡ left_behind rest → spelled_at view_id_of_text line ≡ Err BadNumber
-view_id_goes_on line text rest x s e l = field_goes_on view_id_of_text view_id_in_front line text rest x view_id_is_front s e (sym l)
+view_id_goes_on line text rest x s e l = field_goes_on view_id_of_text view_id_in_front line text rest x view_id_is_front s e l

@@ -30,7 +30,7 @@ two_fields old a b c new word first second end e f g h =
     ∙ append_assoc old word (first ++ (second ++ end))
     ∙ ap (λ t. old ++ (word ++ t)) (sym (append_assoc first second end))
 
-next_text : {X : Type 0} (f : X → List ℕ) (xs : List X) (i : ℕ) (x d : X) → x ≡ get_or xs i d → i < length xs
+pub next_text : {X : Type 0} (f : X → List ℕ) (xs : List X) (i : ℕ) (x d : X) → x ≡ get_or xs i d → i < length xs
     → flat_map f (take (i + 1) xs) ≡ flat_map f (take i xs) ++ f x
 next_text f xs i x d at inside =
     let e : i + 1 ≡ suc i = omega arith in

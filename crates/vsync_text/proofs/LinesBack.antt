@@ -111,7 +111,7 @@ last_back x = refl
 abbrev pub body_of : Event → List ℕ
 body_of h = event_word h ++ fields_of h
 
-word_back : (h : Event) → Word
+abbrev pub word_back : (h : Event) → Word
 word_back (event.Started p) = Started
 word_back (event.Sent s) = Sent
 word_back (event.Delivered d) = Delivered
@@ -121,7 +121,7 @@ word_back (event.Left p) = Left
 word_back (event.Crashed p) = Crashed
 
 event_back : (h : Event) → IsInFormat h → event_of (word_back h) (behind (fields_of h)) ≡ Ok h
-unfolding event_of word_back
+unfolding event_of
 event_back (event.Started p) h = rw (address_last p h, last_back p) refl
 event_back (event.Sent s) h = rw (sending_back s h, last_back s) refl
 event_back (event.Delivered d) h = rw (delivery_back d h, last_back d) refl
@@ -130,49 +130,29 @@ event_back (event.Installed i) h = rw (install_back i h, last_back i) refl
 event_back (event.Left p) h = rw (address_last p h, last_back p) refl
 event_back (event.Crashed p) h = rw (address_last p h, last_back p) refl
 
-word_is : (h : Event) → word_of (field_of (body_of h)) ≡ Some (word_back h)
-unfolding word_back
-word_is (event.Started p) = refl
-word_is (event.Sent s) = refl
-word_is (event.Delivered d) = refl
-word_is (event.Blocked p) = refl
-word_is (event.Installed i) = refl
-word_is (event.Left p) = refl
-word_is (event.Crashed p) = refl
+-- how the line of an event is read: as one that says something, and not which messages are stable; by its word and its fields
+pub record IsReadAs (h : Event) : Type 0 where
+  pub is_said : is_skipped (body_of h) ≡ false
+  pub not_stable : bytes_eq (field_of (body_of h)) (codes "stable") ≡ false
+  pub word : word_of (field_of (body_of h)) ≡ Some (word_back h)
+  pub fields : behind_field (body_of h) ≡ behind (fields_of h)
 
-fields_are : (h : Event) → behind_field (body_of h) ≡ behind (fields_of h)
-fields_are (event.Started p) = refl
-fields_are (event.Sent s) = refl
-fields_are (event.Delivered d) = refl
-fields_are (event.Blocked p) = refl
-fields_are (event.Installed i) = refl
-fields_are (event.Left p) = refl
-fields_are (event.Crashed p) = refl
-
-is_read : (h : Event) → is_skipped (body_of h) ≡ false
-is_read (event.Started p) = refl
-is_read (event.Sent s) = refl
-is_read (event.Delivered d) = refl
-is_read (event.Blocked p) = refl
-is_read (event.Installed i) = refl
-is_read (event.Left p) = refl
-is_read (event.Crashed p) = refl
-
-not_stable : (h : Event) → bytes_eq (field_of (body_of h)) (codes "stable") ≡ false
-not_stable (event.Started p) = refl
-not_stable (event.Sent s) = refl
-not_stable (event.Delivered d) = refl
-not_stable (event.Blocked p) = refl
-not_stable (event.Installed i) = refl
-not_stable (event.Left p) = refl
-not_stable (event.Crashed p) = refl
+is_read : (h : Event) → IsReadAs h
+is_read (event.Started p) = record { is_said = refl; not_stable = refl; word = refl; fields = refl }
+is_read (event.Sent s) = record { is_said = refl; not_stable = refl; word = refl; fields = refl }
+is_read (event.Delivered d) = record { is_said = refl; not_stable = refl; word = refl; fields = refl }
+is_read (event.Blocked p) = record { is_said = refl; not_stable = refl; word = refl; fields = refl }
+is_read (event.Installed i) = record { is_said = refl; not_stable = refl; word = refl; fields = refl }
+is_read (event.Left p) = record { is_said = refl; not_stable = refl; word = refl; fields = refl }
+is_read (event.Crashed p) = record { is_said = refl; not_stable = refl; word = refl; fields = refl }
 
 -- the line of an event is read back
 pub body_back : (h : Event) → IsSpellable h → reading_by said_in_line (body_of h) ≡ Ok (Some (Some h))
 unfolding said_in_line
 body_back h s =
     let short : nat_lt TRACE_LINE (length (body_of h)) ≡ false = le-ltb TRACE_LINE (length (body_of h)) (omega (arith, s.line, length-append (body_of h) (10 ∷ []))) in
-    rw (is_read h, short, not_stable h, word_is h, fields_are h, event_back h s.fields) refl
+    let r = is_read h in
+    rw (r.is_said, short, r.not_stable, r.word, r.fields, event_back h s.fields) refl
 
 -- a line that says which messages are stable
 

@@ -6,6 +6,7 @@ use Rattle.std.specs.List.{list_all}
 use Rattle.vsync_text.specs.Numbers.{value_of, value_after, number_in, is_plain}
 use Rattle.vsync_text.specs.Fronts.{digits_of, behind_digits, number_in_front, with_behind}
 use Rattle.vsync_text.proofs.Numerals.{IsLed, led_is_plain}
+use Rattle.vsync_text.proofs.ScriptsRead.{value_grows}
 
 -- a byte from 48 on is a digit
 digit_is : (d : ℕ) → d < 10 → is_ascii_digit (48 + d) ≡ true
@@ -13,10 +14,6 @@ digit_is d h = and_from _ _ (le-leb 48 (48 + d) (omega arith)) (le-leb (48 + d) 
 
 pub digits_go_on : (d : ℕ) (bs : List ℕ) → d < 10 → digits_of ((48 + d) ∷ bs) ≡ (48 + d) ∷ digits_of bs
 digits_go_on d bs h = ap (λ t. if t then (48 + d) ∷ digits_of bs else []) (digit_is d h)
-
-value_grows : (n : ℕ) (digits : List ℕ) → n ≤ value_after n digits
-value_grows n [] = omega arith
-value_grows n (d ∷ ds) = omega (arith, value_grows (10 * n + (d - 48)) ds)
 
 digits_alone : (text : List ℕ) → list_all is_ascii_digit (digits_of text) ≡ true
 digits_alone [] = refl

@@ -1,9 +1,9 @@
 -- The text of a run spells what happened in it.
-use Rattle.std.proofs.Common.{◌≡◌, ℕ, ◌+◌, ◌-◌, ◌≤◌, true, false, List, [], ◌∷◌, ◌++◌, Ok, length, take, drop, map, nat_eq, refl, sym, ◌∙◌, ap, subst, arith, zero, suc, append_assoc, length-append, codes, if◌then◌else◌}
+use Rattle.std.proofs.Common.{◌≡◌, ℕ, ◌+◌, ◌-◌, ◌≤◌, true, false, List, [], ◌∷◌, ◌++◌, Ok, length, drop, map, nat_eq, refl, sym, ◌∙◌, ap, subst, arith, append_assoc, length-append, codes, if◌then◌else◌}
 use Rattle.std.proofs.Math.Seq.{drop-length}
 use Rattle.std.proofs.lemmas.Bool.{or_from}
 use Rattle.std.proofs.lemmas.List.{take-append-drop, drop-drop}
-use Rattle.std.proofs.lemmas.List.Elements.{recursion_from_All}
+use Rattle.std.proofs.lemmas.List.Elements.{recursion_from_All, All-take, All-drop}
 use Rattle.std.specs.Prelude.{All}
 use Rattle.std.specs.List.{AllByRecursion, list_any}
 use Rattle.std.specs.Fmt.{decimal}
@@ -87,22 +87,12 @@ events_spell : (s : List Event) (lines : List (List ℕ)) (t : List Event) → A
 events_spell [] lines t a spell = spell
 events_spell (h ∷ s) lines t a spell = Line h (map line_of s ++ lines) (s ++ t) a.0 (events_spell s lines t a.1 spell)
 
-all_drop : (n : ℕ) (t : List Event) → AllByRecursion IsSpellable t → AllByRecursion IsSpellable (drop n t)
-all_drop zero t a = a
-all_drop (suc n) [] a = tt
-all_drop (suc n) (h ∷ t) a = all_drop n t a.1
-
-all_take : (n : ℕ) (t : List Event) → AllByRecursion IsSpellable t → AllByRecursion IsSpellable (take n t)
-all_take zero t a = tt
-all_take (suc n) [] a = tt
-all_take (suc n) (h ∷ t) a = (a.0, all_take n t a.1)
-
 stretch_then : (from to : ℕ) (t : List Event) → from ≤ to → stretch from to t ++ drop to t ≡ drop from t
 stretch_then from to t le =
     let far : from + (to - from) ≡ to = omega arith in
     ap (λ r. stretch from to t ++ r) (sym (drop-drop (to - from) from t ∙ ap (λ n. drop n t) far)) ∙ take-append-drop (to - from) (drop from t)
 
-lines_spell : (from : ℕ) (lines : List ℕ) (replies : List Reply) (t : List Event) → length lines ≡ length replies → Rises from replies (length t) → AllByRecursion IsSpellable t
+lines_spell : (from : ℕ) (lines : List ℕ) (replies : List Reply) (t : List Event) → length lines ≡ length replies → Rises from replies (length t) → All IsSpellable t
     → Spell (lines_from from lines replies t) (drop from t)
 lines_spell from [] [] t e r a = let P : List Event → Type 0 = λ s. Spell [] s in subst P (sym (drop-length t) ∙ ap (λ n. drop n t) (sym r)) Nothing
 lines_spell from [] (reply ∷ replies) t e r a = absurd (omega arith)
@@ -112,7 +102,7 @@ lines_spell from (line ∷ lines) (reply ∷ replies) t e r a =
     let rest = lines_from reply.place lines replies t in
     let next : Spell rest (drop reply.place t) = lines_spell reply.place lines replies t (omega arith) r.1 a in
     let answered : Spell (answer_lines line reply.answer ++ rest) (drop reply.place t) = answer_spells line reply.answer rest (drop reply.place t) next in
-    let whole : Spell (map line_of s ++ (answer_lines line reply.answer ++ rest)) (s ++ drop reply.place t) = events_spell s _ _ (all_take (reply.place - from) (drop from t) (all_drop from t a)) answered in
+    let whole : Spell (map line_of s ++ (answer_lines line reply.answer ++ rest)) (s ++ drop reply.place t) = events_spell s _ _ (recursion_from_All IsSpellable s (All-take IsSpellable (reply.place - from) (drop from t) (All-drop IsSpellable from t a))) answered in
     let P : List Event → Type 0 = λ u. Spell (reply_lines from line reply t ++ rest) u in
     let Q : List (List ℕ) → Type 0 = λ ls. Spell ls (s ++ drop reply.place t) in
     subst P (stretch_then from reply.place t r.0) (subst Q (sym (append_assoc (map line_of s) (answer_lines line reply.answer) rest)) whole)
@@ -122,4 +112,4 @@ pub run_back : (h : History) (lines : List ℕ) → IsFaithful h → length line
     → trace_of (text_of_run lines h.replies h.trace) ≡ Ok h.trace
 run_back h lines f e a =
     trace_back (lines_of_run lines h.replies h.trace) h.trace
-    (lines_spell 0 lines h.replies h.trace (e ∙ sym (faithful_answers h f)) (faithful_rises h f) (recursion_from_All IsSpellable h.trace a))
+    (lines_spell 0 lines h.replies h.trace (e ∙ sym (faithful_answers h f)) (faithful_rises h f) a)

@@ -11,7 +11,7 @@ use Rattle.vsync_text.specs.UdpScript.{udp_script_of, udp_said, numbered}
 use Rattle.vsync_text.specs.Texts.{FaultAt, said_by, and_then}
 use Rattle.vsync_text.proofs.TextsRead.{AddsAll, with_more, going_on, going_on_is, text_is_going_on}
 
-value_grows : (n : ℕ) (digits : List ℕ) → n ≤ value_after n digits
+pub value_grows : (n : ℕ) (digits : List ℕ) → n ≤ value_after n digits
 value_grows n [] = omega arith
 value_grows n (d ∷ ds) = omega (arith, value_grows (10 * n + (d - 48)) ds)
 

@@ -30,21 +30,21 @@ with_behind (Some x) rest = Some (x, rest)
 unfoldable pub number_in_front : ℕ → List ℕ → Option (ℕ × List ℕ)
 number_in_front high text = with_behind (number_in 1 high (digits_of text)) (behind_digits text)
 
+-- a number up to high, this mark and what is read behind it, as what is made of both
+abbrev pub both_in_front : {A B : Type 0} → (ℕ → A → B) → (mark high : ℕ) → (List ℕ → Option (A × List ℕ)) → List ℕ → Option (B × List ℕ)
+both_in_front make mark high front text = do
+  number ← number_in_front high text
+  rest ← behind_mark mark number.1
+  part ← front rest
+  Some (make number.0 part.0, part.1)
+
 -- `N.I`
 unfoldable pub address_in_front : List ℕ → Option (Address × List ℕ)
-address_in_front text = do
-  node ← number_in_front GREATEST_NODE text
-  rest ← behind_mark 46 node.1
-  incarnation ← number_in_front GREATEST_INCARNATION rest
-  Some (record { node = node.0; incarnation = incarnation.0 }, incarnation.1)
+address_in_front text = both_in_front (λ n i. record { node = n; incarnation = i }) 46 GREATEST_NODE (number_in_front GREATEST_INCARNATION) text
 
 -- `C@N.I`
 unfoldable pub view_id_in_front : List ℕ → Option (ViewId × List ℕ)
-view_id_in_front text = do
-  counter ← number_in_front GREATEST_NUMBER text
-  rest ← behind_mark 64 counter.1
-  creator ← address_in_front rest
-  Some (record { counter = counter.0; creator = creator.0 }, creator.1)
+view_id_in_front text = both_in_front (λ n c. record { counter = n; creator = c }) 64 GREATEST_NUMBER address_in_front text
 
 -- what is left of a line whose field ends where a text begins, if it does: nothing, or the text behind the space
 abbrev pub left_behind : List ℕ → Option (Option (List ℕ))

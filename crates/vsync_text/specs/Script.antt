@@ -4,7 +4,11 @@ use Rattle.std.specs.Str.{bytes_eq}
 use Rattle.world_model.specs.declared.WorldEvent.{WorldEvent}
 use Rattle.world_model.specs.declared.WorldEvent.TheVariants as event
 use Rattle.vsync_text.specs.declared.script_line.Word.{Word}
-use Rattle.vsync_text.specs.declared.script_line.Word.TheVariants.{Start, Create, Join, Send, Deliver, Tick, Suspect, Hint, Leave, Crash}
+use Rattle.vsync_text.specs.declared.script_line.Word.TheVariants.{Node, Pair, Send, Deliver}
+use Rattle.vsync_text.specs.declared.script_line.NodeWord.{NodeWord}
+use Rattle.vsync_text.specs.declared.script_line.NodeWord.TheVariants.{Start, Create, Tick, Leave, Crash}
+use Rattle.vsync_text.specs.declared.script_line.PairWord.{PairWord}
+use Rattle.vsync_text.specs.declared.script_line.PairWord.TheVariants.{Join, Suspect, Hint}
 use Rattle.vsync_text.specs.declared.fault.Fault.{Fault}
 use Rattle.vsync_text.specs.declared.fault.Fault.TheVariants.{UnknownWord, BadNumber, MissingField, LineTooLong}
 use Rattle.address.specs.declared.limits.TheConstants.{SCRIPT_LINE}
@@ -25,10 +29,6 @@ node_and_address rest = do
   node ← node_field rest
   address ← last (address_field node.1)
   Ok (node.0, address)
-
--- an event of both
-abbrev pub of_other : (ℕ → Address → WorldEvent) → Result (ℕ × Address) Fault → Result WorldEvent Fault
-of_other event read = made (λ r. event r.0 r.1) read
 
 -- PAYLOADS
 
@@ -52,31 +52,39 @@ sent payload_of read = do
 
 abbrev pub word_of : List ℕ → Option Word
 word_of name =
-    if bytes_eq name (codes "start") then Some Start
-    else if bytes_eq name (codes "create") then Some Create
-    else if bytes_eq name (codes "join") then Some Join
+    if bytes_eq name (codes "start") then Some (Node Start)
+    else if bytes_eq name (codes "create") then Some (Node Create)
+    else if bytes_eq name (codes "join") then Some (Pair Join)
     else if bytes_eq name (codes "send") then Some Send
     else if bytes_eq name (codes "deliver") then Some Deliver
-    else if bytes_eq name (codes "tick") then Some Tick
-    else if bytes_eq name (codes "suspect") then Some Suspect
-    else if bytes_eq name (codes "hint") then Some Hint
-    else if bytes_eq name (codes "leave") then Some Leave
-    else if bytes_eq name (codes "crash") then Some Crash
+    else if bytes_eq name (codes "tick") then Some (Node Tick)
+    else if bytes_eq name (codes "suspect") then Some (Pair Suspect)
+    else if bytes_eq name (codes "hint") then Some (Pair Hint)
+    else if bytes_eq name (codes "leave") then Some (Node Leave)
+    else if bytes_eq name (codes "crash") then Some (Node Crash)
     else None
+
+-- the event of a word and a node
+abbrev pub alone : NodeWord → ℕ → WorldEvent
+alone Start node = event.Start node
+alone Create node = event.Create node
+alone Tick node = event.Tick node
+alone Leave node = event.Leave node
+alone Crash node = event.Crash node
+
+-- the event of a word, a node and an address
+abbrev pub paired : PairWord → ℕ → Address → WorldEvent
+paired Join node contact = event.Join node contact
+paired Suspect node address = event.Suspect node address
+paired Hint node address = event.MergeHint node address
 
 -- the event of a word and of what is left behind it: `start N`, `create N`, `join N ADDR`, `send N TEXT`, `deliver K`,
 -- `tick N`, `suspect N ADDR`, `hint N ADDR`, `leave N`, `crash N`
 abbrev pub event_of : (List ℕ → Result (List ℕ) Fault) → Word → Option (List ℕ) → Result WorldEvent Fault
-event_of payload_of Start rest = made event.Start (last (node_field rest))
-event_of payload_of Create rest = made event.Create (last (node_field rest))
-event_of payload_of Join rest = of_other event.Join (node_and_address rest)
+event_of payload_of (Node word) rest = made (alone word) (last (node_field rest))
+event_of payload_of (Pair word) rest = made (λ r. paired word r.0 r.1) (node_and_address rest)
 event_of payload_of Send rest = sent payload_of (node_field rest)
 event_of payload_of Deliver rest = made event.Deliver (last (packet_field rest))
-event_of payload_of Tick rest = made event.Tick (last (node_field rest))
-event_of payload_of Suspect rest = of_other event.Suspect (node_and_address rest)
-event_of payload_of Hint rest = of_other event.MergeHint (node_and_address rest)
-event_of payload_of Leave rest = made event.Leave (last (node_field rest))
-event_of payload_of Crash rest = made event.Crash (last (node_field rest))
 
 abbrev pub spoken : (List ℕ → Result (List ℕ) Fault) → Option Word → Option (List ℕ) → Result WorldEvent Fault
 spoken payload_of None rest = Err UnknownWord

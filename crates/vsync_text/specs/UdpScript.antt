@@ -4,6 +4,7 @@ use Rattle.std.specs.Str.{bytes_eq}
 use Rattle.world_model.specs.declared.WorldEvent.{WorldEvent}
 use Rattle.vsync_text.specs.declared.script_line.Word.{Word}
 use Rattle.vsync_text.specs.declared.script_line.Word.TheVariants as word
+use Rattle.vsync_text.specs.declared.script_line.NodeWord.TheVariants.{Tick}
 use Rattle.vsync_text.specs.declared.fault.Fault.{Fault}
 use Rattle.vsync_text.specs.declared.fault.Fault.TheVariants.{UnknownWord, LineTooLong}
 use Rattle.vsync_text.specs.declared.udp_script.UdpEvent.{UdpEvent}
@@ -13,27 +14,20 @@ use Rattle.vsync_text.specs.declared.udp_script.TheConstants.{ROUNDS}
 use Rattle.address.specs.declared.limits.TheConstants.{SCRIPT_LINE}
 use Rattle.vsync_text.specs.Lines.{field_of, behind_field}
 use Rattle.vsync_text.specs.Numbers.{number_in}
-use Rattle.vsync_text.specs.Fields.{Read, made, spelled_at, last}
+use Rattle.vsync_text.specs.Fields.{made, spelled_at, last}
 use Rattle.vsync_text.specs.Script.{as_written, word_of, event_of}
 use Rattle.vsync_text.specs.Texts.{FaultAt, said_by}
-
--- the next field as a number of rounds, 0 to `ROUNDS`
-abbrev pub rounds_field : Option (List ℕ) → Read ℕ
-rounds_field rest = spelled_at (number_in 0 ROUNDS) rest
 
 -- the event of a node by the line's word: a delivery and a tick are no words here
 abbrev pub of_node : Option Word → Option (List ℕ) → Result WorldEvent Fault
 of_node None rest = Err UnknownWord
 of_node (Some word.Deliver) rest = Err UnknownWord
-of_node (Some word.Tick) rest = Err UnknownWord
+of_node (Some (word.Node Tick)) rest = Err UnknownWord
 of_node (Some w) rest = event_of as_written w rest
-
-abbrev pub node_event : List ℕ → Option (List ℕ) → Result WorldEvent Fault
-node_event name rest = of_node (word_of name) rest
 
 -- what a line's first word and the rest of it say
 abbrev pub udp_spoken : List ℕ → Option (List ℕ) → Result UdpEvent Fault
-udp_spoken name rest = if bytes_eq name (codes "rounds") then made udp_event.Rounds (last (rounds_field rest)) else made udp_event.Node (node_event name rest)
+udp_spoken name rest = if bytes_eq name (codes "rounds") then made udp_event.Rounds (last (spelled_at (number_in 0 ROUNDS) rest)) else made udp_event.Node (of_node (word_of name) rest)
 
 -- a line that is not skipped: its length is tested first
 abbrev pub udp_said : List ℕ → Result UdpEvent Fault

@@ -75,7 +75,7 @@ impl<'a> Fields<'a> {
         }
     }
 
-    #[tactic(auto)]
+    #[tactic(auto, unfolding(crate::specs::Fields::spelled_at, crate::specs::Fields::field_at))]
     pub(crate) fn address(&mut self) -> Result<Address, Unheard>
         ensures { IsReadUnlessRefused (λ x. (x, self.new)) result (spelled_at address_of_text self.old) }
     {
@@ -92,7 +92,7 @@ impl<'a> Fields<'a> {
         Ok(address)
     }
 
-    #[tactic(auto)]
+    #[tactic(auto, unfolding(crate::specs::Fields::spelled_at, crate::specs::Fields::field_at))]
     pub(crate) fn view_id(&mut self) -> Result<ViewId, Unheard>
         ensures { IsReadUnlessRefused (λ x. (x, self.new)) result (spelled_at view_id_of_text self.old) }
     {
@@ -117,7 +117,7 @@ impl<'a> Fields<'a> {
         spelled(Ok(previous_in(field)))
     }
 
-    #[tactic(auto)]
+    #[tactic(auto, unfolding(crate::specs::Fields::spelled_at, crate::specs::Fields::field_at))]
     pub(crate) fn number(&mut self) -> Result<u64, Unheard>
         ensures { IsReadUnlessRefused (λ x. (x, self.new)) result (spelled_at number_of_text self.old) }
     {

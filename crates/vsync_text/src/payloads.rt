@@ -1,10 +1,10 @@
-ghost use Rattle.std.specs.Prelude.{◌≡◌, ℕ, List, Result, IfOk};
+ghost use Rattle.std.specs.Prelude.{ℕ, List, Result};
 ghost use Rattle.vsync_text.specs.declared.fault.Fault.{Fault as FaultValue};
 ghost use Rattle.vsync_text.specs.Texts.{IsReadUnlessRefused};
 
 use crate::Unheard;
 use address::Bytes;
-use std::alloc::{AllocError, Global};
+use std::alloc::Global;
 
 /// How the text of a `send` says the payload that is sent (docs/FORMATS.md, "Script text").
 pub trait Payloads {
@@ -30,13 +30,6 @@ impl Payloads for AsWritten {
     ghost payload_of = { as_written };
 
     fn payload(alloc: Global, text: &[u8]) -> Result<Bytes, Unheard> {
-        Ok(copied(alloc, text)?)
+        Ok(Bytes::from_slice(alloc, text)?)
     }
-}
-
-// The bytes of a text.
-fn copied(alloc: Global, text: &[u8]) -> Result<Bytes, AllocError>
-    ensures { IfOk result (λ bytes. bytes ≡ text.now) }
-{
-    Bytes::from_slice(alloc, text)
 }

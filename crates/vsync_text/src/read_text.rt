@@ -1,7 +1,6 @@
 //! The text of a trace as its events.
 
-ghost use Rattle.std.specs.Prelude.{◌≡◌, ◌+◌, ◌++◌, ◌∷◌, [], ℕ, List, Ok, OnOk, MatchResult};
-ghost use Rattle.trace_props.specs.Recorded.{IsShort};
+ghost use Rattle.std.specs.Prelude.{◌≡◌, ◌+◌, ◌++◌, ℕ, List, Ok, MatchResult};
 ghost use Rattle.vsync_text.specs.Texts.{reading_by, HasRead, IsUnread};
 ghost use Rattle.vsync_text.specs.Traces.{said_in_line, with_said, trace_of};
 ghost use Rattle.vsync_text.specs.Pieces.{text_from};
@@ -9,18 +8,8 @@ ghost use Rattle.vsync_text.specs.Pieces.{text_from};
 use crate::field::whole_line_in_front;
 use crate::read_line::said_in_line;
 use crate::{Unread, first_line, is_skipped};
-use std::alloc::{AllocError, Global};
-use trace_props::{Event, Trace};
-
-/// Adds what happened next.
-fn add(trace: &mut Trace, event: Event) -> Result<(), AllocError>
-    requires { IsShort event }
-    ensures { OnOk result (trace.new.events ≡ trace.old.events ++ event ∷ []) }
-{
-    trace.reserve(1)?;
-    trace.record(event);
-    Ok(())
-}
+use std::alloc::Global;
+use trace_props::Trace;
 
 /// Goes on with one line.
 fn read_on(alloc: Global, trace: &mut Trace, number: u64, line: &[u8]) -> Result<(), Unread>
@@ -32,10 +21,13 @@ fn read_on(alloc: Global, trace: &mut Trace, number: u64, line: &[u8]) -> Result
     match said_in_line(alloc, line) {
         Err(unheard) => Err(unheard.at(number)),
         Ok(None) => Ok(()),
-        Ok(Some(event)) => match add(trace, event) {
-            Err(_) => Err(Unread::Memory),
-            Ok(()) => Ok(()),
-        },
+        Ok(Some(event)) => {
+            if trace.reserve(1).is_err() {
+                return Err(Unread::Memory);
+            }
+            trace.record(event);
+            Ok(())
+        }
     }
 }
 

@@ -1,54 +1,66 @@
 ghost use Rattle.std.specs.Prelude.{◌≡◌};
 ghost use Rattle.std.specs.Option.{option_copied};
 ghost use Rattle.vsync_text.specs.Fields.{last, node_field, address_field};
-ghost use Rattle.vsync_text.specs.Script.{node_and_address, payload_in, sent, word_of, event_of, event_in_line};
+ghost use Rattle.vsync_text.specs.Script.{alone, paired, node_and_address, sent, word_of, event_of, event_in_line};
 ghost use Rattle.vsync_text.specs.Texts.{is_skipped, IsReadUnlessRefused};
 
 use crate::field::{address_field, first_field, lone_number, node_field};
 use crate::{Fault, Payloads, Unheard, is_word};
 use address::limits::{GREATEST_NUMBER, SCRIPT_LINE};
-use address::{Address, Bytes, Node};
+use address::{Address, Node};
 use std::alloc::Global;
 use world_model::WorldEvent;
 
 /// A word with which a line of a script begins.
 #[derive(Drop)]
 pub(crate) enum Word {
-    Start,
-    Create,
-    Join,
+    /// Behind it stands a node alone.
+    Node(NodeWord),
+    /// Behind it stand a node and an address.
+    Pair(PairWord),
     Send,
     Deliver,
+}
+
+#[derive(Drop)]
+pub(crate) enum NodeWord {
+    Start,
+    Create,
     Tick,
-    Suspect,
-    Hint,
     Leave,
     Crash,
+}
+
+#[derive(Drop)]
+pub(crate) enum PairWord {
+    Join,
+    Suspect,
+    Hint,
 }
 
 pub(crate) fn word_of(name: &[u8]) -> Option<Word>
     ensures { result ≡ word_of name.now }
 {
     if is_word(name, b"start") {
-        Some(Word::Start)
+        Some(Word::Node(NodeWord::Start))
     } else if is_word(name, b"create") {
-        Some(Word::Create)
+        Some(Word::Node(NodeWord::Create))
     } else if is_word(name, b"join") {
-        Some(Word::Join)
+        Some(Word::Pair(PairWord::Join))
     } else if is_word(name, b"send") {
         Some(Word::Send)
     } else if is_word(name, b"deliver") {
         Some(Word::Deliver)
     } else if is_word(name, b"tick") {
-        Some(Word::Tick)
+        Some(Word::Node(NodeWord::Tick))
     } else if is_word(name, b"suspect") {
-        Some(Word::Suspect)
+        Some(Word::Pair(PairWord::Suspect))
     } else if is_word(name, b"hint") {
-        Some(Word::Hint)
+        Some(Word::Pair(PairWord::Hint))
     } else if is_word(name, b"leave") {
-        Some(Word::Leave)
+        Some(Word::Node(NodeWord::Leave))
     } else if is_word(name, b"crash") {
-        Some(Word::Crash)
+        Some(Word::Node(NodeWord::Crash))
     } else {
         None
     }
@@ -91,16 +103,6 @@ fn node_and_address(rest: Option<&[u8]>) -> Result<(Node, Address), Unheard>
     }
 }
 
-/// The payload that the rest of a line says.
-fn payload<P: Payloads>(alloc: Global, rest: Option<&[u8]>) -> Result<Bytes, Unheard>
-    ensures { IsReadUnlessRefused (λ x. x) result (payload_in P.payload_of (option_copied rest.entry)) }
-{
-    let Some(text) = rest else {
-        return Err(Unheard::Fault(Fault::MissingField));
-    };
-    P::payload(alloc, text)
-}
-
 /// The event of `send N TEXT`.
 fn sent<P: Payloads>(alloc: Global, rest: Option<&[u8]>) -> Result<WorldEvent, Unheard>
     ensures { IsReadUnlessRefused (λ x. x) result (sent P.payload_of (node_field (option_copied rest.entry))) }
@@ -108,9 +110,35 @@ fn sent<P: Payloads>(alloc: Global, rest: Option<&[u8]>) -> Result<WorldEvent, U
     match node_field(rest) {
         Err(fault) => Err(Unheard::Fault(fault)),
         Ok((node, behind)) => {
-            let bytes = payload::<P>(alloc, behind)?;
-            Ok(WorldEvent::Send(node, bytes))
+            let Some(text) = behind else {
+                return Err(Unheard::Fault(Fault::MissingField));
+            };
+            Ok(WorldEvent::Send(node, P::payload(alloc, text)?))
         }
+    }
+}
+
+/// The event of a word and a node.
+fn alone(word: NodeWord, node: Node) -> WorldEvent
+    ensures { result ≡ alone word node }
+{
+    match word {
+        NodeWord::Start => WorldEvent::Start(node),
+        NodeWord::Create => WorldEvent::Create(node),
+        NodeWord::Tick => WorldEvent::Tick(node),
+        NodeWord::Leave => WorldEvent::Leave(node),
+        NodeWord::Crash => WorldEvent::Crash(node),
+    }
+}
+
+/// The event of a word, a node and an address.
+fn paired(word: PairWord, node: Node, address: Address) -> WorldEvent
+    ensures { result ≡ paired word node address }
+{
+    match word {
+        PairWord::Join => WorldEvent::Join(node, address),
+        PairWord::Suspect => WorldEvent::Suspect(node, address),
+        PairWord::Hint => WorldEvent::MergeHint(node, address),
     }
 }
 
@@ -123,25 +151,13 @@ pub(crate) fn event_of<P: Payloads>(
     ensures { IsReadUnlessRefused (λ x. x) result (event_of P.payload_of word (option_copied rest.entry)) }
 {
     match word {
-        Word::Start => Ok(WorldEvent::Start(lone_node(rest)?)),
-        Word::Create => Ok(WorldEvent::Create(lone_node(rest)?)),
-        Word::Join => {
-            let (node, contact) = node_and_address(rest)?;
-            Ok(WorldEvent::Join(node, contact))
+        Word::Node(word) => Ok(alone(word, lone_node(rest)?)),
+        Word::Pair(word) => {
+            let (node, address) = node_and_address(rest)?;
+            Ok(paired(word, node, address))
         }
         Word::Send => sent::<P>(alloc, rest),
         Word::Deliver => Ok(WorldEvent::Deliver(lone_number(1, GREATEST_NUMBER, rest)?)),
-        Word::Tick => Ok(WorldEvent::Tick(lone_node(rest)?)),
-        Word::Suspect => {
-            let (node, address) = node_and_address(rest)?;
-            Ok(WorldEvent::Suspect(node, address))
-        }
-        Word::Hint => {
-            let (node, address) = node_and_address(rest)?;
-            Ok(WorldEvent::MergeHint(node, address))
-        }
-        Word::Leave => Ok(WorldEvent::Leave(lone_node(rest)?)),
-        Word::Crash => Ok(WorldEvent::Crash(lone_node(rest)?)),
     }
 }
 

@@ -1,10 +1,10 @@
 ghost use Rattle.std.specs.Prelude.{◌≡◌, MatchResult};
 ghost use Rattle.std.specs.Option.{option_copied};
-ghost use Rattle.vsync_text.specs.UdpScript.{node_event, numbered, udp_said, udp_script_of};
+ghost use Rattle.vsync_text.specs.UdpScript.{numbered, udp_said, udp_script_of};
 ghost use Rattle.vsync_text.specs.Texts.{and_then, reading_by, HasRead, IsReadUnlessRefused, IsUnread};
 
 use crate::field::{first_field, first_line, lone_number};
-use crate::script_line::{Word, event_of, is_skipped, word_of};
+use crate::script_line::{NodeWord, Word, event_of, is_skipped, word_of};
 use crate::{AsWritten, Fault, Unheard, Unread, is_word};
 use address::limits::SCRIPT_LINE;
 use std::alloc::{AllocError, Global};
@@ -39,17 +39,7 @@ pub struct UdpLine {
     pub event: UdpEvent,
 }
 
-/// The event of a node that a line's first word and the rest of it spell: none of a delivery and a tick, which are the net's and the rounds' here.
-fn node_event(alloc: Global, name: &[u8], rest: Option<&[u8]>) -> Result<WorldEvent, Unheard>
-    ensures { IsReadUnlessRefused (λ x. x) result (node_event name.now (option_copied rest.entry)) }
-{
-    match word_of(name) {
-        None | Some(Word::Deliver) | Some(Word::Tick) => Err(Unheard::Fault(Fault::UnknownWord)),
-        Some(word) => event_of::<AsWritten>(alloc, word, rest),
-    }
-}
-
-/// What a line says that is not skipped.
+/// What a line says that is not skipped. A delivery and a tick are no words: they are the net's and the rounds' here.
 fn said(alloc: Global, line: &[u8]) -> Result<UdpEvent, Unheard>
     ensures { IsReadUnlessRefused (λ x. x) result (udp_said line.now) }
 {
@@ -60,7 +50,12 @@ fn said(alloc: Global, line: &[u8]) -> Result<UdpEvent, Unheard>
     if is_word(name, b"rounds") {
         return Ok(UdpEvent::Rounds(lone_number(0, ROUNDS, rest)?));
     }
-    Ok(UdpEvent::Node(node_event(alloc, name, rest)?))
+    match word_of(name) {
+        None | Some(Word::Deliver) | Some(Word::Node(NodeWord::Tick)) => {
+            Err(Unheard::Fault(Fault::UnknownWord))
+        }
+        Some(word) => Ok(UdpEvent::Node(event_of::<AsWritten>(alloc, word, rest)?)),
+    }
 }
 
 /// Adds what a line of this number says.
