@@ -1,6 +1,6 @@
 -- How the number at the front of a text is read, digit by digit.
-use Rattle.std.proofs.Common.{◌≡◌, ℕ, ◌+◌, ◌-◌, ◌*◌, ◌<◌, ◌≤◌, ◌&&◌, true, false, List, [], ◌∷◌, None, Some, nat_le, refl, sym, ◌∙◌, ap, arith, if◌then◌else◌}
-use Rattle.std.proofs.lemmas.Bool.{le-leb, lt-leb, and_from}
+use Rattle.std.proofs.Common.{◌≡◌, ℕ, ◌+◌, ◌-◌, ◌*◌, ◌<◌, ◌≤◌, ◌&&◌, true, false, List, [], ◌∷◌, None, Some, nat_le, refl, sym, ◌∙◌, ap, arith, ⊎_elim, if◌then◌else◌}
+use Rattle.std.proofs.lemmas.Bool.{le-leb, lt-leb, and_from, cases_lt}
 use Rattle.std.specs.Char.{is_ascii_digit}
 use Rattle.std.specs.List.{list_all}
 use Rattle.vsync_text.specs.Numbers.{value_of, value_after, number_in, is_plain}
@@ -70,12 +70,12 @@ all_digits high v text rest e b led d r one most =
     let read : number_in 1 high (digits_of text) ≡ Some v = rw (plain, least, greatest) (ap Some value) in
     ap (λ n. with_behind n (behind_digits text)) read ∙ ap (λ t. Some (v, t)) (b ∙ r)
 
-pub is_zero : (high v : ℕ) (text rest : List ℕ) → value_of (digits_of text) ≡ value_after v (digits_of rest) → digits_of rest ≡ [] → v ≡ 0 → number_in_front high text ≡ None
-is_zero high v text rest e d z =
+-- the digits spell no number in the range
+pub outside : (high v : ℕ) (text rest : List ℕ) → value_of (digits_of text) ≡ value_after v (digits_of rest) → digits_of rest ≡ [] → (1 ≤ v → v ≤ high → ⊥) → number_in_front high text ≡ None
+outside high v text rest e d h =
     let value : value_of (digits_of text) ≡ v = e ∙ ap (value_after v) d in
-    nothing high text (below 1 high (digits_of text) (omega arith))
-
-pub is_above : (high v : ℕ) (text rest : List ℕ) → value_of (digits_of text) ≡ value_after v (digits_of rest) → digits_of rest ≡ [] → high < v → number_in_front high text ≡ None
-is_above high v text rest e d h =
-    let value : value_of (digits_of text) ≡ v = e ∙ ap (value_after v) d in
-    nothing high text (above 1 high (digits_of text) (omega arith))
+    nothing high text
+    (⊎_elim
+    (λ less. below 1 high (digits_of text) (omega arith))
+    (λ least. ⊎_elim (λ more. above 1 high (digits_of text) (omega arith)) (λ most. absurd (h least most)) (cases_lt high v))
+    (cases_lt v 1))

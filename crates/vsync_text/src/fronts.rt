@@ -48,10 +48,7 @@ pub(crate) fn number_in_front(high: u64, text: &[u8]) -> Option<(u64, &[u8])>
         value = value * 10 + u64::from(digit);
         rest = behind;
     }
-    if value == 0 {
-        return None;
-    }
-    if value > high {
+    if (value == 0) | (value > high) {
         return None;
     }
     Some((value, rest))

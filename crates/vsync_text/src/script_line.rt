@@ -78,28 +78,18 @@ fn lone_node(rest: Option<&[u8]>) -> Result<Node, Unheard>
     }
 }
 
-/// The address with which a line ends.
-#[tactic(auto, unfolding(crate::specs::Fields::last, crate::specs::Fields::end_at))]
-fn lone_address(rest: Option<&[u8]>) -> Result<Address, Unheard>
-    ensures { IsReadUnlessRefused (λ x. x) result (last (address_field (option_copied rest.entry))) }
-{
-    match address_field(rest) {
-        Ok((address, None)) => Ok(address),
-        Ok(_) => Err(Unheard::Fault(Fault::BadNumber)),
-        Err(fault) => Err(Unheard::Fault(fault)),
-    }
-}
-
 /// The node and the address with which a line ends.
+#[tactic(auto, unfolding(crate::specs::Fields::last, crate::specs::Fields::end_at))]
 fn node_and_address(rest: Option<&[u8]>) -> Result<(Node, Address), Unheard>
     ensures { IsReadUnlessRefused (λ x. x) result (node_and_address (option_copied rest.entry)) }
 {
     match node_field(rest) {
         Err(fault) => Err(Unheard::Fault(fault)),
-        Ok((node, behind)) => {
-            let address = lone_address(behind)?;
-            Ok((node, address))
-        }
+        Ok((node, behind)) => match address_field(behind) {
+            Ok((address, None)) => Ok((node, address)),
+            Ok(_) => Err(Unheard::Fault(Fault::BadNumber)),
+            Err(fault) => Err(Unheard::Fault(fault)),
+        },
     }
 }
 

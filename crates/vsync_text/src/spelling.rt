@@ -2,7 +2,7 @@
 
 ghost use Rattle.std.specs.Prelude.{◌≡◌, ◌≤◌, length, IfOk, IfSome};
 ghost use Rattle.view.specs.Members.{is_distinct};
-ghost use Rattle.vsync_text.specs.Spelling.{number_of_text, view_id_of_text, previous_of_text, short_of_hex, payload_of_text, view_of_text, together_of_text, message_of_text, AreShort, handed_back_of_text, given_of_text};
+ghost use Rattle.vsync_text.specs.Spelling.{view_id_of_text, previous_of_text, short_of_hex, payload_of_text, view_of_text, together_of_text, message_of_text, AreShort, handed_back_of_text, given_of_text};
 
 use crate::forms::{addresses_in, next_part};
 use crate::fronts::behind_mark;
@@ -15,13 +15,6 @@ use std::collections::BTreeSet;
 use trace_props::{HandedBack, Numbered};
 use view::{Addresses, View};
 
-/// The number of a message in its view.
-pub(crate) fn message_number_in(field: &[u8]) -> Option<u64>
-    ensures { result ≡ number_of_text field.now }
-{
-    number_in(1, GREATEST_NUMBER, field)
-}
-
 /// The view id that a field spells: `C@N.I`, a counter from 1 to `GREATEST_NUMBER` and an address; `None` where it is anything else (docs/FORMATS.md,
 /// "Trace text").
 #[tactic(auto, unfolding(crate::specs::Spelling::view_id_of_text))]
@@ -29,7 +22,7 @@ pub fn view_id_in(field: &[u8]) -> Option<ViewId>
     ensures { result ≡ view_id_of_text field.now }
 {
     let (counter, behind) = split_at_first(b'@', field);
-    let counter = message_number_in(counter)?;
+    let counter = number_in(1, GREATEST_NUMBER, counter)?;
     let creator = address_in(behind?)?;
     ViewId::new(counter, creator)
 }
@@ -128,7 +121,7 @@ fn message_in(alloc: Global, part: &[u8]) -> Result<Option<Numbered>, AllocError
     ensures short { IfOk result (λ read. IfSome read (λ m. length m.payload ≤ PAYLOAD)) }
 {
     let (number, behind) = split_at_first(b':', part);
-    let (Some(number), Some(digits)) = (message_number_in(number), behind) else {
+    let (Some(number), Some(digits)) = (number_in(1, GREATEST_NUMBER, number), behind) else {
         return Ok(None);
     };
     match short_in(alloc, digits)? {
