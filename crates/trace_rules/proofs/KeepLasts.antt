@@ -2,8 +2,8 @@
 use Rattle.std.proofs.Common.{◌≡◌, ℕ, ◌+◌, ◌<◌, ◌≤◌, Bool, true, false, List, [], ◌∷◌, ◌++◌, length, set, not, cond, nat_lt, None, Some, refl, sym, ◌∙◌, ap, zero, suc, arith, if◌then◌else◌}
 use Rattle.std.proofs.lemmas.Bool.{false_from_ne_true, false≢true}
 use Rattle.std.proofs.lemmas.Bool.Decides.{nat_tests}
-use Rattle.std.specs.List.{position_or_len}
-use Rattle.std.specs.Prelude.{position}
+use Rattle.std.specs.List.{position_or_len, position_from}
+use Rattle.std.proofs.lemmas.Iterator.Adapters.{position_from-zero}
 use Rattle.address.specs.Ids.{Address, same_address}
 use Rattle.address.proofs.SameIds.{same_address-true, same_address-from}
 use Rattle.trace_rules.specs.declared.known.lasts.Last.{Last}
@@ -67,14 +67,20 @@ kept_push (l ∷ ls) p q n i e h =
           ap (λ k. if same_address l.sender q then l.number else k) (kept_push ls p q n (position_or_len (is_of p) ls) refl (omega arith)) ∙ passed l.sender p q l.number n (number_of ls q) o
     ] refl e
 
+-- a place that is found is one
+pub place_within : (ls : List Last) (p : Address) (i : ℕ) → Some i ≡ position_from (is_of p) 0 ls → i < length ls
+place_within ls p i e =
+    let at = some_at (position_or_len (is_of p) ls) (length ls) i (e ∙ sym (position_from-zero (is_of p) ls)) in
+    omega (arith, at.0, at.1)
+
 -- a number is kept where the sender's stands
-pub kept_at : (ls : List Last) (p q : Address) (n i : ℕ) → Some i ≡ position (is_of p) ls
+pub kept_at : (ls : List Last) (p q : Address) (n i : ℕ) → Some i ≡ position_from (is_of p) 0 ls
     → number_of (set ls i (record { sender = p; number = n })) q ≡ (if same_address p q then n else number_of ls q)
 kept_at ls p q n i e =
-    let at = some_at (position_or_len (is_of p) ls) (length ls) i e in
+    let at = some_at (position_or_len (is_of p) ls) (length ls) i (e ∙ sym (position_from-zero (is_of p) ls)) in
     kept_set ls p q n i at.0 (omega (arith, at.0, at.1))
 
 -- a number is kept behind all others
-pub kept_behind : (ls : List Last) (p q : Address) (n : ℕ) → None ≡ position (is_of p) ls
+pub kept_behind : (ls : List Last) (p q : Address) (n : ℕ) → None ≡ position_from (is_of p) 0 ls
     → number_of (ls ++ record { sender = p; number = n } ∷ []) q ≡ (if same_address p q then n else number_of ls q)
-kept_behind ls p q n e = kept_push ls p q n (position_or_len (is_of p) ls) refl (none_at (position_or_len (is_of p) ls) (length ls) e)
+kept_behind ls p q n e = kept_push ls p q n (position_or_len (is_of p) ls) refl (none_at (position_or_len (is_of p) ls) (length ls) (e ∙ sym (position_from-zero (is_of p) ls)))

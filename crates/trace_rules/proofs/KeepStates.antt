@@ -2,18 +2,16 @@
 use Rattle.std.proofs.Common.{◌≡◌, ℕ, ◌≤◌, Bool, true, false, cond, List, [], ◌∷◌, ◌++◌, length, Option, Some, None, unwrap_or, option_map, option_and_then, sym, refl, ap, ◌∙◌, subst}
 use Rattle.std.specs.Option.{option_or}
 use Rattle.std.proofs.lemmas.Bool.{cond-true, cond-false}
-use Rattle.std.proofs.lemmas.Option.{none-some, same_Some}
+use Rattle.std.proofs.lemmas.Option.{same_Some}
 use Rattle.address.specs.Ids.{Address, ViewId, IsAddress, same_address}
 use Rattle.state_transfer.specs.Meanings.{Meaning}
 use Rattle.address.specs.declared.limits.TheConstants.{PAYLOAD}
 use Rattle.trace_props.specs.declared.event.Event.{Event}
-use Rattle.trace_props.specs.declared.event.Event.TheVariants.{Started, Sent, Delivered, Blocked, Installed, Left, Crashed}
+use Rattle.trace_props.specs.declared.event.Event.TheVariants.{Delivered, Installed}
 use Rattle.trace_props.specs.declared.event.Install.{Install}
 use Rattle.trace_props.specs.declared.event.Delivery.{Delivery}
-use Rattle.trace_props.specs.Observed.{install_of}
 use Rattle.trace_props.specs.State.{state_after, state_of, installs, entry_state}
 use Rattle.trace_props.specs.Agreeing.{MayEnter}
-use Rattle.trace_rules.specs.Known.{delivery_of}
 use Rattle.trace_rules.specs.Copies.{KnowsStates}
 use Rattle.address.proofs.SameIds.{same_address-true}
 use Rattle.trace_props.proofs.RuleOfEntry.{state_of-push, entry_state-push}
@@ -44,16 +42,11 @@ knows-still meaning m e t h same none r = record {
 }
 
 -- an event that delivers nothing and installs nothing
-pub nothing-known : {S : Type 0} (meaning : Meaning S)
-    (m : Address → Option S) (e : ViewId → Option (List ℕ)) (t : List Event) (h : Event) → None ≡ delivery_of h → None ≡ install_of h
-    → KnowsStates meaning m e t → MayEnter meaning t h × KnowsStates meaning m e (t ++ h ∷ [])
-nothing-known meaning m e t (Started p) a b r = (tt, knows-still meaning m e t (Started p) (λ p. refl) (λ v. refl) r)
-nothing-known meaning m e t (Sent s) a b r = (tt, knows-still meaning m e t (Sent s) (λ p. refl) (λ v. refl) r)
-nothing-known meaning m e t (Delivered d) a b r = absurd (none-some d a)
-nothing-known meaning m e t (Blocked p) a b r = (tt, knows-still meaning m e t (Blocked p) (λ p. refl) (λ v. refl) r)
-nothing-known meaning m e t (Installed i) a b r = absurd (none-some i b)
-nothing-known meaning m e t (Left p) a b r = (tt, knows-still meaning m e t (Left p) (λ p. refl) (λ v. refl) r)
-nothing-known meaning m e t (Crashed p) a b r = (tt, knows-still meaning m e t (Crashed p) (λ p. refl) (λ v. refl) r)
+pub nothing-known : {S : Type 0} (meaning : Meaning S) (m : Address → Option S) (e : ViewId → Option (List ℕ)) (t : List Event) (h : Event)
+    → ((d : Delivery) → h ≡ Delivered d → ⊥) → ((i : Install) → h ≡ Installed i → ⊥) → KnowsStates meaning m e t → MayEnter meaning t h × KnowsStates meaning m e (t ++ h ∷ [])
+nothing-known meaning m e t (Delivered d) a b r = absurd (a d refl)
+nothing-known meaning m e t (Installed i) a b r = absurd (b i refl)
+nothing-known meaning m e t h a b r = (tt, knows-still meaning m e t h (λ p. refl) (λ v. refl) r)
 
 -- A MESSAGE
 

@@ -1,9 +1,8 @@
-pub mod TablesLookUp
 pub mod KeepStandings
-pub mod KeepMessages
+pub mod KeepInViews
+pub mod KeepInstalls
 pub mod TestsOfOneView
 pub mod TestsOfViewChanges
 pub mod KeepStates
 pub mod EntryStatesKept
-pub mod TestsOfEvents
 pub mod KeepLasts

@@ -1,23 +1,23 @@
 -- The tests decide the conditions on the next event: the rules that speak of one view at a time.
-use Rattle.std.proofs.Common.{◌≡◌, ℕ, ◌+◌, Bool, true, false, ◌&&◌, ◌||◌, not, List, length, Option, Some, None, is_some, slice_get, nat_eq, is_lt, sym, refl, ap, ◌∙◌, subst, eq-eqb, eqb-true}
+use Rattle.std.proofs.Common.{◌≡◌, ℕ, ◌+◌, Bool, true, false, ◌&&◌, ◌||◌, not, List, length, Option, Some, None, is_some, slice_get, nat_eq, is_lt, sym, refl, ap, ◌∙◌, subst}
 use Rattle.std.specs.Bool.{Decides}
 use Rattle.std.specs.Option.{ForSome}
 use Rattle.std.specs.Str.{bytes_eq}
 use Rattle.std.specs.Cmp.Lexicographic.{pointwise}
 use Rattle.std.specs.declared.cmp.Ordering.{Ordering}
 use Rattle.std.specs.declared.cmp.Ordering.TheVariants.{Less, Equal, Greater}
-use Rattle.std.proofs.lemmas.Bool.{and_from, and_parts, true≢false, not_from_false, not-true}
+use Rattle.std.proofs.lemmas.Bool.{true≢false, not_from_false, not-true}
+use Rattle.std.proofs.lemmas.Bool.Decides.{Decides-and, Decides-at, Decides-eqb}
 use Rattle.std.proofs.lemmas.Option.{none-some, same_Some}
 use Rattle.std.proofs.lemmas.Slice.Eq.{slice_eq-Decides, bytes_eq-Decides}
 use Rattle.address.specs.Ids.{Address, ViewId, same_address, view_id_cmp}
 use Rattle.view.specs.Members.{stands_in}
 use Rattle.trace_props.specs.declared.event.Event.{Event}
-use Rattle.trace_props.specs.declared.event.Event.TheVariants.{Started, Sent, Delivered, Blocked, Installed, Left, Crashed}
+use Rattle.trace_props.specs.declared.event.Event.TheVariants.{Started, Sent, Delivered, Blocked, Installed}
 use Rattle.trace_props.specs.declared.event.Numbered.{Numbered}
 use Rattle.trace_props.specs.declared.event.Message.{Message}
 use Rattle.trace_props.specs.declared.event.Install.{Install}
 use Rattle.trace_props.specs.declared.event.Delivery.{Delivery}
-use Rattle.trace_props.specs.declared.event.Sending.{Sending}
 use Rattle.trace_props.specs.Observed.{member_of, has_started, has_ended, current_view, is_blocked, delivered_in, sent_in, own, numbered, first_install}
 use Rattle.trace_props.specs.Rules.{IsRunning, MayStand, IsBelow}
 use Rattle.trace_props.specs.Following.{MayRise, MayCarry, MayOrder}
@@ -29,13 +29,13 @@ use Rattle.trace_props.proofs.RuleOfSameNext.{is_view-from, is_view-true}
 
 -- TESTS
 
--- two tests together
-pub and-decides : {P Q : Type 0} (a b : Bool) → Decides a P → Decides b Q → Decides (a && b) (P × Q)
-and-decides a b p q = ((λ e. let parts = and_parts a b e in (p.0 parts.0, q.0 parts.1)), (λ x. and_from a b (p.1 x.0) (q.1 x.1)))
-
 -- a test under the same condition
 pub same-decides : {P Q : Type 0} (a : Bool) → Decides a P → (P → Q) → (Q → P) → Decides a Q
 same-decides a p f g = ((λ e. f (p.0 e)), (λ x. p.1 (g x)))
+
+-- a test of an event that is this one
+pub of-event : (P : Event → Type 0) (h g : Event) (b c : Bool) → h ≡ g → b ≡ c → Decides c (P g) → Decides b (P h)
+of-event P h g b c e same d = Decides-at b c same (subst (λ (x : Event). Decides c (P x)) (sym e) d)
 
 -- a flag that is set, or is not
 true-decides : (a : Bool) → Decides a (a ≡ true)
@@ -43,9 +43,6 @@ true-decides a = ((λ e. e), (λ e. e))
 
 not-decides : (a : Bool) → Decides (not a) (a ≡ false)
 not-decides a = ((λ e. not-true a e), (λ e. not_from_false a e))
-
-pub nat_eq-decides : (a b : ℕ) → Decides (nat_eq a b) (a ≡ b)
-nat_eq-decides a b = ((λ e. eqb-true a b e), (λ e. eq-eqb a b e))
 
 is_view-decides : (v : ViewId) (o : Option ViewId) → Decides (is_view v o) (o ≡ Some v)
 is_view-decides v o = ((λ e. is_view-true v o e), (λ e. is_view-from v o e))
@@ -56,23 +53,20 @@ same_address-decides a b = ((λ e. same_address-true a b e), (λ e. same_address
 -- WELL PLACED
 
 runs-decides : (p : Address) (t : List Event) → Decides (runs (standing_of p t)) (IsRunning p t)
-runs-decides p t = same-decides (has_started p t && not (has_ended p t)) (and-decides (has_started p t) (not (has_ended p t)) (true-decides (has_started p t)) (not-decides (has_ended p t)))
+runs-decides p t = same-decides (has_started p t && not (has_ended p t)) (Decides-and (has_started p t) (not (has_ended p t)) (true-decides (has_started p t)) (not-decides (has_ended p t)))
     (λ x. record { started = x.0; going = x.1 }) (λ r. (r.started, r.going))
 
 -- three tests together
 pub and3-decides : {P Q R : Type 0} (a b c : Bool) → Decides a P → Decides b Q → Decides c R → Decides (a && b && c) (P × Q × R)
-and3-decides a b c p q r = same-decides (a && b && c) (and-decides (a && b) c (and-decides a b p q) r) (λ x. (x.0.0, x.0.1, x.1)) (λ x. ((x.0, x.1), x.2))
+and3-decides a b c p q r = same-decides (a && b && c) (Decides-and (a && b) c (Decides-and a b p q) r) (λ x. (x.0.0, x.0.1, x.1)) (λ x. ((x.0, x.1), x.2))
 
 -- the test decides whether an event may stand
 pub stands-decides : (t : List Event) (h : Event) → Decides (stands (standing_of (member_of h) t) h) (MayStand t h)
 stands-decides t (Started p) = not-decides (has_started p t)
-stands-decides t (Sent s) =
-    and3-decides (runs (standing_of s.member t)) (is_view s.view (current_view s.member t)) (not (is_blocked s.member t)) (runs-decides s.member t) (is_view-decides s.view (current_view s.member t)) (not-decides (is_blocked s.member t))
-stands-decides t (Delivered d) = and-decides (runs (standing_of d.member t)) (is_view d.view (current_view d.member t)) (runs-decides d.member t) (is_view-decides d.view (current_view d.member t))
-stands-decides t (Blocked p) = and3-decides (runs (standing_of p t)) (is_some (current_view p t)) (not (is_blocked p t)) (runs-decides p t) (true-decides (is_some (current_view p t))) (not-decides (is_blocked p t))
-stands-decides t (Installed i) = runs-decides i.member t
-stands-decides t (Left p) = runs-decides p t
-stands-decides t (Crashed p) = runs-decides p t
+stands-decides t (Sent s) = and3-decides _ _ _ (runs-decides s.member t) (is_view-decides s.view (current_view s.member t)) (not-decides (is_blocked s.member t))
+stands-decides t (Delivered d) = Decides-and _ _ (runs-decides d.member t) (is_view-decides d.view (current_view d.member t))
+stands-decides t (Blocked p) = and3-decides _ _ _ (runs-decides p t) (true-decides (is_some (current_view p t))) (not-decides (is_blocked p t))
+stands-decides t h = runs-decides (member_of h) t
 
 -- RISING VIEWS
 
@@ -100,7 +94,7 @@ members-decides (Some g) ms = same-decides (pointwise same_address g.view.member
 pub rises-decides : (t : List Event) (i : Install) → Decides (rises (current_view i.member t) (first_install i.view.id t) i) (MayRise t (Installed i))
 rises-decides t i =
     same-decides (rises (current_view i.member t) (first_install i.view.id t) i)
-    (and-decides (stands_in i.member i.view.members && same_previous i.previous (current_view i.member t) && is_below i.previous i.view.id) (has_members (first_install i.view.id t) i.view.members)
+    (Decides-and (stands_in i.member i.view.members && same_previous i.previous (current_view i.member t) && is_below i.previous i.view.id) (has_members (first_install i.view.id t) i.view.members)
     (and3-decides (stands_in i.member i.view.members) (same_previous i.previous (current_view i.member t)) (is_below i.previous i.view.id)
     (true-decides (stands_in i.member i.view.members)) (previous-decides i.previous (current_view i.member t)) (below-decides i.previous i.view.id))
     (members-decides (first_install i.view.id t) i.view.members))
@@ -110,31 +104,21 @@ rises-decides t i =
 -- SOUND MESSAGES
 
 -- equal in number and payload
-numbered-same : (n : Numbered) (m : Message) → n.number ≡ m.number → n.payload ≡ m.payload → n ≡ numbered m
-numbered-same n m a b = ap {B = Numbered} (λ (x : ℕ). record { number = x; payload = n.payload }) a ∙ ap {B = Numbered} (λ (x : List ℕ). record { number = m.number; payload = x }) b
-
-numbered-decides : (o : Option Numbered) (m : Message) → Decides (is_numbered o m) (o ≡ Some (numbered m))
-numbered-decides None m = ((λ e. absurd (true≢false (sym e))), (λ e. absurd (none-some (numbered m) e)))
+pub numbered-decides : (o : Option Numbered) (m : Numbered) → Decides (is_numbered o m) (o ≡ Some m)
+numbered-decides None m = ((λ e. absurd (true≢false (sym e))), (λ e. absurd (none-some m e)))
 numbered-decides (Some n) m =
     same-decides (nat_eq n.number m.number && bytes_eq n.payload m.payload)
-    (and-decides (nat_eq n.number m.number) (bytes_eq n.payload m.payload) (nat_eq-decides n.number m.number) (bytes_eq-Decides n.payload m.payload))
-    (λ x. ap Some (numbered-same n m x.0 x.1))
-    (λ e. let same = same_Some n (numbered m) e in (ap (λ y. y.number) same, ap (λ y. y.payload) same))
-
--- the test decides whether a message may be sent
-pub send-decides : (t : List Event) (s : Sending) → Decides (nat_eq s.message.number (length (sent_in s.member s.view t) + 1)) (MayCarry t (Sent s))
-send-decides t s = nat_eq-decides s.message.number (length (sent_in s.member s.view t) + 1)
+    (Decides-and (nat_eq n.number m.number) (bytes_eq n.payload m.payload) (Decides-eqb n.number m.number) (bytes_eq-Decides n.payload m.payload))
+    (λ x. ap {B = Option Numbered} (λ (a : ℕ). Some (record { number = a; payload = n.payload })) x.0 ∙ ap {B = Option Numbered} (λ (a : List ℕ). Some (record { number = m.number; payload = a })) x.1)
+    (λ e. let same = same_Some n m e in (ap (λ y. y.number) same, ap (λ y. y.payload) same))
 
 -- the test decides whether a message may be delivered
 pub deliver-decides : (t : List Event) (d : Delivery)
     → Decides
     (nat_eq d.message.number (length (own d.message.sender (delivered_in d.member d.view t)) + 1)
-    && is_numbered (slice_get (sent_in d.message.sender d.view t) (length (own d.message.sender (delivered_in d.member d.view t)))) d.message)
+    && is_numbered (slice_get (sent_in d.message.sender d.view t) (length (own d.message.sender (delivered_in d.member d.view t)))) (numbered d.message))
     (MayCarry t (Delivered d))
-deliver-decides t d =
-    and-decides (nat_eq d.message.number (length (own d.message.sender (delivered_in d.member d.view t)) + 1)) (is_numbered (slice_get (sent_in d.message.sender d.view t) (length (own d.message.sender (delivered_in d.member d.view t)))) d.message)
-    (nat_eq-decides d.message.number (length (own d.message.sender (delivered_in d.member d.view t)) + 1))
-    (numbered-decides (slice_get (sent_in d.message.sender d.view t) (length (own d.message.sender (delivered_in d.member d.view t)))) d.message)
+deliver-decides t d = Decides-and _ _ (Decides-eqb _ _) (numbered-decides _ (numbered d.message))
 
 -- ONE ORDER
 
@@ -148,7 +132,7 @@ message-decides : (o : Option Message) (m : Message) → Decides (is_message o m
 message-decides None m = ((λ e. absurd (true≢false (sym e))), (λ e. absurd (none-some m e)))
 message-decides (Some n) m =
     same-decides (same_address n.sender m.sender && nat_eq n.number m.number && bytes_eq n.payload m.payload)
-    (and3-decides (same_address n.sender m.sender) (nat_eq n.number m.number) (bytes_eq n.payload m.payload) (same_address-decides n.sender m.sender) (nat_eq-decides n.number m.number) (bytes_eq-Decides n.payload m.payload))
+    (and3-decides (same_address n.sender m.sender) (nat_eq n.number m.number) (bytes_eq n.payload m.payload) (same_address-decides n.sender m.sender) (Decides-eqb n.number m.number) (bytes_eq-Decides n.payload m.payload))
     (λ x. ap Some (message-same n m x.0 x.1 x.2))
     (λ e. let same = same_Some n m e in (ap (λ y. y.sender) same, ap (λ y. y.number) same, ap (λ y. y.payload) same))
 
@@ -160,9 +144,7 @@ else-decides false b p = ((λ e f. p.0 e), (λ x. p.1 (x refl)))
 -- the test decides whether a message keeps the order
 pub order-decides : (t : List Event) (d : Delivery)
     → Decides (same_address d.member d.view.creator || is_message (slice_get (delivered_in d.view.creator d.view t) (length (delivered_in d.member d.view t))) d.message) (MayOrder t (Delivered d))
-order-decides t d =
-    else-decides (same_address d.member d.view.creator) (is_message (slice_get (delivered_in d.view.creator d.view t) (length (delivered_in d.member d.view t))) d.message)
-    (message-decides (slice_get (delivered_in d.view.creator d.view t) (length (delivered_in d.member d.view t))) d.message)
+order-decides t d = else-decides _ _ (message-decides _ d.message)
 
 -- where the member is not the first one, the test asks what that one delivered
 pub order-else : (t : List Event) (d : Delivery) (a : Address) (e r : Bool) → a ≡ d.view.creator → e ≡ same_address d.member a → e ≡ false

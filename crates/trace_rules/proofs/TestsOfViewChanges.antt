@@ -2,11 +2,10 @@
 use Rattle.std.proofs.Common.{◌≡◌, ◌↔◌, ℕ, ◌+◌, ◌-◌, ◌<◌, ◌≤◌, suc, Bool, true, false, ◌&&◌, ◌||◌, not, List, [], ◌∷◌, length, drop, Option, Some, None, slice_get, nat_eq, sym, refl, ap, ◌∙◌, subst, below_more, length-drop, arith}
 use Rattle.std.specs.Bool.{Decides}
 use Rattle.std.specs.List.{list_all}
-use Rattle.std.specs.Str.{bytes_eq}
-use Rattle.std.proofs.lemmas.Slice.Eq.{bytes_eq-Decides}
 use Rattle.trace_props.specs.declared.event.Numbered.{Numbered}
 use Rattle.std.specs.Option.{ForSome}
 use Rattle.std.proofs.lemmas.Bool.{and_from, and_parts, or_left, or_right, true≢false, not-true}
+use Rattle.std.proofs.lemmas.Bool.Decides.{Decides-and, Decides-eqb}
 use Rattle.std.proofs.lemmas.Option.{none-some, same_Some}
 use Rattle.address.specs.Ids.{Address, ViewId, same_address}
 use Rattle.view.specs.Members.{stands_in}
@@ -16,10 +15,10 @@ use Rattle.trace_props.specs.declared.event.Install.{Install}
 use Rattle.trace_props.specs.Observed.{delivered_in, entry_of, first_install}
 use Rattle.trace_props.specs.Rules.{LiesWithin}
 use Rattle.trace_props.specs.Agreeing.{first_from, MayMeet, KnowEachOther, MayKnow}
-use Rattle.trace_rules.specs.Judged.{same_previous, is_level, meets, lies_within, inside_first, inside_previous, alike, know_each_other, knows_all, are_equal}
+use Rattle.trace_rules.specs.Judged.{same_previous, is_level, meets, lies_within, inside_first, inside_previous, alike, know_each_other, knows_all, is_numbered}
 use Rattle.trace_props.proofs.RulesAlongLists.{slice_get-drop}
 use Rattle.address.proofs.SameIds.{same_address-true, same_address-refl}
-use Rattle.trace_rules.proofs.TestsOfOneView.{and-decides, and3-decides, same-decides, nat_eq-decides, previous-decides}
+use Rattle.trace_rules.proofs.TestsOfOneView.{and3-decides, same-decides, previous-decides, numbered-decides}
 
 -- where nothing is to be met
 none-decides : {X : Type 0} (P : X → Type 0) → Decides true (ForSome None P)
@@ -34,7 +33,7 @@ one-decides b x P d = ((λ e y s. subst P (same_Some x y s) (d.0 e)), (λ f. d.1
 level-decides : (o : Option Install) (v : ViewId) (p : Address) (t : List Event) → Decides (is_level o v p t) (ForSome o (λ f. length (delivered_in f.member v t) ≡ length (delivered_in p v t)))
 level-decides None v p t = none-decides (λ f. length (delivered_in f.member v t) ≡ length (delivered_in p v t))
 level-decides (Some f) v p t = one-decides (nat_eq (length (delivered_in f.member v t)) (length (delivered_in p v t))) f (λ g. length (delivered_in g.member v t) ≡ length (delivered_in p v t))
-    (nat_eq-decides (length (delivered_in f.member v t)) (length (delivered_in p v t)))
+    (Decides-eqb (length (delivered_in f.member v t)) (length (delivered_in p v t)))
 
 meets-by : (o : Option ViewId) (i : Install) (t : List Event)
     → Decides (meets o i t) (ForSome o (λ v. ForSome (first_from v i.view.id t) (λ f. length (delivered_in f.member v t) ≡ length (delivered_in i.member v t))))
@@ -98,11 +97,10 @@ stands-decides q ms = ((λ e. e), (λ e. e))
 know-decides : (o : Option Install) (i : Install) → Decides (know_each_other o i) (ForSome o (KnowEachOther i))
 know-decides None i = none-decides (KnowEachOther i)
 know-decides (Some f) i =
+    let before = previous-decides f.previous i.previous in
     one-decides (know_each_other (Some f) i) f (KnowEachOther i)
     (same-decides (know_each_other (Some f) i)
-    (and-decides (alike (stands_in f.member i.together) (same_previous f.previous i.previous)) (alike (stands_in i.member f.together) (same_previous i.previous f.previous))
-    (alike-decides (stands_in f.member i.together) (same_previous f.previous i.previous) (stands-decides f.member i.together) (previous-decides f.previous i.previous))
-    (alike-decides (stands_in i.member f.together) (same_previous i.previous f.previous) (stands-decides i.member f.together) (previous-decides i.previous f.previous)))
+    (Decides-and _ _ (alike-decides _ _ (stands-decides f.member i.together) before) (alike-decides _ _ (stands-decides i.member f.together) (same-decides (same_previous f.previous i.previous) before sym sym)))
     (λ x. record { knows = x.0; known = x.1 })
     (λ r. (r.knows, r.known)))
 
@@ -110,7 +108,7 @@ know-decides (Some f) i =
 pub knows-decides : (t : List Event) (i : Install) → Decides (knows_all t i) (MayKnow t (Installed i))
 knows-decides t i =
     same-decides (knows_all t i)
-    (and-decides (lies_within i.together i.view.members && inside_previous i.previous i.together t && stands_in i.member i.together) (list_all (λ q. know_each_other (entry_of q i.view.id t) i) i.view.members)
+    (Decides-and (lies_within i.together i.view.members && inside_previous i.previous i.together t && stands_in i.member i.together) (list_all (λ q. know_each_other (entry_of q i.view.id t) i) i.view.members)
     (and3-decides (lies_within i.together i.view.members) (inside_previous i.previous i.together t) (stands_in i.member i.together)
     (within-decides i.together i.view.members) (inside_previous-decides i.previous i.together t) (stands-decides i.member i.together))
     (all-decides (λ q. know_each_other (entry_of q i.view.id t) i) (λ q. ForSome (entry_of q i.view.id t) (KnowEachOther i)) (λ q. know-decides (entry_of q i.view.id t) i) i.view.members))
@@ -127,25 +125,16 @@ same-places (x ∷ xs) [] e f = absurd (omega arith)
 same-places {X} (x ∷ xs) (y ∷ ys) e f =
     ap (λ (z : X). z ∷ xs) (same_Some x y (f 0 (omega arith))) ∙ ap (λ (l : List X). y ∷ l) (same-places xs ys (omega arith) (λ k l. f (suc k) (omega arith)))
 
--- equal in number and payload
-equal-decides : (o : Option Numbered) (m : Numbered) → Decides (are_equal o m) (o ≡ Some m)
-equal-decides None m = ((λ e. absurd (true≢false (sym e))), (λ e. absurd (none-some m e)))
-equal-decides (Some n) m =
-    same-decides (nat_eq n.number m.number && bytes_eq n.payload m.payload)
-    (and-decides (nat_eq n.number m.number) (bytes_eq n.payload m.payload) (nat_eq-decides n.number m.number) (bytes_eq-Decides n.payload m.payload))
-    (λ x. ap {B = Option Numbered} (λ (a : ℕ). Some (record { number = a; payload = n.payload })) x.0 ∙ ap {B = Option Numbered} (λ (a : List ℕ). Some (record { number = m.number; payload = a })) x.1)
-    (λ e. let same = same_Some n m e in (ap (λ y. y.number) same, ap (λ y. y.payload) same))
-
 -- one message that is another than what was sent there
-pub rest-differs : (ms sent : List Numbered) (start k : ℕ) (m : Numbered) (b : Bool) → slice_get ms k ≡ Some m → b ≡ are_equal (slice_get sent (start + k)) m → b ≡ false → ms ≡ drop start sent → false ≡ true
+pub rest-differs : (ms sent : List Numbered) (start k : ℕ) (m : Numbered) (b : Bool) → slice_get ms k ≡ Some m → b ≡ is_numbered (slice_get sent (start + k)) m → b ≡ false → ms ≡ drop start sent → false ≡ true
 rest-differs ms sent start k m b s test apart e =
-    sym apart ∙ test ∙ (equal-decides (slice_get sent (start + k)) m).1 (sym (slice_get-drop start sent k) ∙ ap (λ l. slice_get l k) (sym e) ∙ s)
+    sym apart ∙ test ∙ (numbered-decides (slice_get sent (start + k)) m).1 (sym (slice_get-drop start sent k) ∙ ap (λ l. slice_get l k) (sym e) ∙ s)
 
 -- one more message that is what was sent there
-pub rest-more : (ms sent : List Numbered) (start i : ℕ) (m : Numbered) (b : Bool) → slice_get ms i ≡ Some m → b ≡ are_equal (slice_get sent (start + i)) m → b ≡ true
+pub rest-more : (ms sent : List Numbered) (start i : ℕ) (m : Numbered) (b : Bool) → slice_get ms i ≡ Some m → b ≡ is_numbered (slice_get sent (start + i)) m → b ≡ true
     → ((k : ℕ) → k < i → slice_get ms k ≡ slice_get sent (start + k)) → (k : ℕ) → k < i + 1 → slice_get ms k ≡ slice_get sent (start + k)
 rest-more ms sent start i m b s test holds below =
-    below_more (λ k. slice_get ms k ≡ slice_get sent (start + k)) i below (s ∙ sym ((equal-decides (slice_get sent (start + i)) m).0 (sym test ∙ holds)))
+    below_more (λ k. slice_get ms k ≡ slice_get sent (start + k)) i below (s ∙ sym ((numbered-decides (slice_get sent (start + i)) m).0 (sym test ∙ holds)))
 
 -- all that was sent there
 pub rest-all : (ms sent : List Numbered) (start i : ℕ) → length ms ≡ length sent - start → length ms ≤ i → ((k : ℕ) → k < i → slice_get ms k ≡ slice_get sent (start + k)) → ms ≡ drop start sent

@@ -7,7 +7,7 @@ use Rattle.std.specs.Cmp.Lexicographic.{pointwise}
 use Rattle.address.specs.Ids.{Address, ViewId, same_address, same_view_id, view_id_cmp}
 use Rattle.view.specs.Members.{stands_in}
 use Rattle.trace_props.specs.declared.event.Event.{Event}
-use Rattle.trace_props.specs.declared.event.Event.TheVariants.{Started, Sent, Delivered, Blocked, Installed, Left, Crashed}
+use Rattle.trace_props.specs.declared.event.Event.TheVariants.{Started, Sent, Delivered, Blocked}
 use Rattle.trace_props.specs.declared.event.Numbered.{Numbered}
 use Rattle.trace_props.specs.declared.event.Message.{Message}
 use Rattle.trace_props.specs.declared.event.Install.{Install}
@@ -26,9 +26,7 @@ stands s (Started p) = not s.started
 stands s (Sent m) = runs s && is_view m.view s.view && not s.blocked
 stands s (Delivered d) = runs s && is_view d.view s.view
 stands s (Blocked p) = runs s && is_some s.view && not s.blocked
-stands s (Installed i) = runs s
-stands s (Left p) = runs s
-stands s (Crashed p) = runs s
+stands s h = runs s
 
 -- RISING VIEWS
 
@@ -49,9 +47,10 @@ has_members (Some f) members = pointwise same_address f.view.members members
 abbrev pub rises : Option ViewId → Option Install → Install → Bool
 rises current first i = stands_in i.member i.view.members && same_previous i.previous current && is_below i.previous i.view.id && has_members first i.view.members
 
--- SOUND MESSAGES
+-- SOUND MESSAGES AND HANDED BACK
 
-abbrev pub is_numbered : Option Numbered → Message → Bool
+-- equal in number and payload
+abbrev pub is_numbered : Option Numbered → Numbered → Bool
 is_numbered None m = false
 is_numbered (Some n) m = nat_eq n.number m.number && bytes_eq n.payload m.payload
 
@@ -77,6 +76,7 @@ meets (Some v) i t = is_level (first_from v i.view.id t) v i.member t
 abbrev pub lies_within : List Address → List Address → Bool
 lies_within ps qs = list_all (λ q. stands_in q qs) ps
 
+-- in the members of the first install of the view, if there is one
 abbrev pub inside_first : Option Install → List Address → Bool
 inside_first None together = true
 inside_first (Some f) together = lies_within together f.view.members
@@ -92,15 +92,9 @@ alike false b = not b
 
 abbrev pub know_each_other : Option Install → Install → Bool
 know_each_other None i = true
-know_each_other (Some f) i = alike (stands_in f.member i.together) (same_previous f.previous i.previous) && alike (stands_in i.member f.together) (same_previous i.previous f.previous)
+know_each_other (Some f) i = alike (stands_in f.member i.together) (same_previous f.previous i.previous) && alike (stands_in i.member f.together) (same_previous f.previous i.previous)
 
 abbrev pub knows_all : List Event → Install → Bool
 knows_all t i =
     lies_within i.together i.view.members && inside_previous i.previous i.together t && stands_in i.member i.together
     && list_all (λ q. know_each_other (entry_of q i.view.id t) i) i.view.members
-
--- HANDED BACK
-
-abbrev pub are_equal : Option Numbered → Numbered → Bool
-are_equal None m = false
-are_equal (Some n) m = nat_eq n.number m.number && bytes_eq n.payload m.payload

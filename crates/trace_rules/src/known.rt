@@ -8,8 +8,7 @@ mod standing;
 mod states;
 mod tables;
 
-pub use in_views::{InView, delivered_at, delivered_count, last, sent_at};
-pub use notes::{delivery_in, install_in, sending_in};
+pub use in_views::{InView, delivered_at, delivered_count, entry, last, sent_at, sent_count};
 pub use past::Past;
 pub use standing::{Standing, member};
 pub use states::States;

@@ -8,7 +8,7 @@ use super::messages::{may_deliver, may_send};
 use super::placed::may_stand;
 use super::rest::may_hand_back;
 use super::views::may_rise;
-use crate::known::{Past, delivery_in, install_in, sending_in};
+use crate::known::Past;
 use trace_props::Event;
 
 /// Whether an event after the past keeps the rule *well placed* (docs/GUARANTEES.md, "The eight rules").
@@ -22,9 +22,9 @@ pub fn keeps_placed(past: &Past, event: &Event) -> bool
 pub fn keeps_views(past: &Past, event: &Event) -> bool
     ensures { Decides result (MayRise past.now event.now) }
 {
-    match install_in(event) {
-        None => true,
-        Some(install) => may_rise(past, install),
+    match event {
+        Event::Installed(install) => may_rise(past, install.get()),
+        _ => true,
     }
 }
 
@@ -33,12 +33,10 @@ pub fn keeps_messages(past: &Past, event: &Event) -> (bool, bool)
     ensures messages { Decides result.0 (MayCarry past.now event.now) }
     ensures order { Decides result.1 (MayOrder past.now event.now) }
 {
-    match sending_in(event) {
-        Some(sending) => (may_send(past, sending), true),
-        None => match delivery_in(event) {
-            None => (true, true),
-            Some(delivery) => may_deliver(past, delivery),
-        },
+    match event {
+        Event::Sent(sending) => (may_send(past, sending), true),
+        Event::Delivered(delivery) => may_deliver(past, delivery),
+        _ => (true, true),
     }
 }
 
@@ -46,9 +44,9 @@ pub fn keeps_messages(past: &Past, event: &Event) -> (bool, bool)
 pub fn keeps_next(past: &Past, event: &Event) -> bool
     ensures { Decides result (MayMeet past.now event.now) }
 {
-    match install_in(event) {
-        None => true,
-        Some(install) => may_meet(past, install),
+    match event {
+        Event::Installed(install) => may_meet(past, install.get()),
+        _ => true,
     }
 }
 
@@ -56,9 +54,9 @@ pub fn keeps_next(past: &Past, event: &Event) -> bool
 pub fn keeps_together(past: &Past, event: &Event) -> bool
     ensures { Decides result (MayKnow past.now event.now) }
 {
-    match install_in(event) {
-        None => true,
-        Some(install) => may_know(past, install),
+    match event {
+        Event::Installed(install) => may_know(past, install.get()),
+        _ => true,
     }
 }
 
@@ -66,8 +64,8 @@ pub fn keeps_together(past: &Past, event: &Event) -> bool
 pub fn keeps_handed_back(past: &Past, event: &Event) -> bool
     ensures { Decides result (MayHandBack past.now event.now) }
 {
-    match install_in(event) {
-        None => true,
-        Some(install) => may_hand_back(past, install),
+    match event {
+        Event::Installed(install) => may_hand_back(past, install.get()),
+        _ => true,
     }
 }

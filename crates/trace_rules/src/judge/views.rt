@@ -1,7 +1,5 @@
 ghost use Rattle.std.specs.Prelude.{◌≡◌};
 ghost use Rattle.std.specs.Option.{option_copied};
-ghost use Rattle.std.specs.Cmp.Lexicographic.{pointwise};
-ghost use Rattle.address.specs.Ids.{same_address};
 ghost use Rattle.trace_props.specs.Observed.{current_view, first_install};
 ghost use Rattle.trace_rules.specs.Judged.{same_previous, is_below, has_members, rises};
 
@@ -31,18 +29,12 @@ fn goes_up(from: Option<ViewId>, to: ViewId) -> bool
     }
 }
 
-fn are_same(one: &[Address], other: &[Address]) -> bool
-    ensures { result ≡ pointwise same_address one.now other.now }
-{
-    one == other
-}
-
 fn has_same(first: Option<&Install>, members: &[Address]) -> bool
     ensures { result ≡ has_members (option_copied first.entry) members.now }
 {
     match first {
         None => true,
-        Some(first) => are_same(first.view.members().as_slice(), members),
+        Some(first) => first.view.members().as_slice() == members,
     }
 }
 

@@ -1,19 +1,22 @@
-ghost use Rattle.std.specs.Prelude.{◌≡◌, ◌++◌, ◌∷◌, [], if◌then◌else◌, OnOk, length, slice_get, None, Some};
+ghost use Rattle.std.specs.Prelude.{◌≡◌, ◌++◌, ◌∷◌, [], List, if◌then◌else◌, OnOk, length, slice_get, None, Some};
 ghost use Rattle.std.specs.Option.{option_copied};
 ghost use Rattle.std.specs.HashMap.{get};
-ghost use Rattle.address.specs.Ids.{Address, same_address};
+ghost use Rattle.address.specs.Ids.{Address, ViewId};
+ghost use Rattle.trace_props.specs.declared.event.Event.{Event};
+ghost use Rattle.trace_props.specs.Following.{MayCarry};
 ghost use Rattle.trace_rules.specs.declared.known.keys.MemberInView.{MemberInView};
-ghost use Rattle.trace_rules.specs.Known.{same_in_view, sent_kept, delivered_kept, last_kept};
+ghost use Rattle.trace_rules.specs.Known.{place_of, same_in_view, entry_kept, sent_kept, delivered_kept, last_kept, Says, Follows, KnowsInViews};
 
 use super::keys::MemberInView;
 use super::lasts::{Last, keep_last, last_of};
 use address::Address;
 use std::alloc::{AllocError, Global};
 use std::collections::HashMap;
-use trace_props::{Message, Numbered};
+use trace_props::{Event, Install, Message, Numbered};
 
-/// What a member sent and delivered in a view, and the number of the last message of each sender that it delivered.
+/// What a member did in a view: its install of it, what it sent and delivered, and the number of the last message of each sender that it delivered.
 pub struct InView<'a> {
+    pub entry: Option<&'a Install>,
     pub sent: Vec<&'a Numbered>,
     pub delivered: Vec<&'a Message>,
     pub lasts: Vec<Last>,
@@ -22,6 +25,7 @@ pub struct InView<'a> {
 impl Drop for InView<'_> {
     fn drop(self) {
         let InView {
+            entry: _,
             sent: _,
             delivered: _,
             lasts: _,
@@ -30,38 +34,39 @@ impl Drop for InView<'_> {
 }
 
 impl<'a> InView<'a> {
-    /// Nothing sent and nothing delivered. Takes no memory.
-    pub fn new(alloc: Global) -> InView<'a>
-        ensures sent { sent_kept (Some result) ≡ [] }
-        ensures delivered { delivered_kept (Some result) ≡ [] }
-        ensures last { (sender : Address) → last_kept (Some result) sender ≡ 0 }
+    /// Nothing. Takes no memory.
+    fn new(alloc: Global) -> InView<'a>
+        ensures { (p : Address) (v : ViewId) (t : List Event) → Says None p v t → Says (Some result) p v t }
     {
         InView {
+            entry: None,
             sent: Vec::new(alloc),
             delivered: Vec::new(alloc),
             lasts: Vec::new(alloc),
         }
     }
 
-    /// Adds a message that is sent.
-    pub fn send(&mut self, message: &'a Numbered) -> Result<(), AllocError>
-        ensures sent { OnOk result (sent_kept (Some self.new) ≡ sent_kept (Some self.old) ++ message.now ∷ []) }
-        ensures delivered { OnOk result (delivered_kept (Some self.new) ≡ delivered_kept (Some self.old)) }
-        ensures last { OnOk result ((sender : Address) → last_kept (Some self.new) sender ≡ last_kept (Some self.old) sender) }
+    /// Adds what the member did next in the view.
+    fn add(&mut self, event: &'a Event) -> Result<(), AllocError>
+        ensures { OnOk result ((t : List Event) → MayCarry t event.now → Follows (Some self.old) (Some self.new) t event.now) }
     {
-        self.sent.push(message)?;
-        Ok(())
-    }
-
-    /// Adds a message that is delivered.
-    pub fn deliver(&mut self, message: &'a Message) -> Result<(), AllocError>
-        ensures sent { OnOk result (sent_kept (Some self.new) ≡ sent_kept (Some self.old)) }
-        ensures delivered { OnOk result (delivered_kept (Some self.new) ≡ delivered_kept (Some self.old) ++ message.now ∷ []) }
-        ensures last { OnOk result ((sender : Address) → last_kept (Some self.new) sender ≡ (if same_address message.now.sender sender then message.now.number else last_kept (Some self.old) sender)) }
-    {
-        keep_last(&mut self.lasts, message.sender, message.number)?;
-        self.delivered.push(message)?;
-        Ok(())
+        match event {
+            Event::Sent(sending) => {
+                self.sent.push(&sending.message)?;
+                Ok(())
+            }
+            Event::Delivered(delivery) => {
+                let message = &delivery.message;
+                keep_last(&mut self.lasts, message.sender, message.number)?;
+                self.delivered.push(message)?;
+                Ok(())
+            }
+            Event::Installed(install) => {
+                self.entry = self.entry.or(Some(install.get()));
+                Ok(())
+            }
+            _ => Ok(()),
+        }
     }
 }
 
@@ -115,6 +120,40 @@ pub fn last(in_view: Option<&InView>, sender: Address) -> u64
     }
 }
 
+/// A member's install of a view.
+pub fn entry<'a>(in_view: Option<&InView<'a>>) -> Option<&'a Install>
+    ensures { option_copied result ≡ entry_kept (option_copied in_view.entry) }
+{
+    match in_view {
+        None => None,
+        Some(kept) => kept.entry,
+    }
+}
+
+// The member that does something in a view, and the view.
+fn place_of(event: &Event) -> Option<MemberInView>
+    ensures { result ≡ place_of event.now }
+{
+    match event {
+        Event::Sent(sending) => Some(MemberInView {
+            member: sending.member,
+            view: sending.view,
+        }),
+        Event::Delivered(delivery) => Some(MemberInView {
+            member: delivery.member,
+            view: delivery.view,
+        }),
+        Event::Installed(install) => {
+            let install = install.get();
+            Some(MemberInView {
+                member: install.member,
+                view: install.view.id(),
+            })
+        }
+        _ => None,
+    }
+}
+
 // Keeps what a member did first in a view.
 fn begin<'a>(
     in_views: &mut HashMap<MemberInView, InView<'a>>,
@@ -127,44 +166,22 @@ fn begin<'a>(
     Ok(())
 }
 
-/// Keeps a message that a member sends in a view.
-pub fn note_sent<'a>(
+/// Keeps what a member does next in a view; a message that it delivers is its sender's next.
+pub fn note_in_view<'a>(
     alloc: Global,
     in_views: &mut HashMap<MemberInView, InView<'a>>,
-    in_view: MemberInView,
-    message: &'a Numbered,
+    event: &'a Event,
 ) -> Result<(), AllocError>
-    ensures sent { OnOk result ((other : MemberInView) → sent_kept (get same_in_view in_views.new other) ≡ (if same_in_view in_view other then sent_kept (get same_in_view in_views.old other) ++ message.now ∷ [] else sent_kept (get same_in_view in_views.old other))) }
-    ensures delivered { OnOk result ((other : MemberInView) → delivered_kept (get same_in_view in_views.new other) ≡ delivered_kept (get same_in_view in_views.old other)) }
-    ensures last { OnOk result ((other : MemberInView) (sender : Address) → last_kept (get same_in_view in_views.new other) sender ≡ last_kept (get same_in_view in_views.old other) sender) }
+    ensures { OnOk result ((t : List Event) → MayCarry t event.now → KnowsInViews (get same_in_view in_views.old) t → KnowsInViews (get same_in_view in_views.new) (t ++ event.now ∷ [])) }
 {
+    let Some(in_view) = place_of(event) else {
+        return Ok(());
+    };
     match in_views.get_mut(&in_view) {
-        Some(kept) => kept.send(message),
+        Some(kept) => kept.add(event),
         None => {
             let mut first = InView::new(alloc);
-            first.send(message)?;
-            begin(in_views, in_view, first)
-        }
-    }
-}
-
-/// Keeps a message that a member delivers in a view.
-pub fn note_delivered<'a>(
-    alloc: Global,
-    in_views: &mut HashMap<MemberInView, InView<'a>>,
-    in_view: MemberInView,
-    message: &'a Message,
-) -> Result<(), AllocError>
-    ensures sent { OnOk result ((other : MemberInView) → sent_kept (get same_in_view in_views.new other) ≡ sent_kept (get same_in_view in_views.old other)) }
-    ensures delivered { OnOk result ((other : MemberInView) → delivered_kept (get same_in_view in_views.new other) ≡ (if same_in_view in_view other then delivered_kept (get same_in_view in_views.old other) ++ message.now ∷ [] else delivered_kept (get same_in_view in_views.old other))) }
-    ensures last { OnOk result ((other : MemberInView) (sender : Address) → last_kept (get same_in_view in_views.new other) sender
-        ≡ (if same_in_view in_view other then (if same_address message.now.sender sender then message.now.number else last_kept (get same_in_view in_views.old other) sender) else last_kept (get same_in_view in_views.old other) sender)) }
-{
-    match in_views.get_mut(&in_view) {
-        Some(kept) => kept.deliver(message),
-        None => {
-            let mut first = InView::new(alloc);
-            first.deliver(message)?;
+            first.add(event)?;
             begin(in_views, in_view, first)
         }
     }

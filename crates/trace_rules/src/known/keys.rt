@@ -7,8 +7,8 @@ use std::hash::{Hash, Hasher};
 /// A member in a view.
 #[derive(Clone, Copy, PartialEq, Eq)]
 pub struct MemberInView {
-    pub view: ViewId,
     pub member: Address,
+    pub view: ViewId,
 }
 
 /// An address as one number.
@@ -39,6 +39,6 @@ impl Hash for MemberInView {
 /// A change of view: from one to the next.
 #[derive(Clone, Copy, PartialEq, Eq, Hash)]
 pub struct ViewChange {
-    pub from: ViewId,
     pub to: ViewId,
+    pub from: ViewId,
 }

@@ -1,4 +1,5 @@
-ghost use Rattle.std.specs.Prelude.{◌≡◌, OnOk, position, if◌then◌else◌};
+ghost use Rattle.std.specs.Prelude.{◌≡◌, OnOk, if◌then◌else◌};
+ghost use Rattle.std.specs.List.{position_from};
 ghost use Rattle.address.specs.Ids.{Address, same_address};
 ghost use Rattle.trace_rules.specs.Lasts.{number_of};
 
@@ -26,9 +27,14 @@ pub fn last_of(lasts: &[Last], sender: Address) -> u64
 
 // Where the first stands that is kept for a sender.
 fn place_of(lasts: &[Last], sender: Address) -> Option<usize>
-    ensures { result ≡ position (λ l. same_address l.sender sender) lasts.now }
+    ensures { result ≡ position_from (λ l. same_address l.sender sender) 0 lasts.now }
 {
-    lasts.iter().position(|last| last.sender == sender)
+    for (index, last) in lasts.iter().enumerate() {
+        if last.sender == sender {
+            return Some(index);
+        }
+    }
+    None
 }
 
 /// Keeps a number for a sender, in place of the one before.

@@ -3,7 +3,7 @@ ghost use Rattle.std.specs.HashMap.{get};
 ghost use Rattle.address.specs.Ids.{Address, same_address};
 ghost use Rattle.trace_props.specs.declared.event.Event.{Event};
 ghost use Rattle.trace_props.specs.Observed.{member_of};
-ghost use Rattle.trace_rules.specs.Known.{stood, standing_after, leaves_standing, KnowsStandings};
+ghost use Rattle.trace_rules.specs.Known.{stood, standing_after, KnowsStandings};
 
 use address::{Address, ViewId};
 use std::alloc::AllocError;
@@ -43,8 +43,7 @@ pub fn after(standing: Standing, event: &Event) -> Standing
             started: true,
             ..standing
         },
-        Event::Sent(_) => standing,
-        Event::Delivered(_) => standing,
+        Event::Sent(_) | Event::Delivered(_) => standing,
         Event::Blocked(_) => Standing {
             blocked: true,
             ..standing
@@ -54,11 +53,7 @@ pub fn after(standing: Standing, event: &Event) -> Standing
             view: Some(install.get().view.id()),
             ..standing
         },
-        Event::Left(_) => Standing {
-            ended: true,
-            ..standing
-        },
-        Event::Crashed(_) => Standing {
+        Event::Left(_) | Event::Crashed(_) => Standing {
             ended: true,
             ..standing
         },
@@ -70,28 +65,13 @@ pub fn member(event: &Event) -> Address
     ensures { result ≡ member_of event.now }
 {
     match event {
-        Event::Started(member) => *member,
         Event::Sent(sending) => sending.member,
         Event::Delivered(delivery) => delivery.member,
-        Event::Blocked(member) => *member,
         Event::Installed(install) => install.get().member,
-        Event::Left(member) => *member,
-        Event::Crashed(member) => *member,
-    }
-}
-
-// Whether an event leaves its member standing as it did.
-fn leaves_standing(event: &Event) -> bool
-    ensures { result ≡ leaves_standing event.now }
-{
-    match event {
-        Event::Started(_) => false,
-        Event::Sent(_) => true,
-        Event::Delivered(_) => true,
-        Event::Blocked(_) => false,
-        Event::Installed(_) => false,
-        Event::Left(_) => false,
-        Event::Crashed(_) => false,
+        Event::Started(member)
+        | Event::Blocked(member)
+        | Event::Left(member)
+        | Event::Crashed(member) => *member,
     }
 }
 
@@ -102,12 +82,14 @@ pub fn note_standing(
 ) -> Result<(), AllocError>
     ensures { OnOk result ((t : List Event) → KnowsStandings (get same_address standings.old) t → KnowsStandings (get same_address standings.new) (t ++ event.now ∷ [])) }
 {
-    if leaves_standing(event) {
-        return Ok(());
+    match event {
+        Event::Sent(_) | Event::Delivered(_) => Ok(()),
+        _ => {
+            let member = member(event);
+            let next = after(how_stands(standings, member), event);
+            keep(standings, member, next)
+        }
     }
-    let member = member(event);
-    let next = after(how_stands(standings, member), event);
-    keep(standings, member, next)
 }
 
 // Keeps how a member stands.

@@ -10,7 +10,6 @@ ghost use Rattle.trace_props.specs.Recorded.{IsShort};
 ghost use Rattle.trace_props.specs.Agreeing.{MayEnter};
 ghost use Rattle.trace_rules.specs.Copies.{EntersWith, KnowsStates};
 
-use super::notes::{delivery_in, install_in};
 use address::{Address, Bytes, ViewId};
 use state_transfer::Receiver;
 use std::alloc::{AllocError, Global};
@@ -230,18 +229,13 @@ impl<R: Receiver> States<R> {
             × KnowsStates R.meaning (get same_address self.new.states) (get same_view_id self.new.entering) (t ++ event.now ∷ []))
             (MayEnter R.meaning t event.now → ⊥)) }
     {
-        match delivery_in(event) {
-            Some(delivery) => {
+        match event {
+            Event::Delivered(delivery) => {
                 hear(alloc, self, delivery)?;
                 Ok(true)
             }
-            None => match install_in(event) {
-                Some(install) => {
-                    let alike = enter(alloc, self, install)?;
-                    Ok(alike)
-                }
-                None => Ok(true),
-            },
+            Event::Installed(install) => enter(alloc, self, install.get()),
+            _ => Ok(true),
         }
     }
 }

@@ -1,12 +1,10 @@
+use Rattle.std.proofs.Common.{◌∙◌, ap, sym}
+use Rattle.trace_props.specs.declared.event.Event.TheVariants.{Installed}
 use Rattle.trace_props.specs.Agreeing.{MayMeet}
-use Rattle.trace_rules.proofs.TestsOfEvents.{meet-none, of-installed}
+use Rattle.trace_rules.proofs.TestsOfOneView.{of-event}
 use Rattle.trace_rules.proofs.TestsOfViewChanges.{meets-decides}
 use Rattle.trace_rules.proofs.judge.rules.keeps_next.Goals as goal
 
--- nothing is installed
-pub returns-in-None : goal.returns-in-None
-returns-in-None c = meet-none c.args.past.now c.args.event.now c.in-None.ensures
-
 -- the test decides
-pub returns-in-Some : goal.returns-in-Some
-returns-in-Some c = of-installed (MayMeet c.args.past.now) c.args.event.now c.in-Some.install.now c.may_meet.result _ c.in-Some.ensures c.may_meet.ensures (meets-decides c.args.past.now c.in-Some.install.now)
+pub returns-in-Installed : goal.returns-in-Installed
+returns-in-Installed c = of-event (MayMeet c.args.past.now) c.args.event.now _ c.may_meet.result _ (c.in-Installed.is ∙ ap Installed (sym c.get.ensures)) c.may_meet.ensures (meets-decides c.args.past.now c.get.result.now)

@@ -1,12 +1,10 @@
+use Rattle.std.proofs.Common.{◌∙◌, ap, sym}
+use Rattle.trace_props.specs.declared.event.Event.TheVariants.{Installed}
 use Rattle.trace_props.specs.Following.{MayRise}
-use Rattle.trace_rules.proofs.TestsOfEvents.{rise-none, of-installed}
+use Rattle.trace_rules.proofs.TestsOfOneView.{of-event}
 use Rattle.trace_rules.proofs.TestsOfOneView.{rises-decides}
 use Rattle.trace_rules.proofs.judge.rules.keeps_views.Goals as goal
 
--- nothing is installed
-pub returns-in-None : goal.returns-in-None
-returns-in-None c = rise-none c.args.past.now c.args.event.now c.in-None.ensures
-
 -- the test decides
-pub returns-in-Some : goal.returns-in-Some
-returns-in-Some c = of-installed (MayRise c.args.past.now) c.args.event.now c.in-Some.install.now c.may_rise.result _ c.in-Some.ensures c.may_rise.ensures (rises-decides c.args.past.now c.in-Some.install.now)
+pub returns-in-Installed : goal.returns-in-Installed
+returns-in-Installed c = of-event (MayRise c.args.past.now) c.args.event.now _ c.may_rise.result _ (c.in-Installed.is ∙ ap Installed (sym c.get.ensures)) c.may_rise.ensures (rises-decides c.args.past.now c.get.result.now)
