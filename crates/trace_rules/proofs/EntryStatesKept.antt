@@ -10,14 +10,13 @@ use Rattle.state_transfer.specs.Meanings.{Meaning}
 use Rattle.trace_props.specs.declared.event.Event.{Event}
 use Rattle.trace_props.specs.declared.event.Event.TheVariants.{Installed}
 use Rattle.trace_props.specs.declared.event.Install.{Install}
-use Rattle.trace_props.specs.Observed.{install_of}
-use Rattle.trace_props.proofs.DeliveredGrow.{install_of-some}
 use Rattle.trace_props.specs.State.{state_of, installs, entry_state}
 use Rattle.trace_props.specs.Agreeing.{MayEnter}
 use Rattle.trace_rules.specs.Copies.{KnowsStates, EntersWith}
 use Rattle.address.proofs.SameIds.{same_address-true, same_view_id-true}
 use Rattle.trace_props.proofs.RuleOfEntry.{state_of-push, entry_state-push}
-use Rattle.trace_rules.proofs.KeepStates.{taken-state, taken-is, delivered-is, same-bytes}
+use Rattle.address.proofs.Plain.{option_or-none}
+use Rattle.trace_rules.proofs.KeepStates.{changed-state, taken-is, delivered-is, same-bytes}
 
 module _ {S : Type 0} (meaning : Meaning S)
     (decodes : (bytes : List ℕ) (s : S) → meaning.decode bytes ≡ Some s → meaning.is_state s) (reads_back : (s : S) → meaning.is_state s → meaning.decode (meaning.encode s) ≡ Some s) where
@@ -34,7 +33,7 @@ module _ {S : Type 0} (meaning : Meaning S)
       → ((q : Address) → unwrap_or (n q) meaning.opening ≡ cond (same_address i.member q) (unwrap_or (option_and_then meaning.decode i.given) (unwrap_or (m i.member) meaning.opening)) (unwrap_or (m q) meaning.opening))
       → KnowsStates meaning m e t → HasStates n t i
   has-states m n e t i updates r = record {
-    known = λ q. updates q ∙ taken-state meaning m t i q (same_address i.member q) refl r.states_known;
+    known = λ q. updates q ∙ changed-state meaning m t (Installed i) i.member q (λ s. unwrap_or (option_and_then meaning.decode i.given) s) (same_address i.member q) refl refl r.states_known;
     are = λ q. subst meaning.is_state (sym (state_of-push meaning q t (Installed i)))
         (delivered-is meaning (state_of meaning q t) (unwrap_or (option_and_then meaning.decode i.given) (state_of meaning q t)) (same_address i.member q)
         (taken-is meaning decodes i.given (state_of meaning q t) (r.are_states q)) (r.are_states q));
@@ -64,11 +63,7 @@ module _ {S : Type 0} (meaning : Meaning S)
   kept-entry t i s w true same e =
       let there : entry_state meaning w t ≡ Some s = ap (λ v. entry_state meaning v t) (sym (same refl)) ∙ e in
       there ∙ ap (λ o. option_or o (Some (next_state w.creator t i))) (sym there)
-  kept-entry t i s w false same e = sym (or-nothing (entry_state meaning w t))
-    where
-      or-nothing : (o : Option S) → option_or o None ≡ o
-      or-nothing None = refl
-      or-nothing (Some x) = refl
+  kept-entry t i s w false same e = sym (option_or-none (entry_state meaning w t))
 
   entered-before : (m n : Address → Option S) (e f : ViewId → Option (List ℕ)) (t : List Event) (i : Install) (s : S) (bytes : List ℕ) (ok : Bool)
       → KnowsStates meaning m e t → HasStates n t i → ForSome i.given (λ g. IsSome (meaning.decode g)) → bytes ≡ meaning.encode (next_state i.member t i)
@@ -101,12 +96,8 @@ module _ {S : Type 0} (meaning : Meaning S)
       ∙ ap (λ o. option_map meaning.encode (option_or o (cond (same_address i.member w.creator && true) (Some (next_state w.creator t i)) None))) (sym (ap (λ v. entry_state meaning v t) (sym view) ∙ none))
   new-entry m e t i bytes w false apart r is none first =
       r.entering_known w
-      ∙ ap (option_map meaning.encode) (sym (or-nothing (entry_state meaning w t)))
+      ∙ ap (option_map meaning.encode) (sym (option_or-none (entry_state meaning w t)))
       ∙ ap (λ b. option_map meaning.encode (option_or (entry_state meaning w t) (cond b (Some (next_state w.creator t i)) None))) (sym (and_right (same_address i.member w.creator) false refl))
-    where
-      or-nothing : (o : Option S) → option_or o None ≡ o
-      or-nothing None = refl
-      or-nothing (Some x) = refl
 
   entered-first : (m n : Address → Option S) (e f : ViewId → Option (List ℕ)) (t : List Event) (i : Install) (bytes : List ℕ) (first : Bool)
       → KnowsStates meaning m e t → HasStates n t i → ForSome i.given (λ g. IsSome (meaning.decode g)) → bytes ≡ meaning.encode (next_state i.member t i)
@@ -139,7 +130,3 @@ module _ {S : Type 0} (meaning : Meaning S)
       let states = has-states m n e t i updates r in
       entered-by m n e f t i bytes first ok (entry_state meaning i.view.id t) refl r states given (is ∙ ap meaning.encode (states.known i.member)) test
       (subst (λ (o : Option (List ℕ)). MatchOption o ((ok ≡ first) × ((w : ViewId) → f w ≡ cond (first && same_view_id i.view.id w) (Some bytes) (e w))) (λ x. (ok ≡ bytes_eq x bytes) × ((w : ViewId) → f w ≡ e w))) (r.entering_known i.view.id) enters)
-
--- what holds of an install holds of the event that installs it
-pub of-install : (P : Event → Type 0) (h : Event) (i : Install) → Some i ≡ install_of h → P (Installed i) → P h
-of-install P h i e p = subst P (sym (install_of-some h i (sym e))) p

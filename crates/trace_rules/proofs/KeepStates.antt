@@ -50,30 +50,29 @@ nothing-known meaning m e t h a b r = (tt, knows-still meaning m e t h (λ p. re
 
 -- A MESSAGE
 
--- the state of one member after a message to another, or to it
-delivered-state : {S : Type 0} (meaning : Meaning S) (m : Address → Option S) (t : List Event) (d : Delivery) (q : Address) (b : Bool) → same_address d.member q ≡ b
-    → ((p : Address) → unwrap_or (m p) meaning.opening ≡ state_of meaning p t)
-    → cond b (meaning.apply (unwrap_or (m d.member) meaning.opening) d.message.sender d.message.payload) (unwrap_or (m q) meaning.opening) ≡ state_of meaning q (t ++ Delivered d ∷ [])
-delivered-state meaning m t d q true same r =
-    ap (λ s. meaning.apply s d.message.sender d.message.payload) (r d.member ∙ ap (λ p. state_of meaning p t) (same_address-true d.member q same))
-    ∙ sym (cond-true (same_address d.member q) (meaning.apply (state_of meaning q t) d.message.sender d.message.payload) (state_of meaning q t) same)
-    ∙ sym (state_of-push meaning q t (Delivered d))
-delivered-state meaning m t d q false apart r =
-    r q ∙ sym (cond-false (same_address d.member q) (meaning.apply (state_of meaning q t) d.message.sender d.message.payload) (state_of meaning q t) apart)
-    ∙ sym (state_of-push meaning q t (Delivered d))
+-- the state of one member after an event that changes that of another, or its own
+pub changed-state : {S : Type 0} (meaning : Meaning S) (m : Address → Option S) (t : List Event) (h : Event) (p q : Address) (f : S → S) (b : Bool) → same_address p q ≡ b
+    → state_after meaning q (state_of meaning q t) h ≡ cond (same_address p q) (f (state_of meaning q t)) (state_of meaning q t) → ((p : Address) → unwrap_or (m p) meaning.opening ≡ state_of meaning p t)
+    → cond b (f (unwrap_or (m p) meaning.opening)) (unwrap_or (m q) meaning.opening) ≡ state_of meaning q (t ++ h ∷ [])
+changed-state meaning m t h p q f true same after r =
+    ap f (r p ∙ ap (λ x. state_of meaning x t) (same_address-true p q same)) ∙ sym (cond-true (same_address p q) (f (state_of meaning q t)) (state_of meaning q t) same) ∙ sym after ∙ sym (state_of-push meaning q t h)
+changed-state meaning m t h p q f false apart after r =
+    r q ∙ sym (cond-false (same_address p q) (f (state_of meaning q t)) (state_of meaning q t) apart) ∙ sym after ∙ sym (state_of-push meaning q t h)
 
 pub delivered-is : {S : Type 0} (meaning : Meaning S) (s x : S) (b : Bool) → meaning.is_state x → meaning.is_state s → meaning.is_state (cond b x s)
 delivered-is meaning s x true a c = a
 delivered-is meaning s x false a c = c
 
--- a message that is delivered is applied
-pub message-known : {S : Type 0} (meaning : Meaning S)
+-- a message that is delivered is applied; its payload was lent
+pub message-heard : {S : Type 0} (meaning : Meaning S)
     (applies : (s : S) (from : Address) (payload : List ℕ) → meaning.is_state s → IsAddress from → length payload ≤ PAYLOAD → meaning.is_state (meaning.apply s from payload))
-    (m n : Address → Option S) (e : ViewId → Option (List ℕ)) (t : List Event) (d : Delivery) → IsAddress d.message.sender → length d.message.payload ≤ PAYLOAD
-    → ((q : Address) → unwrap_or (n q) meaning.opening ≡ cond (same_address d.member q) (meaning.apply (unwrap_or (m d.member) meaning.opening) d.message.sender d.message.payload) (unwrap_or (m q) meaning.opening))
+    (m n : Address → Option S) (e : ViewId → Option (List ℕ)) (t : List Event) (d : Delivery) (payload : List ℕ) → IsAddress d.message.sender → length d.message.payload ≤ PAYLOAD → payload ≡ d.message.payload
+    → ((q : Address) → unwrap_or (n q) meaning.opening ≡ cond (same_address d.member q) (meaning.apply (unwrap_or (m d.member) meaning.opening) d.message.sender payload) (unwrap_or (m q) meaning.opening))
     → KnowsStates meaning m e t → KnowsStates meaning n e (t ++ Delivered d ∷ [])
-message-known meaning applies m n e t d from short updates r = record {
-  states_known = λ q. updates q ∙ delivered-state meaning m t d q (same_address d.member q) refl r.states_known;
+message-heard meaning applies m n e t d payload from short lent updates r = record {
+  states_known = λ q.
+      updates q ∙ ap (λ x. cond (same_address d.member q) (meaning.apply (unwrap_or (m d.member) meaning.opening) d.message.sender x) (unwrap_or (m q) meaning.opening)) lent
+      ∙ changed-state meaning m t (Delivered d) d.member q (λ s. meaning.apply s d.message.sender d.message.payload) (same_address d.member q) refl refl r.states_known;
   are_states = λ q. subst meaning.is_state (sym (state_of-push meaning q t (Delivered d)))
       (delivered-is meaning (state_of meaning q t) (meaning.apply (state_of meaning q t) d.message.sender d.message.payload) (same_address d.member q)
       (applies (state_of meaning q t) d.message.sender d.message.payload (r.are_states q) from short) (r.are_states q));
@@ -82,18 +81,6 @@ message-known meaning applies m n e t d from short updates r = record {
 }
 
 -- AN INSTALL
-
--- the state of one member after an install of another, or its own
-pub taken-state : {S : Type 0} (meaning : Meaning S) (m : Address → Option S) (t : List Event) (i : Install) (q : Address) (b : Bool) → same_address i.member q ≡ b
-    → ((p : Address) → unwrap_or (m p) meaning.opening ≡ state_of meaning p t)
-    → cond b (unwrap_or (option_and_then meaning.decode i.given) (unwrap_or (m i.member) meaning.opening)) (unwrap_or (m q) meaning.opening) ≡ state_of meaning q (t ++ Installed i ∷ [])
-taken-state meaning m t i q true same r =
-    ap (λ s. unwrap_or (option_and_then meaning.decode i.given) s) (r i.member ∙ ap (λ p. state_of meaning p t) (same_address-true i.member q same))
-    ∙ sym (cond-true (same_address i.member q) (unwrap_or (option_and_then meaning.decode i.given) (state_of meaning q t)) (state_of meaning q t) same)
-    ∙ sym (state_of-push meaning q t (Installed i))
-taken-state meaning m t i q false apart r =
-    r q ∙ sym (cond-false (same_address i.member q) (unwrap_or (option_and_then meaning.decode i.given) (state_of meaning q t)) (state_of meaning q t) apart)
-    ∙ sym (state_of-push meaning q t (Installed i))
 
 given-is : {S : Type 0} (meaning : Meaning S) (decodes : (bytes : List ℕ) (s : S) → meaning.decode bytes ≡ Some s → meaning.is_state s) (given : List ℕ) (o : Option S) (s : S) → meaning.decode given ≡ o → meaning.is_state s → meaning.is_state (unwrap_or o s)
 given-is meaning decodes given None s e a = a
@@ -106,14 +93,3 @@ taken-is meaning decodes (Some g) s a = given-is meaning decodes g (meaning.deco
 -- equal bytes are of equal states
 pub same-bytes : {S : Type 0} (meaning : Meaning S) (reads_back : (s : S) → meaning.is_state s → meaning.decode (meaning.encode s) ≡ Some s) (s x : S) → meaning.is_state s → meaning.is_state x → meaning.encode s ≡ meaning.encode x → s ≡ x
 same-bytes meaning reads_back s x a b e = same_Some s x (sym (reads_back s a) ∙ ap meaning.decode e ∙ reads_back x b)
-
--- a message whose payload was lent is applied
-pub message-heard : {S : Type 0} (meaning : Meaning S)
-    (applies : (s : S) (from : Address) (payload : List ℕ) → meaning.is_state s → IsAddress from → length payload ≤ PAYLOAD → meaning.is_state (meaning.apply s from payload))
-    (m n : Address → Option S) (e : ViewId → Option (List ℕ)) (t : List Event) (d : Delivery) (payload : List ℕ) → IsAddress d.message.sender → length d.message.payload ≤ PAYLOAD → payload ≡ d.message.payload
-    → ((q : Address) → unwrap_or (n q) meaning.opening ≡ cond (same_address d.member q) (meaning.apply (unwrap_or (m d.member) meaning.opening) d.message.sender payload) (unwrap_or (m q) meaning.opening))
-    → KnowsStates meaning m e t → KnowsStates meaning n e (t ++ Delivered d ∷ [])
-message-heard meaning applies m n e t d payload from short lent updates r =
-    message-known meaning applies m n e t d from short
-    (λ q. updates q ∙ ap (λ x. cond (same_address d.member q) (meaning.apply (unwrap_or (m d.member) meaning.opening) d.message.sender x) (unwrap_or (m q) meaning.opening)) lent)
-    r

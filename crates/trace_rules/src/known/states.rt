@@ -5,7 +5,7 @@ ghost use Rattle.address.specs.declared.limits.TheConstants.{PAYLOAD};
 ghost use Rattle.std.specs.Bool.{Decides};
 ghost use Rattle.std.specs.Option.{ForSome};
 ghost use Rattle.trace_props.specs.declared.event.Event.{Event};
-ghost use Rattle.trace_props.specs.declared.event.Event.TheVariants.{Delivered, Installed};
+ghost use Rattle.trace_props.specs.declared.event.Event.TheVariants.{Installed};
 ghost use Rattle.trace_props.specs.Recorded.{IsShort};
 ghost use Rattle.trace_props.specs.Agreeing.{MayEnter};
 ghost use Rattle.trace_rules.specs.Copies.{EntersWith, KnowsStates};
@@ -14,7 +14,7 @@ use address::{Address, Bytes, ViewId};
 use state_transfer::Receiver;
 use std::alloc::{AllocError, Global};
 use std::collections::HashMap;
-use trace_props::{Delivery, Event, Install};
+use trace_props::{Event, Install};
 
 /// An address that a program holds is one.
 pub fn known_address(address: Address)
@@ -47,8 +47,7 @@ fn begin<R: Receiver>(
     if states.contains_key(&member) {
         return Ok(());
     }
-    let state = R::opening(alloc)?;
-    put(states, member, state)
+    put(states, member, R::opening(alloc)?)
 }
 
 // Applies a message at a member.
@@ -63,30 +62,10 @@ fn receive<R: Receiver>(
     ensures { OnOk result ((other : Address) → unwrap_or (get same_address states.new other) R.meaning.opening
         ≡ (if same_address member other then R.meaning.apply (unwrap_or (get same_address states.old member) R.meaning.opening) sender payload.now else unwrap_or (get same_address states.old other) R.meaning.opening)) }
 {
+    begin(alloc, states, member)?;
     match states.get_mut(&member) {
         Some(state) => state.receive(sender, payload),
-        None => {
-            let mut state = R::opening(alloc)?;
-            state.receive(sender, payload)?;
-            put(states, member, state)
-        }
-    }
-}
-
-// Takes a given state at a member that has a receiver, if it can be read.
-fn take_there<R: Receiver>(
-    states: &mut HashMap<Address, R>,
-    member: Address,
-    given: &[u8],
-) -> Result<bool, AllocError>
-    requires has { is_some (get same_address states.old member) ≡ true }
-    ensures read { IfOk result (λ taken. taken ≡ is_some (R.meaning.decode given.now)) }
-    ensures takes { OnOk result ((other : Address) → unwrap_or (get same_address states.new other) R.meaning.opening
-        ≡ (if same_address member other then unwrap_or (R.meaning.decode given.now) (unwrap_or (get same_address states.old member) R.meaning.opening) else unwrap_or (get same_address states.old other) R.meaning.opening)) }
-{
-    match states.get_mut(&member) {
-        Some(state) => state.set_state(given),
-        None => Ok(false),
+        None => Ok(()),
     }
 }
 
@@ -101,10 +80,9 @@ fn write_state<R: Receiver>(
 {
     bytes.clear();
     match states.get(&member) {
-        Some(state) => state.get_state(bytes)?,
-        None => R::opening(alloc)?.get_state(bytes)?,
+        Some(state) => state.get_state(bytes),
+        None => R::opening(alloc)?.get_state(bytes),
     }
-    Ok(())
 }
 
 // Whether a view is entered with the bytes of its entry, which the coordinator writes.
@@ -145,7 +123,10 @@ fn take<R: Receiver>(
         None => Ok(true),
         Some(bytes) => {
             begin(alloc, states, member)?;
-            take_there(states, member, bytes.as_slice())
+            match states.get_mut(&member) {
+                Some(state) => state.set_state(bytes.as_slice()),
+                None => Ok(false),
+            }
         }
     }
 }
@@ -158,26 +139,6 @@ pub struct States<R> {
     /// With which state, in bytes, each view was entered.
     pub entering: HashMap<ViewId, Bytes>,
     bytes: Vec<u8>,
-}
-
-/// Applies a message that is delivered.
-fn hear<R: Receiver>(
-    alloc: Global,
-    states: &mut States<R>,
-    delivery: &Delivery,
-) -> Result<(), AllocError>
-    requires short { length delivery.now.message.payload ≤ PAYLOAD }
-    ensures { OnOk result ((t : List Event) → KnowsStates R.meaning (get same_address states.old.states) (get same_view_id states.old.entering) t
-        → KnowsStates R.meaning (get same_address states.new.states) (get same_view_id states.new.entering) (t ++ Delivered delivery.now ∷ [])) }
-{
-    known_address(delivery.message.sender);
-    receive(
-        alloc,
-        &mut states.states,
-        delivery.member,
-        delivery.message.sender,
-        delivery.message.payload.as_slice(),
-    )
 }
 
 /// Whether an install enters its view alike; takes its state.
@@ -231,7 +192,15 @@ impl<R: Receiver> States<R> {
     {
         match event {
             Event::Delivered(delivery) => {
-                hear(alloc, self, delivery)?;
+                let message = &delivery.message;
+                known_address(message.sender);
+                receive(
+                    alloc,
+                    &mut self.states,
+                    delivery.member,
+                    message.sender,
+                    message.payload.as_slice(),
+                )?;
                 Ok(true)
             }
             Event::Installed(install) => enter(alloc, self, install.get()),
