@@ -2,7 +2,7 @@
 //! of it (docs/PROTOCOL.md, "Suspicion").
 #![tactic(auto)]
 
-ghost use Rattle.std.specs.Prelude.{◌≡◌, false, [], take, OnOk, OnErr, IfOk};
+ghost use Rattle.std.specs.Prelude.{◌≡◌, false, [], OnOk, OnErr, IfOk};
 ghost use Rattle.std.specs.List.{list_all};
 ghost use Rattle.view.specs.Members.{stands_in};
 ghost use Rattle.suspicion.specs.Suspicion.{suspected_too, leads, survivors_of};
@@ -54,7 +54,7 @@ impl Suspects {
     pub fn has(&self, address: &Address) -> bool
         ensures { result ≡ stands_in address.now self.now }
     {
-        self.items.iter().any(|suspect| *address == *suspect)
+        self.items.contains(address)
     }
 
     /// Suspects nobody any longer. Takes no memory.
@@ -71,23 +71,32 @@ impl Suspects {
     {
         match view.rank(address) {
             None => false,
-            Some(rank) => self.has_first(view.members().as_slice(), rank),
+            Some(rank) => self.has_all(&view.members().as_slice()[..rank]),
         }
     }
 
-    /// Whether the first `count` of these addresses are suspected.
-    fn has_first(&self, members: &[Address], count: usize) -> bool
-        ensures { result ≡ list_all (λ m. stands_in m self.now) (take count members.now) }
+    /// Whether all of these addresses are suspected.
+    fn has_all(&self, members: &[Address]) -> bool
+        ensures { result ≡ list_all (λ m. stands_in m self.now) members.now }
     {
-        members.iter().take(count).all(|member| self.has(member))
+        for member in members {
+            if !self.has(member) {
+                return false;
+            }
+        }
+        true
     }
 
     /// The members of the view that are not suspected, by rank.
     pub fn survivors(&self, alloc: Global, view: &View) -> Result<Addresses, AllocError>
         ensures { IfOk result (λ left. left ≡ survivors_of self.now view.now.members) }
     {
-        let members = view.members().as_slice();
-        let left = members.iter().copied().filter(|member| !self.has(member));
-        Ok(Addresses::from_vec(left.collect(alloc)?))
+        let mut left = Vec::new(alloc);
+        for member in view.members().as_slice() {
+            if !self.has(member) {
+                left.push(*member)?;
+            }
+        }
+        Ok(Addresses::from_vec(left))
     }
 }
