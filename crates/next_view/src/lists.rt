@@ -9,13 +9,6 @@ use address::Address;
 use std::alloc::{AllocError, Global};
 use suspicion::Suspects;
 
-// Whether an address stands in a list.
-pub(crate) fn stands_in(address: &Address, list: &[Address]) -> bool
-    ensures { result ≡ stands_in address.now list.now }
-{
-    list.iter().any(|other| *address == *other)
-}
-
 // Whether the first is a later incarnation of the second's node.
 pub(crate) fn is_later(one: &Address, other: &Address) -> bool
     ensures { result ≡ is_later one.now other.now }
@@ -27,14 +20,19 @@ pub(crate) fn is_later(one: &Address, other: &Address) -> bool
 fn has_later(list: &[Address], address: &Address) -> bool
     ensures { result ≡ list_any (λ q. is_later q address.now) list.now }
 {
-    list.iter().any(|other| is_later(other, address))
+    for other in list {
+        if is_later(other, address) {
+            return true;
+        }
+    }
+    false
 }
 
 // Whether an address, or a later incarnation of its node, stands in a list.
 pub(crate) fn is_known(address: &Address, list: &[Address]) -> bool
     ensures { result ≡ is_known address.now list.now }
 {
-    stands_in(address, list) || has_later(list, address)
+    list.contains(address) || has_later(list, address)
 }
 
 fn is_current(me: &Address, list: &[Address], address: &Address) -> bool
@@ -51,16 +49,20 @@ pub(crate) fn all_current(
 ) -> Result<Vec<Address>, AllocError>
     ensures { IfOk result (λ l. l.items ≡ filter (is_current me.now list.now) list.now) }
 {
-    let left = list.iter().copied();
-    let left = left.filter(|address| is_current(me, list, address));
-    Ok(left.collect(alloc)?)
+    let mut left = Vec::new(alloc);
+    for address in list {
+        if is_current(me, list, address) {
+            left.push(*address)?;
+        }
+    }
+    Ok(left)
 }
 
 // Whether an address is neither suspected nor there yet.
 fn is_unlisted(suspects: &Suspects, found: &[Address], address: &Address) -> bool
     ensures { result ≡ not (stands_in address.now suspects.now || stands_in address.now found.now) }
 {
-    !(suspects.has(address) || stands_in(address, found))
+    !(suspects.has(address) | found.contains(address))
 }
 
 // Adds those of a list who are not suspected and not there yet.
@@ -83,5 +85,5 @@ pub(crate) fn add_all(
 pub(crate) fn keep_others(members: &[Address], list: &mut Vec<Address>)
     ensures { list.new.items ≡ others_than members.now list.old.items }
 {
-    list.retain(|address| !stands_in(address, members));
+    list.retain(|address| !members.contains(address));
 }

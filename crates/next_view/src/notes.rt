@@ -5,7 +5,7 @@ ghost use Rattle.next_view.specs.ViewNotes.{no_notes, settled, having_heard, sus
 ghost use Rattle.next_view.specs.Candidates.{unsuspected, all_candidates, candidates, has_room, next_counter, first_unsuspected, is_changed, is_broken, is_abandoned};
 ghost use Rattle.next_view.specs.Noting.{is_known_here, noting, is_new, new_of, noting_view};
 
-use crate::lists::{add_all, all_current, is_known, is_later, keep_others, stands_in};
+use crate::lists::{add_all, all_current, is_known, is_later, keep_others};
 use address::Address;
 use address::limits::{GREATEST_NUMBER, MEMBERS};
 use std::alloc::{AllocError, Global};
@@ -137,10 +137,12 @@ impl ViewNotes {
         ensures { result ≡ first_unsuspected self.now.suspects view.now.members }
     {
         let members = view.members().as_slice();
-        members
-            .iter()
-            .copied()
-            .find(|member| !self.suspects.has(member))
+        for member in members {
+            if !self.suspects.has(member) {
+                return Some(*member);
+            }
+        }
+        None
     }
 
     /// The counter of the member's next proposal: one more than the greater of the promised counter and what it heard of. `None` where that would be above `GREATEST_NUMBER`.
@@ -157,17 +159,7 @@ impl ViewNotes {
         }
     }
 
-    // Those of the view and those noted who are not suspected, each once.
-    fn unsuspected(&self, alloc: Global, view: &View) -> Result<Vec<Address>, AllocError>
-        ensures { IfOk result (λ l. l.items ≡ unsuspected self.now.suspects (view.now.members ++ self.now.joiners ++ self.now.merging)) }
-    {
-        let mut found = Vec::new(alloc);
-        add_all(&self.suspects, view.members().as_slice(), &mut found)?;
-        add_all(&self.suspects, self.joiners.as_slice(), &mut found)?;
-        add_all(&self.suspects, self.merging.as_slice(), &mut found)?;
-        Ok(found)
-    }
-
+    // Those of the view and those noted, each once, but who is suspected or of whose node a later incarnation is among them.
     fn all_candidates(
         &self,
         alloc: Global,
@@ -176,7 +168,10 @@ impl ViewNotes {
     ) -> Result<Vec<Address>, AllocError>
         ensures { IfOk result (λ l. l.items ≡ all_candidates me.now view.now.members self.now) }
     {
-        let found = self.unsuspected(alloc, view)?;
+        let mut found = Vec::new(alloc);
+        add_all(&self.suspects, view.members().as_slice(), &mut found)?;
+        add_all(&self.suspects, self.joiners.as_slice(), &mut found)?;
+        add_all(&self.suspects, self.merging.as_slice(), &mut found)?;
         all_current(alloc, me, found.as_slice())
     }
 
@@ -208,14 +203,6 @@ impl ViewNotes {
         Ok(all.len())
     }
 
-    // Whether all who could be in the next view may be.
-    fn has_room(&self, alloc: Global, me: &Address, view: &View) -> Result<bool, AllocError>
-        ensures { IfOk result (λ b. b ≡ has_room me.now view.now.members self.now) }
-    {
-        let count = self.candidate_count(alloc, me, view)?;
-        Ok(count <= MEMBERS)
-    }
-
     // Whether an address, or a later incarnation of its node, is in the view, in a list or noted.
     fn is_known_here(&self, view: &View, listed: &[Address], address: &Address) -> bool
         ensures { result ≡ is_known_here address.now view.now.members listed.now self.now }
@@ -242,7 +229,7 @@ impl ViewNotes {
             return Ok(());
         }
         self.joiners.push(joiner)?;
-        if !self.has_room(alloc, me, view)? {
+        if self.candidate_count(alloc, me, view)? > MEMBERS {
             let _ = self.joiners.pop();
         }
         Ok(())
@@ -251,10 +238,9 @@ impl ViewNotes {
     fn is_new(&self, view: &View, address: &Address) -> bool
         ensures { result ≡ is_new view.now.members self.now address.now }
     {
-        !(view.contains(address)
-            || self.suspects.has(address)
-            || stands_in(address, self.joiners.as_slice())
-            || stands_in(address, self.merging.as_slice()))
+        let is_here = view.contains(address) | self.suspects.has(address);
+        let is_noted = self.joiners.contains(address) | self.merging.contains(address);
+        !(is_here | is_noted)
     }
 
     fn new_of(
@@ -265,9 +251,13 @@ impl ViewNotes {
     ) -> Result<Vec<Address>, AllocError>
         ensures { IfOk result (λ l. l.items ≡ new_of view.now.members list.now self.now) }
     {
-        let new = list.iter().copied();
-        let new = new.filter(|address| self.is_new(view, address));
-        Ok(new.collect(alloc)?)
+        let mut new = Vec::new(alloc);
+        for address in list {
+            if self.is_new(view, address) {
+                new.push(*address)?;
+            }
+        }
+        Ok(new)
     }
 
     /// Notes those of another view who are neither in the member's own view nor suspected nor noted, in order, and hears of the other view's counter.
@@ -287,7 +277,7 @@ impl ViewNotes {
         }
         let before = self.merging.len();
         self.merging.extend_from_slice(new.as_slice())?;
-        if self.has_room(alloc, me, view)? {
+        if self.candidate_count(alloc, me, view)? <= MEMBERS {
             self.hear(other.id().counter());
         } else {
             self.merging.truncate(before);
@@ -308,7 +298,12 @@ impl ViewNotes {
     pub fn is_broken(&self, listed: &[Address]) -> bool
         ensures { result ≡ is_broken listed.now self.now }
     {
-        listed.iter().any(|member| self.suspects.has(member))
+        for member in listed {
+            if self.suspects.has(member) {
+                return true;
+            }
+        }
+        false
     }
 
     /// Whether the creator of a proposal is suspected: then a member that promised the proposal, and leads its view, begins a flush of its own.
