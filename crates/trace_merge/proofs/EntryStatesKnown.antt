@@ -7,32 +7,24 @@ use Rattle.std.proofs.lemmas.Option.{none-some}
 use Rattle.address.specs.Ids.{Address, ViewId, same_address, same_view_id}
 use Rattle.state_transfer.specs.Meanings.{Meaning}
 use Rattle.trace_props.specs.declared.event.Event.{Event}
-use Rattle.trace_props.specs.declared.event.Event.TheVariants.{Started, Sent, Delivered, Blocked, Installed, Left, Crashed}
+use Rattle.trace_props.specs.declared.event.Event.TheVariants.{Installed}
 use Rattle.trace_props.specs.State.{state_of, installs, entry_state}
 use Rattle.trace_props.proofs.RulesAlongLists.{slice_get-push, slice_get-before, slice_get-last}
 use Rattle.trace_props.proofs.InstallsOfRisingViews.{by_pushes}
 use Rattle.trace_props.proofs.RuleOfEntry.{entry_state-push}
+use Rattle.address.proofs.Plain.{option_or-none}
 use Rattle.trace_merge.proofs.ElementsStand.{Found}
 use Rattle.trace_merge.proofs.MembersOwnTraces.{is_of, happened_to, same-own, state_of-goes, state_of-still}
 
 -- another's event is no install of this member's
 installs-other : (p : Address) (v : ViewId) (h : Event) → is_of p h ≡ false → installs p v h ≡ false
-installs-other p v (Started q) e = refl
-installs-other p v (Sent m) e = refl
-installs-other p v (Delivered d) e = refl
-installs-other p v (Blocked q) e = refl
 installs-other p v (Installed i) e = and_left (same_address i.member p) (same_view_id i.view.id v) e
-installs-other p v (Left q) e = refl
-installs-other p v (Crashed q) e = refl
+installs-other p v h e = refl
 
 module _ {S : Type 0} (meaning : Meaning S) (v : ViewId) where
   -- what the newest event adds
   abbrev added : List Event → Event → Option S
   added t h = cond (installs v.creator v h) (Some (state_of meaning v.creator (t ++ h ∷ []))) None
-
-  or-none : (o : Option S) → option_or o None ≡ o
-  or-none None = refl
-  or-none (Some s) = refl
 
   -- the state of entry and the coordinator's state, together
   abbrev Known : List Event → Option S × S
@@ -46,7 +38,7 @@ module _ {S : Type 0} (meaning : Meaning S) (v : ViewId) where
       known (t ++ h ∷ []) t
       (entry_state-push meaning v t h
       ∙ ap (option_or (entry_state meaning v t)) (cond-false (installs v.creator v h) (Some (state_of meaning v.creator (t ++ h ∷ []))) None (installs-other v.creator v h e))
-      ∙ or-none (entry_state meaning v t))
+      ∙ option_or-none (entry_state meaning v t))
       (state_of-still meaning v.creator t h e)
 
   known-goes : (s t : List Event) (h : Event) → Known s ≡ Known t → Known (s ++ h ∷ []) ≡ Known (t ++ h ∷ [])

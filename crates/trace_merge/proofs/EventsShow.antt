@@ -42,13 +42,8 @@ pub record IsSend (key : MessageKey) (h : Event) : Type 0 where
   pub same : SameKey (sent sending) key
 
 send-of : (key : MessageKey) (h : Event) → shows (Sent key) h ≡ true → IsSend key h
-send-of key (event.Started p) e = absurd (true≢false (sym e))
 send-of key (event.Sent s) e = record { sending = s; is = refl; same = same-key (sent s) key e }
-send-of key (event.Delivered d) e = absurd (true≢false (sym e))
-send-of key (event.Blocked p) e = absurd (true≢false (sym e))
-send-of key (event.Installed i) e = absurd (true≢false (sym e))
-send-of key (event.Left p) e = absurd (true≢false (sym e))
-send-of key (event.Crashed p) e = absurd (true≢false (sym e))
+send-of key h e = absurd (true≢false (sym e))
 
 -- an event that shows a delivery is that delivery
 pub record IsDelivery (p : Address) (key : MessageKey) (h : Event) : Type 0 where
@@ -58,25 +53,15 @@ pub record IsDelivery (p : Address) (key : MessageKey) (h : Event) : Type 0 wher
   pub same : SameKey (delivered delivery) key
 
 delivery-of : (p : Address) (key : MessageKey) (h : Event) → shows (Delivered p key) h ≡ true → IsDelivery p key h
-delivery-of p key (event.Started q) e = absurd (true≢false (sym e))
-delivery-of p key (event.Sent s) e = absurd (true≢false (sym e))
 delivery-of p key (event.Delivered d) e =
     let parts = and_parts (same_address d.member p) (same_message (delivered d) key) e in
     record { delivery = d; is = refl; member = same_address-true d.member p parts.0; same = same-key (delivered d) key parts.1 }
-delivery-of p key (event.Blocked q) e = absurd (true≢false (sym e))
-delivery-of p key (event.Installed i) e = absurd (true≢false (sym e))
-delivery-of p key (event.Left q) e = absurd (true≢false (sym e))
-delivery-of p key (event.Crashed q) e = absurd (true≢false (sym e))
+delivery-of p key h e = absurd (true≢false (sym e))
 
 -- an event shows an install exactly where it is that install
 shows-install : (p : Address) (v : ViewId) (h : Event) → shows (Installed p v) h ≡ installs p v h
 shows-install p v (event.Started q) = refl
-shows-install p v (event.Sent s) = refl
-shows-install p v (event.Delivered d) = refl
-shows-install p v (event.Blocked q) = refl
-shows-install p v (event.Installed i) = refl
-shows-install p v (event.Left q) = refl
-shows-install p v (event.Crashed q) = refl
+shows-install p v h = refl
 
 -- IN A LIST
 

@@ -1,12 +1,12 @@
 -- What is kept while traces are put together.
-use Rattle.std.proofs.Common.{◌≡◌, ℕ, ◌+◌, ◌-◌, ◌<◌, suc, Bool, true, false, cond, not, ◌&&◌, ◌||◌, nat_eq, eqb-true, eq-eqb, List, [], ◌∷◌, ◌++◌, length, take, Option, None, Some, is_some, refl, sym, ap, ◌∙◌, subst, ⊎_elim, arith, ◌≤◌, MatchOption}
-use Rattle.std.specs.Prelude.{slice_get, slice_index_or, slice_set, nat_lt, position}
+use Rattle.std.proofs.Common.{◌≡◌, ℕ, ◌+◌, ◌-◌, ◌<◌, suc, Bool, true, false, not, ◌&&◌, ◌||◌, nat_eq, eqb-true, eq-eqb, List, [], ◌∷◌, ◌++◌, length, take, Some, is_some, refl, sym, ap, ◌∙◌, subst, ⊎_elim, arith, ◌≤◌}
+use Rattle.std.specs.Prelude.{slice_get, slice_index_or, slice_set}
 use Rattle.std.specs.Borrow.{Bor}
-use Rattle.std.specs.List.{sum_by, position_or_len}
+use Rattle.std.specs.List.{sum_by}
 use Rattle.std.proofs.lemmas.List.{append-nil, append_assoc, map-append, map-set, length-map, length-append, get_or-map, get_or_past, get_or-set_same, get_or-set_other}
-use Rattle.std.proofs.lemmas.Bool.{cases_lt, ltb-true, ltb-false}
+use Rattle.std.proofs.lemmas.Bool.{cases_lt}
 use Rattle.std.proofs.lemmas.List.Elements.{All-set}
-use Rattle.std.proofs.lemmas.List.Sums.{sum_by-set, fails_before_first, passes_at_first}
+use Rattle.std.proofs.lemmas.List.Sums.{sum_by-set}
 use Rattle.std.proofs.lemmas.List.Folds.{list_any-append}
 use Rattle.trace_props.specs.declared.event.Event.{Event}
 use Rattle.trace_props.specs.Places.{EachEvent}
@@ -17,7 +17,7 @@ use Rattle.trace_merge.specs.Facts.{shows, is_shown, is_awaited, is_free, MayCom
 use Rattle.trace_merge.specs.Merges.{Came, event_of, own, events_at, has_next, NoneIsLeft, comes_in, starts_free, IsMerge, IsOrderedMerge, HaveCome, IsFreeAt, NoneIsFree, AreRecordable}
 use Rattle.trace_merge.specs.Outcomes.{slices, slice_of, WaitsFor, AreUnordered}
 use Rattle.trace_merge.proofs.ProcessesShown.{own-append, own-first, own-other, merge-shows}
-use Rattle.trace_merge.proofs.LawOfMerges.{still-free, have-no-order}
+use Rattle.trace_merge.proofs.LawOfMerges.{some-next, still-free, have-no-order}
 
 -- ---- nothing has come
 
@@ -146,37 +146,21 @@ all-came processes left awaited t h none = record {
 
 -- ---- the first of them
 
-module _ (p : List Event → Bool) (never : p [] ≡ false) where
-  test : Bor (List Event) → Bool
-  test b = p b.now
+-- a slice that is there
+pub slice-at : (items there : List (Bor (List Event))) (k : ℕ) (b : Bor (List Event)) → there ≡ items → k < length there → b ≡ slice_index_or there k b → events_at (slices items) k ≡ b.now
+slice-at items there k b same within at =
+    ap (λ (l : List (Bor (List Event))). events_at (slices l) k) (sym same) ∙ get_or-map slice_of there k b [] within ∙ ap slice_of (sym at)
 
-  abbrev pub Finds : List (Bor (List Event)) → Option ℕ → Type 0
-  Finds items r = MatchOption r ((k : ℕ) → p (events_at (slices items) k) ≡ false) (λ k. p (events_at (slices items) k) ≡ true)
-
-  fails-at : (items : List (Bor (List Event))) (x : Bor (List Event)) → length items ≤ position_or_len (λ b. p b.now) items → (k : ℕ) → p (events_at (slices items) k) ≡ false
-  fails-at items x long k = ⊎_elim
-      (λ (within : k < length items). ap p (get_or-map slice_of items k x [] within) ∙ fails_before_first (λ b. p b.now) items k x (omega arith))
-      (λ (past : length items ≤ k). ap p (get_or_past (slices items) k [] (let same : length (slices items) ≡ length items = length-map items slice_of in omega arith)) ∙ never)
-      (cases_lt k (length items))
-
-  finds-by : (items : List (Bor (List Event))) (x : Bor (List Event)) (b : Bool) → nat_lt (position_or_len (λ b. p b.now) items) (length items) ≡ b
-      → Finds items (cond b (Some (position_or_len (λ b. p b.now) items)) None)
-  finds-by items x true is =
-      let within : position_or_len (λ b. p b.now) items < length items = ltb-true (position_or_len (λ b. p b.now) items) (length items) is in
-      ap p (get_or-map slice_of items (position_or_len (λ b. p b.now) items) x [] within) ∙ passes_at_first (λ b. p b.now) items x within
-  finds-by items x false is = fails-at items x (ltb-false (position_or_len (λ b. p b.now) items) (length items) is)
-
-  pub finds : (items : List (Bor (List Event))) → Finds items (position (λ b. p b.now) items)
-  finds [] = λ k. never
-  finds (x ∷ items) = finds-by (x ∷ items) x (nat_lt (position_or_len (λ b. p b.now) (x ∷ items)) (length (x ∷ items))) refl
+-- where none of these passes, none does
+pub fails : (p : List Event → Bool) → p [] ≡ false → (items : List (Bor (List Event))) → ((k : ℕ) → k < length items → p (events_at (slices items) k) ≡ false) → (k : ℕ) → p (events_at (slices items) k) ≡ false
+fails p never items below k = ⊎_elim
+    (below k)
+    (λ (past : length items ≤ k). ap p (get_or_past (slices items) k [] (let same : length (slices items) ≡ length items = length-map items slice_of in omega arith)) ∙ never)
+    (cases_lt k (length items))
 
 -- ---- why there is no order
 
 module _ (processes left : List (List Event)) (awaited : Fact → Bool) (t : List Event) (k : ℕ) (h : HaveCome processes left awaited t) (none : NoneIsFree left awaited) where
-  some-first : (xs : List Event) → has_next xs ≡ true → (x : Event) × (slice_get xs 0 ≡ Some x)
-  some-first [] there = absurd (let bad : false ≡ true = there in cc)
-  some-first (x ∷ rest) there = (x, refl)
-
   seam-first : (xs ys : List Event) → slice_get (xs ++ ys) (length xs) ≡ slice_get ys 0
   seam-first [] ys = refl
   seam-first (x ∷ xs) ys = seam-first xs ys
@@ -194,7 +178,7 @@ module _ (processes left : List (List Event)) (awaited : Fact → Bool) (t : Lis
 
   pub unordered : WaitsFor left awaited k k → has_next (events_at left k) ≡ true → (n : ℕ) → n ≡ length (events_at processes k) - length (events_at left k) → AreUnordered processes (k + 1) (n + 1)
   unordered circle there n is = record {
-    have_none = let first : (x : Event) × (slice_get (events_at left k) 0 ≡ Some x) = some-first (events_at left k) there in have-no-order processes left awaited t h none k first.0 first.1;
+    have_none = let first : (x : Event) × (slice_get (events_at left k) 0 ≡ Some x) = some-next (events_at left k) there in have-no-order processes left awaited t h none k first.0 first.1;
     k = k;
     n = n;
     process_is = refl;
@@ -203,8 +187,3 @@ module _ (processes left : List (List Event)) (awaited : Fact → Bool) (t : Lis
         (subst (λ (l : List Event). is_some (slice_get l (length l - length (events_at left k))) ≡ true) (h.own_events k) (at-seam (own k h.came) (events_at left k) there));
     circle = record { left = left; awaited = awaited; t = t; come = h; none = none; behind = behind (own k h.came) (events_at left k) (events_at processes k) n (h.own_events k) is; circle = circle };
   }
-
--- a slice that is there
-pub slice-at : (items there : List (Bor (List Event))) (k : ℕ) (b : Bor (List Event)) → there ≡ items → k < length there → b ≡ slice_index_or there k b → events_at (slices items) k ≡ b.now
-slice-at items there k b same within at =
-    ap (λ (l : List (Bor (List Event))). events_at (slices l) k) (sym same) ∙ get_or-map slice_of there k b [] within ∙ ap slice_of (sym at)

@@ -49,13 +49,8 @@ said-sent q v m s true e is =
     (subst (λ (x : Numbered). same_message (sent s) (record { view = s.view; sender = s.member; number = x.number }) ≡ true) (same_Some s.message m is) (same_message-refl (sent s))))
 
 said-shows : (q : Address) (v : ViewId) (m : Numbered) (h : Event) → said q v h ≡ Some m → shows (Sent (sent_key v q m)) h ≡ true
-said-shows q v m (event.Started p) e = absurd (none-some m e)
 said-shows q v m (event.Sent s) e = said-sent q v m s (same_address s.member q && same_view_id s.view v) refl e
-said-shows q v m (event.Delivered d) e = absurd (none-some m e)
-said-shows q v m (event.Blocked p) e = absurd (none-some m e)
-said-shows q v m (event.Installed i) e = absurd (none-some m e)
-said-shows q v m (event.Left p) e = absurd (none-some m e)
-said-shows q v m (event.Crashed p) e = absurd (none-some m e)
+said-shows q v m h e = absurd (none-some m e)
 
 -- the key of a message that was delivered
 abbrev pub key_of : ViewId → Message → MessageKey
@@ -71,13 +66,8 @@ delivered-same c v m d true e is =
     (subst (λ (x : Message). same_message (delivered d) (key_of d.view x) ≡ true) (same_Some d.message m is) (same_message-refl (delivered d))))
 
 delivered-shows : (c : Address) (v : ViewId) (m : Message) (h : Event) → delivered_message c v h ≡ Some m → shows (Delivered c (key_of v m)) h ≡ true
-delivered-shows c v m (event.Started p) e = absurd (none-some m e)
-delivered-shows c v m (event.Sent s) e = absurd (none-some m e)
 delivered-shows c v m (event.Delivered d) e = delivered-same c v m d (same_address d.member c && same_view_id d.view v) refl e
-delivered-shows c v m (event.Blocked p) e = absurd (none-some m e)
-delivered-shows c v m (event.Installed i) e = absurd (none-some m e)
-delivered-shows c v m (event.Left p) e = absurd (none-some m e)
-delivered-shows c v m (event.Crashed p) e = absurd (none-some m e)
+delivered-shows c v m h e = absurd (none-some m e)
 
 -- what a member sent is shown
 pub sent-shown : (t : List Event) (q : Address) (v : ViewId) (n : ℕ) (m : Numbered) → slice_get (sent_in q v t) n ≡ Some m → is_shown t (Sent (sent_key v q m)) ≡ true

@@ -38,13 +38,8 @@ module _ (past other : List Event) where
 
   -- whether a view is above the one from which its member comes
   pub rises-own : (e : Event) → happened_to (member_of e) past ≡ happened_to (member_of e) other → RisesAt past e → RisesAt other e
-  rises-own (Started p) same m = tt
-  rises-own (Sent s) same m = tt
-  rises-own (Delivered d) same m = tt
-  rises-own (Blocked p) same m = tt
   rises-own (Installed i) same m = record { inside = m.inside; previous = m.previous ∙ current_view-own i.member past other same; rises = m.rises }
-  rises-own (Left p) same m = tt
-  rises-own (Crashed p) same m = tt
+  rises-own h same m = tt
 
   back-own : (i : Install) (o : Option ViewId) → happened_to i.member past ≡ happened_to i.member other
       → MatchOption o (i.handed_back ≡ []) (λ v. i.handed_back ≡ drop (length (own i.member (delivered_in i.member v past))) (sent_in i.member v past))
@@ -57,13 +52,8 @@ module _ (past other : List Event) where
 
   -- what is handed back
   pub hand_back-own : (e : Event) → happened_to (member_of e) past ≡ happened_to (member_of e) other → MayHandBack past e → MayHandBack other e
-  hand_back-own (Started p) same m = tt
-  hand_back-own (Sent s) same m = tt
-  hand_back-own (Delivered d) same m = tt
-  hand_back-own (Blocked p) same m = tt
   hand_back-own (Installed i) same m = back-own i i.previous same m
-  hand_back-own (Left p) same m = tt
-  hand_back-own (Crashed p) same m = tt
+  hand_back-own h same m = tt
 
 -- BEGINNINGS
 
@@ -89,18 +79,13 @@ together-before w rest r = record {
 
 stays : (t : List Event) (h : Event) → HasRisingViews t → MayStand t h → (k : ℕ) (e : Install) (v : ViewId) → slice_get t k ≡ Some (Installed e) → e.previous ≡ Some v
     → delivered_in e.member v (t ++ h ∷ []) ≡ delivered_in e.member v t
-stays t (Started q) views stands k e v s came = delivered_in-still e.member v t (Started q) refl
-stays t (Sent x) views stands k e v s came = delivered_in-still e.member v t (Sent x) refl
 stays t (Delivered d) views stands k e v s came = by (is_delivery_to e.member v d) refl where
   by : (b : Bool) → is_delivery_to e.member v d ≡ b → delivered_in e.member v (t ++ Delivered d ∷ []) ≡ delivered_in e.member v t
   by false test = delivered_in-miss e.member v t d test
   by true test =
       let there = is_delivery_to-true e.member v d test in
       absurd (gone t views k e s v came (ap (λ p. current_view p t) (sym there.0) ∙ stands.1 ∙ ap Some there.1))
-stays t (Blocked q) views stands k e v s came = delivered_in-still e.member v t (Blocked q) refl
-stays t (Installed i) views stands k e v s came = delivered_in-still e.member v t (Installed i) refl
-stays t (Left q) views stands k e v s came = delivered_in-still e.member v t (Left q) refl
-stays t (Crashed q) views stands k e v s came = delivered_in-still e.member v t (Crashed q) refl
+stays t h views stands k e v s came = delivered_in-still e.member v t h refl
 
 module _ (w : List Event) (k : ℕ) (e : Install) (v : ViewId) (s : slice_get w k ≡ Some (Installed e)) (came : e.previous ≡ Some v) where
   abbrev Settles : List Event → Type 0

@@ -29,14 +29,11 @@ struck f o fact b is = cond-not (same_fact fact f) b ∙ ap (λ (p : Option Fact
 -- what Rust's `==` of facts is
 pub fact-eq : (a b : Fact) → fact_ghosts.eq a b ≡ same_fact a b
 fact-eq (Sent a) (Sent b) = refl
-fact-eq (Sent a) (Delivered q b) = refl
-fact-eq (Sent a) (Installed q w) = refl
-fact-eq (Delivered p a) (Sent b) = refl
+fact-eq (Sent a) g = refl
 fact-eq (Delivered p a) (Delivered q b) = refl
-fact-eq (Delivered p a) (Installed q w) = refl
-fact-eq (Installed p v) (Sent b) = refl
-fact-eq (Installed p v) (Delivered q b) = refl
+fact-eq (Delivered p a) g = refl
 fact-eq (Installed p v) (Installed q w) = refl
+fact-eq (Installed p v) g = refl
 
 any-same : (p q : Fact → Bool) → ((x : Fact) → p x ≡ q x) → (xs : List Fact) → list_any p xs ≡ list_any q xs
 any-same p q same [] = refl

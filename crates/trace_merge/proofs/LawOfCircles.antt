@@ -1,26 +1,22 @@
 -- Where no next event may come, from each process that waits one comes to one that waits in a circle.
-use Rattle.std.proofs.Common.{◌≡◌, ℕ, suc, zero, ◌+◌, ◌-◌, ◌<◌, ◌≤◌, Bool, true, false, not, cond, ◌&&◌, nat_eq, nat_lt, eqb-true, eq-eqb, List, [], ◌∷◌, map, length, find, position, Some, Contains, refl, sym, ap, ◌∙◌, subst, ◌⊎◌, inl, inr, ⊎_elim, arith}
+use Rattle.std.proofs.Common.{◌≡◌, ℕ, suc, zero, ◌+◌, ◌-◌, ◌<◌, ◌≤◌, Bool, true, false, not, cond, ◌&&◌, nat_eq, nat_lt, eqb-true, eq-eqb, List, [], ◌∷◌, map, length, find, Some, refl, sym, ap, ◌∙◌, subst, ◌⊎◌, inl, inr, ⊎_elim, arith}
 use Rattle.std.specs.Prelude.{slice_get, unwrap_or}
 use Rattle.std.specs.Option.{option_map_or, option_and_then}
 use Rattle.std.specs.List.{list_all, position_from}
 use Rattle.std.proofs.lemmas.Bool.{and_parts, cases_lt, true≢false, cond-true, cond-false, ltb-true, ltb-false}
 use Rattle.std.proofs.lemmas.List.{get_or_past}
 use Rattle.std.proofs.lemmas.List.Folds.{list_any-append}
-use Rattle.std.proofs.lemmas.Iterator.Adapters.{position_from-zero}
-use Rattle.std.proofs.lemmas.Option.{slice_get_within, get_or_from_slice_get}
 use Rattle.trace_props.specs.declared.event.Event.{Event}
 use Rattle.trace_merge.specs.declared.fact.Fact.{Fact}
 use Rattle.trace_merge.specs.Facts.{shows, is_shown, is_free, waits_for}
 use Rattle.trace_merge.specs.Merges.{own, events_at, next_at, has_next, comes_in, HaveCome, NoneIsFree}
 use Rattle.trace_merge.specs.Outcomes.{WaitsForOne, WaitsFor, awaits_at, followed}
 use Rattle.trace_merge.specs.Outcomes.WaitsFor.{One, More}
+use Rattle.trace_merge.proofs.ElementsStand.{contains-has}
+use Rattle.trace_merge.proofs.LawOfMerges.{some-next}
 use Rattle.trace_merge.proofs.ProcessesShown.{or-cases, shown-of-own, comes-by}
 
 -- ---- what is found
-
--- what stands at a place is in the list
-found-at : {X : Type 0} (xs : List X) (x : X) (k : ℕ) → slice_get xs k ≡ Some x → Contains xs x
-found-at xs x k e = (k, slice_get_within xs k x e, get_or_from_slice_get xs k x x e)
 
 -- where not all fail, one is found
 pub record FindsIn {X : Type 0} (p : X → Bool) (xs : List X) : Type 0 where
@@ -63,12 +59,9 @@ module _ (p : List Event → Bool) (never : p [] ≡ false) where
   places (events ∷ left) i k e = places-first events left i k (p events) refl e (places left (i + 1))
 
 -- the first that passes, of a mapped list
-position-from-map : {X Y : Type 0} (p : Y → Bool) (f : X → Y) (xs : List X) (i : ℕ) → position_from (λ x. p (f x)) i xs ≡ position_from p i (map f xs)
+pub position-from-map : {X Y : Type 0} (p : Y → Bool) (f : X → Y) (xs : List X) (i : ℕ) → position_from (λ x. p (f x)) i xs ≡ position_from p i (map f xs)
 position-from-map p f [] i = refl
 position-from-map p f (x ∷ xs) i = ap (λ o. cond (p (f x)) (Some i) o) (position-from-map p f xs (i + 1))
-
-pub position-map : {X Y : Type 0} (p : Y → Bool) (f : X → Y) (xs : List X) → position (λ x. p (f x)) xs ≡ position p (map f xs)
-position-map p f xs = position_from-zero (λ x. p (f x)) xs ∙ position-from-map p f xs 0 ∙ sym (position_from-zero p (map f xs))
 
 -- ---- more steps than numbers
 
@@ -148,10 +141,10 @@ meets (suc n) s below = meets-first n s below (came-before s (s (suc n)) (suc n)
 
 -- by its next event, and what that waits for
 pub awaits-by : (left : List (List Event)) (awaited : Fact → Bool) (k : ℕ) (e : Event) (f : Fact) → next_at left k ≡ Some e → find awaited (waits_for e) ≡ Some f
-    → awaits_at left awaited k ≡ position (λ events. is_shown events f) left
+    → awaits_at left awaited k ≡ position_from (λ events. is_shown events f) 0 left
 awaits-by left awaited k e f next waits =
-    ap (λ o. option_and_then (λ x. option_and_then (λ g. position (λ events. is_shown events g) left) (find awaited (waits_for x))) o) next
-    ∙ ap (λ o. option_and_then (λ g. position (λ events. is_shown events g) left) o) waits
+    ap (λ o. option_and_then (λ x. option_and_then (λ g. position_from (λ events. is_shown events g) 0 left) (find awaited (waits_for x))) o) next
+    ∙ ap (λ o. option_and_then (λ g. position_from (λ events. is_shown events g) 0 left) o) waits
 
 module _ (processes left : List (List Event)) (awaited : Fact → Bool) (t : List Event) (h : HaveCome processes left awaited t) (none : NoneIsFree left awaited) where
   not-both : (b : Bool) → b ≡ true → not b ≡ true → ⊥
@@ -171,10 +164,6 @@ module _ (processes left : List (List Event)) (awaited : Fact → Bool) (t : Lis
             (sym (list_any-append (shows f) (own by.0 h.came) (events_at left by.0)) ∙ ap (λ (l : List Event). is_shown l f) (h.own_events by.0) ∙ by.1),
       )
 
-  some-next : (events : List Event) → has_next events ≡ true → (e : Event) × (slice_get events 0 ≡ Some e)
-  some-next [] e = absurd (true≢false (sym e))
-  some-next (x ∷ events) e = (x, refl)
-
   next-some : (events : List Event) (f : Fact) → is_shown events f ≡ true → has_next events ≡ true
   next-some [] f e = absurd (true≢false (sym e))
   next-some (x ∷ events) f e = refl
@@ -193,8 +182,8 @@ module _ (processes left : List (List Event)) (awaited : Fact → Bool) (t : Lis
       let at = places (λ (events : List Event). is_shown events waits.it) refl left 0 by.0 by.1 in
       record {
         to = at.n;
-        is = awaits-by left awaited k e waits.it next waits.found ∙ position_from-zero (λ (events : List Event). is_shown events waits.it) left ∙ at.found ∙ ap Some (omega arith);
-        waits = record { event = e; fact = waits.it; next = next; waits = found-at (waits_for e) waits.it waits.place waits.there; is_awaited = waits.passes; shown = at.passes };
+        is = awaits-by left awaited k e waits.it next waits.found ∙ at.found ∙ ap Some (omega arith);
+        waits = record { event = e; fact = waits.it; next = next; waits = contains-has (waits_for e) waits.it (waits.place, waits.there); is_awaited = waits.passes; shown = at.passes };
         within = at.within;
         goes_on = next-some (events_at left at.n) waits.it at.passes;
       }

@@ -10,7 +10,7 @@ use Rattle.trace_props.specs.declared.event.Event.{Event}
 use Rattle.trace_props.proofs.ObservedGrow.{list_any-stays}
 use Rattle.trace_merge.specs.declared.fact.Fact.{Fact}
 use Rattle.trace_merge.specs.Facts.{shows, is_shown, is_awaited, is_free, waits_for, MayCome, IsInOrder}
-use Rattle.trace_merge.specs.Merges.{Came, event_of, own, events_at, next_at, comes_in, IsMerge, HaveNoOrder, HaveCome, NoneIsFree}
+use Rattle.trace_merge.specs.Merges.{Came, event_of, own, events_at, next_at, has_next, comes_in, IsMerge, HaveNoOrder, HaveCome, NoneIsFree}
 use Rattle.trace_merge.proofs.ProcessesShown.{own-append, own-first, own-other, shown-of-own, shown-by-some, merge-shows}
 
 -- ---- who waits for nothing still does when less is awaited
@@ -35,6 +35,11 @@ awaited-by true d false true same shown e = absurd (let bad : false ≡ true = s
 awaited-by true d false false same shown e = ap (λ (b : Bool). b && true) (sym same)
 
 -- ---- lists
+
+-- where there is a next event, it is the first
+pub some-next : (events : List Event) → has_next events ≡ true → (e : Event) × (slice_get events 0 ≡ Some e)
+some-next [] there = absurd (let bad : false ≡ true = there in cc)
+some-next (x ∷ events) there = (x, refl)
 
 at-seam : (xs ys : List Event) (y : Event) → slice_get (xs ++ y ∷ ys) (length xs) ≡ Some y
 at-seam [] ys y = refl

@@ -87,32 +87,18 @@ module _ {S : Type 0} (meaning : Meaning S) where
 
     -- messages
     carries-each : (k : ℕ) (e : Event) → slice_get u k ≡ Some e → MayCarry (take k u) e
-    carries-each k (event.Started p) s = tt
     carries-each k (event.Sent x) s = sent-next t u k x s same (on k (event.Sent x) s).seven.1.1.1.1.0
     carries-each k (event.Delivered d) s = carries t u same in_order keeps.ordered.messages k d s (on k (event.Delivered d) s).seven.1.1.1.1.0
-    carries-each k (event.Blocked p) s = tt
-    carries-each k (event.Installed i) s = tt
-    carries-each k (event.Left p) s = tt
-    carries-each k (event.Crashed p) s = tt
+    carries-each k h s = tt
 
     follows-each : (k : ℕ) (e : Event) → slice_get u k ≡ Some e → MayOrder (take k u) e
-    follows-each k (event.Started p) s = tt
-    follows-each k (event.Sent x) s = tt
     follows-each k (event.Delivered d) s = follows t u same in_order keeps.ordered.messages k d s (on k (event.Delivered d) s).seven.1.1.1.0
-    follows-each k (event.Blocked p) s = tt
-    follows-each k (event.Installed i) s = tt
-    follows-each k (event.Left p) s = tt
-    follows-each k (event.Crashed p) s = tt
+    follows-each k h s = tt
 
     -- entries
     enters-each : (k : ℕ) (e : Event) → slice_get u k ≡ Some e → MayEnter meaning (take k u) e
-    enters-each k (event.Started p) s = tt
-    enters-each k (event.Sent x) s = tt
-    enters-each k (event.Delivered d) s = tt
-    enters-each k (event.Blocked p) s = tt
     enters-each k (event.Installed i) s = enters meaning t u same in_order keeps.state k i s (on k (event.Installed i) s).enters.0
-    enters-each k (event.Left p) s = tt
-    enters-each k (event.Crashed p) s = tt
+    enters-each k h s = tt
 
     -- so all conditions hold of each event there
     goes-there : EachEvent (GoesOn meaning) u
@@ -164,13 +150,9 @@ module _ {S : Type 0} (meaning : Meaning S) where
         (shown-not-awaited comes past (Installed i.view.id.creator i.view.id) (install-shown past i.view.id.creator i.view.id (installed-found meaning i.view.id past x known))) refl
 
   may-come : (comes : Fact → Bool) (past : List Event) (e : Event) → GoesOn meaning past e → MayCome comes past e
-  may-come comes past (event.Started p) m = refl
-  may-come comes past (event.Sent x) m = refl
   may-come comes past (event.Delivered d) m = free-delivery comes past d m.seven.1.1.1.1.0 m.seven.1.1.1.0
-  may-come comes past (event.Blocked p) m = refl
   may-come comes past (event.Installed i) m = free-install comes past i m.enters
-  may-come comes past (event.Left p) m = refl
-  may-come comes past (event.Crashed p) m = refl
+  may-come comes past h m = refl
 
   -- a trace that keeps the rules is in order
   pub in-order : (t : List Event) → IsVirtuallySynchronous meaning t → IsInOrder t

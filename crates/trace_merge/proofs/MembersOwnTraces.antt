@@ -9,7 +9,7 @@ use Rattle.std.proofs.lemmas.List.Elements.{filter-append, filter_map-append}
 use Rattle.address.specs.Ids.{Address, ViewId, same_address}
 use Rattle.state_transfer.specs.Meanings.{Meaning}
 use Rattle.trace_props.specs.declared.event.Event.{Event}
-use Rattle.trace_props.specs.declared.event.Event.TheVariants.{Started, Sent, Delivered, Blocked, Installed, Left, Crashed}
+use Rattle.trace_props.specs.declared.event.Event.TheVariants.{Delivered, Installed}
 use Rattle.trace_props.specs.Observed.{member_of, is_start, is_end, has_started, has_ended, view_after, current_view, block_after, is_blocked, delivered_message, delivered_in, said, sent_in}
 use Rattle.trace_props.specs.State.{state_after, state_of}
 use Rattle.trace_props.proofs.ObservedGrow.{has_started-other, has_ended-other, current_view-other, is_blocked-other}
@@ -86,13 +86,9 @@ module _ (p : Address) (t u : List Event) (same : happened_to p t ≡ happened_t
 module _ {S : Type 0} (meaning : Meaning S) (p : Address) where
   -- what happens to another leaves the state
   state-other : (s : S) (h : Event) → is_of p h ≡ false → state_after meaning p s h ≡ s
-  state-other s (Started q) e = refl
-  state-other s (Sent m) e = refl
   state-other s (Delivered d) e = cond-false (same_address d.member p) (meaning.apply s d.message.sender d.message.payload) s e
-  state-other s (Blocked q) e = refl
   state-other s (Installed i) e = cond-false (same_address i.member p) _ s e
-  state-other s (Left q) e = refl
-  state-other s (Crashed q) e = refl
+  state-other s h e = refl
 
   pub state_of-still : (t : List Event) (h : Event) → is_of p h ≡ false → state_of meaning p (t ++ h ∷ []) ≡ state_of meaning p t
   state_of-still t h e = state_of-push meaning p t h ∙ state-other (state_of meaning p t) h e

@@ -1,6 +1,7 @@
 -- What came of each process, and what is shown by it.
 use Rattle.std.proofs.Common.{◌≡◌, ℕ, suc, zero, Bool, true, false, cond, nat_eq, eq-eqb, ◌||◌, List, [], ◌∷◌, ◌++◌, map, refl, sym, ap, ◌∙◌, subst}
 use Rattle.std.specs.List.{filter}
+use Rattle.std.proofs.lemmas.Bool.{or_left, or_right}
 use Rattle.std.proofs.lemmas.List.{map-append}
 use Rattle.std.proofs.lemmas.List.Elements.{filter-append}
 use Rattle.trace_props.specs.declared.event.Event.{Event}
@@ -9,13 +10,6 @@ use Rattle.trace_merge.specs.Facts.{shows, is_shown}
 use Rattle.trace_merge.specs.Merges.{Came, event_of, own, events_at, comes_in, IsMerge}
 
 -- ---- truth values
-
-pub or-left : (a b : Bool) → a ≡ true → (a || b) ≡ true
-or-left a b e = ap (λ (x : Bool). x || b) e
-
-pub or-right : (a b : Bool) → b ≡ true → (a || b) ≡ true
-or-right true b e = refl
-or-right false b e = e
 
 pub or-cases : (P : Type 0) (a b : Bool) → (a ≡ true → P) → (b ≡ true → P) → (a || b) ≡ true → P
 or-cases P true b left right e = left refl
@@ -48,8 +42,8 @@ module _ (f : Fact) where
   shown-by-first : (b : Bool) (c : Came) (events rest : List Event) → (is_shown events f ≡ true → is_shown rest f ≡ true) → is_shown (cond b (c.event ∷ events) events) f ≡ true
       → is_shown (c.event ∷ rest) f ≡ true
   shown-by-first true c events rest go e = or-cases (is_shown (c.event ∷ rest) f ≡ true) (shows f c.event) (is_shown events f)
-      (λ here. or-left (shows f c.event) (is_shown rest f) here) (λ there. or-right (shows f c.event) (is_shown rest f) (go there)) e
-  shown-by-first false c events rest go e = or-right (shows f c.event) (is_shown rest f) (go e)
+      (λ here. or_left (shows f c.event) (is_shown rest f) here) (λ there. or_right (shows f c.event) (is_shown rest f) (go there)) e
+  shown-by-first false c events rest go e = or_right (shows f c.event) (is_shown rest f) (go e)
 
   map-cond : (b : Bool) (c : Came) (xs : List Came) → map event_of (cond b (c ∷ xs) xs) ≡ cond b (c.event ∷ map event_of xs) (map event_of xs)
   map-cond true c xs = refl
@@ -63,13 +57,13 @@ module _ (f : Fact) where
 
   -- by what came, then by what came of some process
   own-has : (k : ℕ) (b : Bool) (c : Came) (xs : List Came) → is_shown (map event_of xs) f ≡ true → is_shown (map event_of (cond b (c ∷ xs) xs)) f ≡ true
-  own-has k true c xs e = or-right (shows f c.event) (is_shown (map event_of xs) f) e
+  own-has k true c xs e = or_right (shows f c.event) (is_shown (map event_of xs) f) e
   own-has k false c xs e = e
 
   pub shown-by-some : (came : List Came) → is_shown (map event_of came) f ≡ true → (k : ℕ) × (is_shown (own k came) f ≡ true)
   shown-by-some [] e = absurd (let bad : false ≡ true = e in cc)
   shown-by-some (c ∷ came) e = or-cases ((k : ℕ) × (is_shown (own k (c ∷ came)) f ≡ true)) (shows f c.event) (is_shown (map event_of came) f)
-      (λ here. (c.process, subst (λ (l : List Event). is_shown l f ≡ true) (sym (own-first c came)) (or-left (shows f c.event) (is_shown (own c.process came) f) here)))
+      (λ here. (c.process, subst (λ (l : List Event). is_shown l f ≡ true) (sym (own-first c came)) (or_left (shows f c.event) (is_shown (own c.process came) f) here)))
       (λ there. let found : (k : ℕ) × (is_shown (own k came) f ≡ true) = shown-by-some came there in
       (found.0, own-has found.0 (nat_eq c.process found.0) c (filter (λ (d : Came). nat_eq d.process found.0) came) found.1))
       e
@@ -77,8 +71,8 @@ module _ (f : Fact) where
   -- by some process, and the same
   pub comes-of : (processes : List (List Event)) (k : ℕ) → is_shown (events_at processes k) f ≡ true → comes_in processes f ≡ true
   comes-of [] k e = e
-  comes-of (events ∷ processes) zero e = or-left (is_shown events f) (comes_in processes f) e
-  comes-of (events ∷ processes) (suc k) e = or-right (is_shown events f) (comes_in processes f) (comes-of processes k e)
+  comes-of (events ∷ processes) zero e = or_left (is_shown events f) (comes_in processes f) e
+  comes-of (events ∷ processes) (suc k) e = or_right (is_shown events f) (comes_in processes f) (comes-of processes k e)
 
   pub comes-by : (processes : List (List Event)) → comes_in processes f ≡ true → (k : ℕ) × (is_shown (events_at processes k) f ≡ true)
   comes-by [] e = absurd (let bad : false ≡ true = e in cc)

@@ -20,12 +20,9 @@ abbrev pub same_fact : Fact → Fact → Bool
 same_fact (Sent a) (Sent b) = same_message a b
 same_fact (Delivered p a) (Delivered q b) = same_address p q && same_message a b
 same_fact (Installed p v) (Installed q w) = same_address p q && same_view_id v w
-same_fact (Sent a) (Delivered q b) = false
-same_fact (Sent a) (Installed q w) = false
-same_fact (Delivered p a) (Sent b) = false
-same_fact (Delivered p a) (Installed q w) = false
-same_fact (Installed p v) (Sent b) = false
-same_fact (Installed p v) (Delivered q b) = false
+same_fact (Sent a) g = false
+same_fact (Delivered p a) g = false
+same_fact (Installed p v) g = false
 
 -- the message of a send, and of a delivery
 abbrev pub sent : Sending → MessageKey
@@ -36,13 +33,10 @@ delivered d = record { view = d.view; sender = d.message.sender; number = d.mess
 
 -- what an event shows
 abbrev pub shown_by : Event → Option Fact
-shown_by (event.Started p) = None
 shown_by (event.Sent s) = Some (Sent (sent s))
 shown_by (event.Delivered d) = Some (Delivered d.member (delivered d))
-shown_by (event.Blocked p) = None
 shown_by (event.Installed i) = Some (Installed i.member i.view.id)
-shown_by (event.Left p) = None
-shown_by (event.Crashed p) = None
+shown_by h = None
 
 -- what comes before a delivery: its message's send, and its view's coordinator's delivery of it
 abbrev pub before_delivery : Delivery → List Fact
@@ -54,13 +48,9 @@ before_install i = if same_address i.member i.view.id.creator then [] else Insta
 
 -- what comes before an event, where it comes at all
 abbrev pub waits_for : Event → List Fact
-waits_for (event.Started p) = []
-waits_for (event.Sent s) = []
 waits_for (event.Delivered d) = before_delivery d
-waits_for (event.Blocked p) = []
 waits_for (event.Installed i) = before_install i
-waits_for (event.Left p) = []
-waits_for (event.Crashed p) = []
+waits_for h = []
 
 -- whether an event shows something, and whether one of some events does
 abbrev pub shows : Fact → Event → Bool

@@ -1,7 +1,7 @@
 -- Why traces are not put together.
-use Rattle.std.specs.Prelude.{◌≡◌, ⊤, ℕ, zero, suc, ◌+◌, Bool, true, Option, Some, List, map, length, find, position, slice_get, is_some, unwrap_or}
+use Rattle.std.specs.Prelude.{◌≡◌, ⊤, ℕ, zero, suc, ◌+◌, Bool, true, Option, Some, List, map, length, find, slice_get, is_some, unwrap_or}
 use Rattle.std.specs.Borrow.{Bor}
-use Rattle.std.specs.List.{Contains}
+use Rattle.std.specs.List.{Contains, position_from}
 use Rattle.std.specs.Option.{option_and_then}
 use Rattle.trace_props.specs.declared.event.Event.{Event}
 use Rattle.trace_merge.specs.declared.fact.Fact.{Fact}
@@ -45,7 +45,7 @@ pub record WaitsInCircle (processes : List (List Event)) (k n : ℕ) : Type 0 wh
 
 -- the process of which an event is left that shows what the next event of a process waits for; and so many steps on
 abbrev pub awaits_at : List (List Event) → (Fact → Bool) → ℕ → Option ℕ
-awaits_at left awaited k = option_and_then (λ e. option_and_then (λ f. position (λ events. is_shown events f) left) (find awaited (waits_for e))) (next_at left k)
+awaits_at left awaited k = option_and_then (λ e. option_and_then (λ f. position_from (λ events. is_shown events f) 0 left) (find awaited (waits_for e))) (next_at left k)
 
 abbrev pub followed : List (List Event) → (Fact → Bool) → ℕ → ℕ → ℕ
 followed left awaited k zero = k

@@ -40,7 +40,10 @@ fn given(alloc: Global, state: &Option<Bytes>) -> Result<Option<Bytes>, AllocErr
 fn view(alloc: Global, view: &View) -> Result<View, AllocError>
     ensures { IfOk result (λ v. v ≡ view.now) }
 {
-    View::new(view.id(), view.members().copied(alloc)?).map_err(|_| AllocError)
+    match View::new(view.id(), view.members().copied(alloc)?) {
+        Ok(copy) => Ok(copy),
+        Err(_) => Err(AllocError),
+    }
 }
 
 fn install(alloc: Global, install: &Install) -> Result<Install, AllocError>

@@ -2,11 +2,11 @@
 
 ghost use Rattle.std.specs.Prelude.{◌≡◌, [], ◌∷◌, find};
 ghost use Rattle.std.specs.HashSet.{contains};
-ghost use Rattle.trace_merge.specs.Facts.{same_fact, sent, delivered, shown_by, before_delivery, before_install, waits_for, shows, is_shown, is_free};
+ghost use Rattle.trace_merge.specs.Facts.{same_fact, delivered, shown_by, before_delivery, before_install, waits_for, shows, is_shown, is_free};
 
 use address::{Address, ViewId};
 use std::collections::HashSet;
-use trace_props::{Delivery, Event, Install, Sending};
+use trace_props::{Delivery, Event, Install};
 
 /// A message of a view, by its sender and its number.
 #[derive(Clone, Copy, PartialEq, Eq, Hash)]
@@ -27,17 +27,6 @@ pub enum Fact {
     Installed(Address, ViewId),
 }
 
-// The message that is sent.
-fn sent(sending: &Sending) -> MessageKey
-    ensures { result ≡ sent sending.now }
-{
-    MessageKey {
-        view: sending.view,
-        sender: sending.member,
-        number: sending.message.number,
-    }
-}
-
 // The message that is delivered.
 fn delivered(delivery: &Delivery) -> MessageKey
     ensures { result ≡ delivered delivery.now }
@@ -54,18 +43,19 @@ pub(crate) fn shown_by(event: &Event) -> Option<Fact>
     ensures { result ≡ shown_by event.now }
 {
     match event {
-        Event::Started(_) => None,
-        Event::Sent(sending) => Some(Fact::Sent(sent(sending))),
+        Event::Sent(sending) => Some(Fact::Sent(MessageKey {
+            view: sending.view,
+            sender: sending.member,
+            number: sending.message.number,
+        })),
         Event::Delivered(delivery) => {
             Some(Fact::Delivered(delivery.member, delivered(delivery)))
         }
-        Event::Blocked(_) => None,
         Event::Installed(install) => {
             let install = install.get();
             Some(Fact::Installed(install.member, install.view.id()))
         }
-        Event::Left(_) => None,
-        Event::Crashed(_) => None,
+        _ => None,
     }
 }
 
@@ -121,13 +111,9 @@ pub(crate) fn awaited_by(event: &Event, awaited: &HashSet<Fact>) -> Option<Fact>
     ensures { result ≡ find (contains same_fact awaited.now) (waits_for event.now) }
 {
     match event {
-        Event::Started(_) => None,
-        Event::Sent(_) => None,
         Event::Delivered(delivery) => awaited_by_delivery(delivery, awaited),
-        Event::Blocked(_) => None,
         Event::Installed(install) => awaited_by_install(install.get(), awaited),
-        Event::Left(_) => None,
-        Event::Crashed(_) => None,
+        _ => None,
     }
 }
 
@@ -142,5 +128,10 @@ pub(crate) fn is_free(event: &Event, awaited: &HashSet<Fact>) -> bool
 pub(crate) fn is_shown(events: &[Event], fact: &Fact) -> bool
     ensures { result ≡ is_shown events.now fact.now }
 {
-    events.iter().any(|event| shows(event, fact))
+    for event in events {
+        if shows(event, fact) {
+            return true;
+        }
+    }
+    false
 }

@@ -1,5 +1,5 @@
-ghost use Rattle.std.specs.Prelude.{◌≡◌, ◌<◌, ◌||◌, ◌&&◌, not, ℕ, true, List, ◌++◌, ◌∷◌, [], length, position, IfOk, OnOk, MatchOption, MatchResult};
-ghost use Rattle.std.specs.List.{sum_by};
+ghost use Rattle.std.specs.Prelude.{◌≡◌, ◌<◌, ◌||◌, ◌&&◌, not, ℕ, true, List, ◌++◌, ◌∷◌, [], length, IfOk, OnOk, MatchOption, MatchResult};
+ghost use Rattle.std.specs.List.{sum_by, position_from};
 ghost use Rattle.std.specs.HashSet.{contains};
 ghost use Rattle.trace_props.specs.Recorded.{IsShort};
 ghost use Rattle.trace_props.specs.declared.event.Event.{Event};
@@ -88,25 +88,16 @@ fn starts_free(left: &[Event], awaited: &HashSet<Fact>) -> bool
     }
 }
 
-// The first of which there is such a next event.
-fn first_free(left: &[&[Event]], awaited: &HashSet<Fact>) -> Option<usize>
-    ensures { result ≡ position (λ events. starts_free (contains same_fact awaited.now) events.now) left.now }
-{
-    left.iter().position(|events| starts_free(events, awaited))
-}
-
-// The first of which there is a next event.
-fn first_waiting(left: &[&[Event]]) -> Option<usize>
-    ensures { result ≡ position (λ events. has_next events.now) left.now }
-{
-    left.iter().position(|events| events.first().is_some())
-}
-
 // The first that shows something.
 fn first_showing(left: &[&[Event]], fact: &Fact) -> Option<usize>
-    ensures { result ≡ position (λ events. is_shown events.now fact.now) left.now }
+    ensures { result ≡ position_from (λ events. is_shown events.now fact.now) 0 left.now }
 {
-    left.iter().position(|events| is_shown(events, fact))
+    for (process, events) in left.iter().enumerate() {
+        if is_shown(events, fact) {
+            return Some(process);
+        }
+    }
+    None
 }
 
 // The first of which an event is left that shows what the next event of a process waits for.
@@ -174,7 +165,12 @@ impl<'a> Merging<'a> {
     fn next_free(&self) -> Option<usize>
         ensures { MatchOption result (NoneIsFree (slices self.now.left.items) (contains same_fact self.now.awaited)) (IsFreeAt (slices self.now.left.items) (contains same_fact self.now.awaited)) }
     {
-        first_free(self.left.as_slice(), &self.awaited)
+        for (process, events) in self.left.iter().enumerate() {
+            if starts_free(events, &self.awaited) {
+                return Some(process);
+            }
+        }
+        None
     }
 
     // The next event of a process comes, which waits for nothing.
@@ -199,7 +195,12 @@ impl<'a> Merging<'a> {
     fn waiting(&self) -> Option<usize>
         ensures { MatchOption result (NoneIsLeft (slices self.now.left.items)) (λ k. has_next (events_at (slices self.now.left.items) k) ≡ true) }
     {
-        first_waiting(self.left.as_slice())
+        for (process, events) in self.left.iter().enumerate() {
+            if events.first().is_some() {
+                return Some(process);
+            }
+        }
+        None
     }
 
     // From a process so many steps on as there are processes, each to one for which the process waits: where that ends, one waits in a circle.
