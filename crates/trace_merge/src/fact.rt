@@ -2,7 +2,7 @@
 
 ghost use Rattle.std.specs.Prelude.{◌≡◌, [], ◌∷◌, find};
 ghost use Rattle.std.specs.HashSet.{contains};
-ghost use Rattle.trace_merge.specs.Facts.{same_fact, delivered, shown_by, before_delivery, before_install, waits_for, shows, is_shown, is_free};
+ghost use Rattle.trace_merge.specs.Facts.{same_fact, delivered, shown_by, before_delivery, before_install, waits_for, shows, is_shown};
 
 use address::{Address, ViewId};
 use std::collections::HashSet;
@@ -115,13 +115,6 @@ pub(crate) fn awaited_by(event: &Event, awaited: &HashSet<Fact>) -> Option<Fact>
         Event::Installed(install) => awaited_by_install(install.get(), awaited),
         _ => None,
     }
-}
-
-/// Whether an event waits for none of these.
-pub(crate) fn is_free(event: &Event, awaited: &HashSet<Fact>) -> bool
-    ensures { result ≡ is_free (contains same_fact awaited.now) event.now }
-{
-    awaited_by(event, awaited).is_none()
 }
 
 /// Whether one of some events shows something.

@@ -9,7 +9,7 @@ ghost use Rattle.trace_merge.specs.Merges.{lists_of, events_at, has_next, comes_
 ghost use Rattle.trace_merge.specs.Outcomes.{slices, awaits_at, followed, IsWhy};
 
 use crate::copies::copied;
-use crate::fact::{Fact, awaited_by, is_free, is_shown, shown_by};
+use crate::fact::{Fact, awaited_by, is_shown, shown_by};
 use std::alloc::{AllocError, Global};
 use std::collections::HashSet;
 use thiserror::Error;
@@ -83,7 +83,7 @@ fn starts_free(left: &[Event], awaited: &HashSet<Fact>) -> bool
     ensures { result ≡ starts_free (contains same_fact awaited.now) left.now }
 {
     match left.first() {
-        Some(event) => is_free(event, awaited),
+        Some(event) => awaited_by(event, awaited).is_none(),
         None => false,
     }
 }
