@@ -141,17 +141,12 @@ impl Flush {
     fn progress(&self) -> Progress
         ensures { result ≡ progress_of self.now }
     {
-        if self.have_reported(self.members.as_slice()) {
-            Progress::Complete
-        } else {
-            Progress::Waiting
+        for member in self.members.as_slice() {
+            if !self.has_reported(member) {
+                return Progress::Waiting;
+            }
         }
-    }
-
-    fn have_reported(&self, members: &[Address]) -> bool
-        ensures { result ≡ list_all (λ m. has_reported m self.now.reports) members.now }
-    {
-        members.iter().all(|member| self.has_reported(member))
+        Progress::Complete
     }
 
     /// Those of the list who reported the same previous view as this address, itself among them, in the list's order; nobody where it has not
@@ -168,10 +163,13 @@ impl Flush {
     fn all_from(&self, alloc: Global, previous: &Option<ViewId>) -> Result<Addresses, AllocError>
         ensures { IfOk result (λ t. t ≡ filter (λ m. has_come_from previous.now m self.now.reports) self.now.members) }
     {
-        let members = self.members.as_slice();
-        let left = members.iter().copied();
-        let left = left.filter(|member| self.has_come_from(previous, member));
-        Ok(Addresses::from_vec(left.collect(alloc)?))
+        let mut left = Vec::new(alloc);
+        for member in self.members.as_slice() {
+            if self.has_come_from(previous, member) {
+                left.push(*member)?;
+            }
+        }
+        Ok(Addresses::from_vec(left))
     }
 
     fn has_come_from(&self, previous: &Option<ViewId>, address: &Address) -> bool

@@ -1,8 +1,0 @@
-use Rattle.std.proofs.Common.{rules}
-use Rattle.flush.proofs.flushing.Flush.all_from.Goals as goal
-
-pub returns-in_err-collect : goal.returns-in_err-collect
-returns-in_err-collect c = search rules
-
-pub returns : goal.returns
-returns c = search rules
