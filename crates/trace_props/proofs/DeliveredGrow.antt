@@ -8,7 +8,7 @@ use Rattle.std.proofs.lemmas.List.Folds.{find-append}
 use Rattle.std.proofs.lemmas.Option.{none-some, same_Some}
 use Rattle.address.specs.Ids.{Address, ViewId, same_address, same_view_id}
 use Rattle.trace_props.specs.declared.event.Event.{Event}
-use Rattle.trace_props.specs.declared.event.Event.TheVariants.{Started, Sent, Delivered, Blocked, Installed, Left, Crashed}
+use Rattle.trace_props.specs.declared.event.Event.TheVariants.{Sent, Delivered, Installed}
 use Rattle.trace_props.specs.declared.event.Message.{Message}
 use Rattle.trace_props.specs.declared.event.Install.{Install}
 use Rattle.trace_props.specs.declared.event.Delivery.{Delivery}
@@ -47,13 +47,8 @@ is_delivery_to-true p v d e =
 
 -- what happens to another delivers nothing to this one
 delivered-other : (p : Address) (v : ViewId) (h : Event) → same_address (member_of h) p ≡ false → delivered_message p v h ≡ None
-delivered-other p v (Started q) e = refl
-delivered-other p v (Sent s) e = refl
 delivered-other p v (Delivered d) e = cond-false (is_delivery_to p v d) (Some d.message) None (and_left (same_address d.member p) (same_view_id d.view v) e)
-delivered-other p v (Blocked q) e = refl
-delivered-other p v (Installed i) e = refl
-delivered-other p v (Left q) e = refl
-delivered-other p v (Crashed q) e = refl
+delivered-other p v h e = refl
 
 -- so its lists stay
 pub delivered_in-other : (p : Address) (v : ViewId) (t : List Event) (h : Event) → same_address (member_of h) p ≡ false → delivered_in p v (t ++ h ∷ []) ≡ delivered_in p v t
@@ -89,13 +84,8 @@ said_by-true p v s e =
 
 -- what happens to another sends nothing of this one
 said-other : (p : Address) (v : ViewId) (h : Event) → same_address (member_of h) p ≡ false → said p v h ≡ None
-said-other p v (Started q) e = refl
 said-other p v (Sent s) e = cond-false (said_by p v s) (Some s.message) None (and_left (same_address s.member p) (same_view_id s.view v) e)
-said-other p v (Delivered d) e = refl
-said-other p v (Blocked q) e = refl
-said-other p v (Installed i) e = refl
-said-other p v (Left q) e = refl
-said-other p v (Crashed q) e = refl
+said-other p v h e = refl
 
 -- so its lists stay
 pub sent_in-other : (p : Address) (v : ViewId) (t : List Event) (h : Event) → same_address (member_of h) p ≡ false → sent_in p v (t ++ h ∷ []) ≡ sent_in p v t
@@ -191,13 +181,8 @@ find-found p f (a ∷ t) (suc k) x y s g e = found-skip p (f a) (filter_map f t)
 
 -- who gives an install is that install
 pub install_of-some : (h : Event) (i : Install) → install_of h ≡ Some i → h ≡ Installed i
-install_of-some (Started q) i e = absurd (none-some i e)
-install_of-some (Sent s) i e = absurd (none-some i e)
-install_of-some (Delivered d) i e = absurd (none-some i e)
-install_of-some (Blocked q) i e = absurd (none-some i e)
 install_of-some (Installed j) i e = ap Installed (same_Some j i e)
-install_of-some (Left q) i e = absurd (none-some i e)
-install_of-some (Crashed q) i e = absurd (none-some i e)
+install_of-some h i e = absurd (none-some i e)
 
 -- where an install stands that passes a test
 pub record StandsIn (test : Install → Bool) (t : List Event) (i : Install) : Type 0 where

@@ -4,7 +4,7 @@ use Rattle.std.proofs.lemmas.Bool.{and_left}
 use Rattle.std.specs.Option.{ForSome}
 use Rattle.address.specs.Ids.{same_address, same_view_id}
 use Rattle.trace_props.specs.declared.event.Event.{Event}
-use Rattle.trace_props.specs.declared.event.Event.TheVariants.{Started, Sent, Delivered, Blocked, Installed, Left, Crashed}
+use Rattle.trace_props.specs.declared.event.Event.TheVariants.{Sent, Delivered, Installed}
 use Rattle.trace_props.specs.declared.event.Numbered.{Numbered}
 use Rattle.trace_props.specs.declared.event.Message.{Message}
 use Rattle.trace_props.specs.declared.event.Install.{Install}
@@ -33,13 +33,8 @@ members-needed t i r f e =
 
 -- what happens under rising views may rise
 pub views-needed : (t : List Event) (h : Event) → HasRisingViews (t ++ h ∷ []) → MayRise t h
-views-needed t (Started p) r = tt
-views-needed t (Sent s) r = tt
-views-needed t (Delivered d) r = tt
-views-needed t (Blocked p) r = tt
 views-needed t (Installed i) r = (EachEvent-last RisesAt t (Installed i) r.rises, members-needed t i r)
-views-needed t (Left p) r = tt
-views-needed t (Crashed p) r = tt
+views-needed t h r = tt
 
 -- a message that is sent under sound messages has the next number
 sent-needed : (t : List Event) (s : Sending) → HasSoundMessages (t ++ Sent s ∷ []) → s.message.number ≡ length (sent_in s.member s.view t) + 1
@@ -59,16 +54,12 @@ delivered-needed t d r =
 
 -- what happens under sound messages may carry its message
 pub messages-needed : (t : List Event) (h : Event) → HasSoundMessages (t ++ h ∷ []) → MayCarry t h
-messages-needed t (Started p) r = tt
 messages-needed t (Sent s) r = sent-needed t s r
 messages-needed t (Delivered d) r =
     let at = delivered-needed t d r in
     let before : ℕ = length (own d.message.sender (delivered_in d.member d.view t)) in
     (r.numbers d.message.sender d.view before (numbered d.message) (ap (λ ns. slice_get ns before) (sent_in-still d.message.sender d.view t (Delivered d) refl) ∙ at), at)
-messages-needed t (Blocked p) r = tt
-messages-needed t (Installed i) r = tt
-messages-needed t (Left p) r = tt
-messages-needed t (Crashed p) r = tt
+messages-needed t h r = tt
 
 -- who delivers a message under one order, and is not the coordinator, delivers the next of what that one delivered
 delivered-in-order : (t : List Event) (d : Delivery) → HasOneOrder (t ++ Delivered d ∷ []) → same_address d.member d.view.creator ≡ false
@@ -82,10 +73,5 @@ delivered-in-order t d r e =
 
 -- what happens under one order may follow it
 pub order-needed : (t : List Event) (h : Event) → HasOneOrder (t ++ h ∷ []) → MayOrder t h
-order-needed t (Started p) r = tt
-order-needed t (Sent s) r = tt
 order-needed t (Delivered d) r = delivered-in-order t d r
-order-needed t (Blocked p) r = tt
-order-needed t (Installed i) r = tt
-order-needed t (Left p) r = tt
-order-needed t (Crashed p) r = tt
+order-needed t h r = tt

@@ -8,7 +8,7 @@ use Rattle.std.proofs.lemmas.List.{append-nil, append_assoc}
 use Rattle.std.proofs.lemmas.Option.{none-some, same_Some}
 use Rattle.address.specs.Ids.{Address, ViewId, same_address, same_view_id}
 use Rattle.trace_props.specs.declared.event.Event.{Event}
-use Rattle.trace_props.specs.declared.event.Event.TheVariants.{Started, Sent, Delivered, Blocked, Installed, Left, Crashed}
+use Rattle.trace_props.specs.declared.event.Event.TheVariants.{Installed}
 use Rattle.trace_props.specs.declared.event.Install.{Install}
 use Rattle.trace_props.specs.Observed.{current_view, view_after, install_of, entry_of}
 use Rattle.trace_props.specs.Rules.{IsBelow, RisesAt, EntersAbove, HasRisingViews}
@@ -94,13 +94,8 @@ view-stands-install p t i true e r v s =
     }
 
 view-stands-push : (p : Address) (t : List Event) (h : Event) → ViewStands p t → ViewStands p (t ++ h ∷ [])
-view-stands-push p t (Started q) r = view-stands-still p t (Started q) refl r
-view-stands-push p t (Sent s) r = view-stands-still p t (Sent s) refl r
-view-stands-push p t (Delivered d) r = view-stands-still p t (Delivered d) refl r
-view-stands-push p t (Blocked q) r = view-stands-still p t (Blocked q) refl r
 view-stands-push p t (Installed i) r = view-stands-install p t i (same_address i.member p) refl r
-view-stands-push p t (Left q) r = view-stands-still p t (Left q) refl r
-view-stands-push p t (Crashed q) r = view-stands-still p t (Crashed q) refl r
+view-stands-push p t h r = view-stands-still p t h refl r
 
 -- the current view of a member is one that it installed
 pub view-stands : (p : Address) (t : List Event) (v : ViewId) → current_view p t ≡ Some v → HasEntered p v t
@@ -150,17 +145,12 @@ passed-on t i e true s above x =
 
 passes-push : (t : List Event) (h : Event) → Passes t → Passes (t ++ h ∷ [])
 unfolding Passes
-passes-push t (Started q) r = passes-still t (Started q) (λ p. refl) refl r
-passes-push t (Sent s) r = passes-still t (Sent s) (λ p. refl) refl r
-passes-push t (Delivered d) r = passes-still t (Delivered d) (λ p. refl) refl r
-passes-push t (Blocked q) r = passes-still t (Blocked q) (λ p. refl) refl r
 passes-push t (Installed i) r = λ views.
     EachInstall-push (IsPassed t) (IsPassed (t ++ Installed i ∷ [])) t i
     (λ e x. passed-on t i e (same_address i.member e.member) refl (EachEvent-last RisesAt t (Installed i) views.rises) x)
     (r (views-before t (Installed i) views))
     (record { now = i.view.id; is = current_view-now t i; up_to = inl refl })
-passes-push t (Left q) r = passes-still t (Left q) (λ p. refl) refl r
-passes-push t (Crashed q) r = passes-still t (Crashed q) (λ p. refl) refl r
+passes-push t h r = passes-still t h (λ p. refl) refl r
 
 -- under rising views no member goes back
 pub passed : (t : List Event) → HasRisingViews t → EachInstall (IsPassed t) t
@@ -205,16 +195,11 @@ entry-new t i (Some f) e r above = absurd (not-entered t i r above f e)
 
 enters-push : (t : List Event) (h : Event) → Enters t → Enters (t ++ h ∷ [])
 unfolding Enters
-enters-push t (Started q) r = enters-still t (Started q) refl r
-enters-push t (Sent s) r = enters-still t (Sent s) refl r
-enters-push t (Delivered d) r = enters-still t (Delivered d) refl r
-enters-push t (Blocked q) r = enters-still t (Blocked q) refl r
 enters-push t (Installed i) r = λ views.
     EachInstall-push (IsEntry t) (IsEntry (t ++ Installed i ∷ [])) t i (λ e x. register-stays (enters e.member e.view.id) t (Installed i ∷ []) e x)
     (r (views-before t (Installed i) views))
     (entry-new t i (entry_of i.member i.view.id t) refl (views-before t (Installed i) views) (EachEvent-last RisesAt t (Installed i) views.rises))
-enters-push t (Left q) r = enters-still t (Left q) refl r
-enters-push t (Crashed q) r = enters-still t (Crashed q) refl r
+enters-push t h r = enters-still t h refl r
 
 -- under rising views each install is its member's one of its view
 pub entered : (t : List Event) → HasRisingViews t → EachInstall (IsEntry t) t

@@ -5,7 +5,7 @@ use Rattle.std.proofs.lemmas.List.Elements.{filter_map-append}
 use Rattle.std.proofs.lemmas.Option.{none-some, slice_get_within, get_or_from_slice_get}
 use Rattle.address.specs.Ids.{Address, ViewId, same_address, same_view_id}
 use Rattle.trace_props.specs.declared.event.Event.{Event}
-use Rattle.trace_props.specs.declared.event.Event.TheVariants.{Started, Sent, Delivered, Blocked, Installed, Left, Crashed}
+use Rattle.trace_props.specs.declared.event.Event.TheVariants.{Sent, Delivered, Installed}
 use Rattle.trace_props.specs.declared.event.Numbered.{Numbered}
 use Rattle.trace_props.specs.declared.event.Message.{Message}
 use Rattle.trace_props.specs.declared.event.Install.{Install}
@@ -25,13 +25,8 @@ use Rattle.trace_props.proofs.InstallRulesGrow.{EachInstall, EachTwoInstalls-sti
 
 -- what may follow meets the rule on each install
 rises-from : (t : List Event) (h : Event) → MayRise t h → RisesAt t h
-rises-from t (Started p) m = tt
-rises-from t (Sent s) m = tt
-rises-from t (Delivered d) m = tt
-rises-from t (Blocked p) m = tt
 rises-from t (Installed i) m = m.0
-rises-from t (Left p) m = tt
-rises-from t (Crashed p) m = tt
+rises-from t h m = tt
 
 -- who installs the same view id installs the same members
 abbrev pub SameMembers : Install → Install → Type 0
@@ -45,14 +40,9 @@ agrees-old t i v m k e s same =
     v.agrees k at.place e first.0 s at.stands (same ∙ sym (same_view_id-true first.0.view.id i.view.id at.passes)) ∙ m.1 first.0 first.1
 
 agrees-push : (t : List Event) (h : Event) → HasRisingViews t → MayRise t h → EachTwoInstalls SameMembers (t ++ h ∷ [])
-agrees-push t (Started p) v m = EachTwoInstalls-still SameMembers SameMembers t (Started p) (λ e f x. x) refl v.agrees
-agrees-push t (Sent s) v m = EachTwoInstalls-still SameMembers SameMembers t (Sent s) (λ e f x. x) refl v.agrees
-agrees-push t (Delivered d) v m = EachTwoInstalls-still SameMembers SameMembers t (Delivered d) (λ e f x. x) refl v.agrees
-agrees-push t (Blocked p) v m = EachTwoInstalls-still SameMembers SameMembers t (Blocked p) (λ e f x. x) refl v.agrees
 agrees-push t (Installed i) v m =
     EachTwoInstalls-push SameMembers SameMembers t i (λ e f x. x) v.agrees (agrees-old t i v m) (λ k e s same. sym (agrees-old t i v m k e s (sym same))) (λ same. refl)
-agrees-push t (Left p) v m = EachTwoInstalls-still SameMembers SameMembers t (Left p) (λ e f x. x) refl v.agrees
-agrees-push t (Crashed p) v m = EachTwoInstalls-still SameMembers SameMembers t (Crashed p) (λ e f x. x) refl v.agrees
+agrees-push t h v m = EachTwoInstalls-still SameMembers SameMembers t h (λ e f x. x) refl v.agrees
 
 -- rising views go one event further
 pub views-push : (t : List Event) (h : Event) → HasRisingViews t → MayRise t h → HasRisingViews (t ++ h ∷ [])
@@ -80,13 +70,8 @@ numbers-sent t s p v true e r m =
     (IsNumbered-push (sent_in p v t) s.message (r.numbers p v) (m ∙ ap (λ q. length (sent_in q s.view t) + 1) same.0 ∙ ap (λ w. length (sent_in p w t) + 1) same.1))
 
 numbers-push : (t : List Event) (h : Event) → HasSoundMessages t → MayCarry t h → (p : Address) (v : ViewId) → IsNumbered (sent_in p v (t ++ h ∷ []))
-numbers-push t (Started q) r m p v = numbers-still t (Started q) p v r refl
 numbers-push t (Sent s) r m p v = numbers-sent t s p v (said_by p v s) refl r m
-numbers-push t (Delivered d) r m p v = numbers-still t (Delivered d) p v r refl
-numbers-push t (Blocked q) r m p v = numbers-still t (Blocked q) p v r refl
-numbers-push t (Installed i) r m p v = numbers-still t (Installed i) p v r refl
-numbers-push t (Left q) r m p v = numbers-still t (Left q) p v r refl
-numbers-push t (Crashed q) r m p v = numbers-still t (Crashed q) p v r refl
+numbers-push t h r m p v = numbers-still t h p v r refl
 
 -- what stands at a place is contained
 pub Contains-at : {X : Type 0} (xs : List X) (k : ℕ) (x : X) → slice_get xs k ≡ Some x → Contains xs x
@@ -94,14 +79,9 @@ Contains-at xs k x e = (k, slice_get_within xs k x e, get_or_from_slice_get xs k
 
 -- what may follow was sent
 sent-from : (t : List Event) (h : Event) → MayCarry t h → WasSent t h
-sent-from t (Started p) m = tt
-sent-from t (Sent s) m = tt
 sent-from t (Delivered d) m =
     Contains-at (sent_in d.message.sender d.view t) (length (own d.message.sender (delivered_in d.member d.view t))) (numbered d.message) m.1
-sent-from t (Blocked p) m = tt
-sent-from t (Installed i) m = tt
-sent-from t (Left p) m = tt
-sent-from t (Crashed p) m = tt
+sent-from t h m = tt
 
 -- one more message, unlike all that stand there
 pub IsOnce-push : (ms : List Message) (m : Message) → IsOnce ms → ((j : ℕ) (a : Message) → slice_get ms j ≡ Some a → a.sender ≡ m.sender → a.number ≡ m.number → ⊥) → IsOnce (ms ++ m ∷ [])
@@ -149,13 +129,8 @@ once-delivered t d p v true e r m =
     (IsOnce-push (delivered_in d.member d.view t) d.message (r.once d.member d.view) (delivered-fresh t d r m))))
 
 once-push : (t : List Event) (h : Event) → HasSoundMessages t → MayCarry t h → (p : Address) (v : ViewId) → IsOnce (delivered_in p v (t ++ h ∷ []))
-once-push t (Started q) r m p v = once-still t (Started q) p v r refl
-once-push t (Sent s) r m p v = once-still t (Sent s) p v r refl
 once-push t (Delivered d) r m p v = once-delivered t d p v (is_delivery_to p v d) refl r m
-once-push t (Blocked q) r m p v = once-still t (Blocked q) p v r refl
-once-push t (Installed i) r m p v = once-still t (Installed i) p v r refl
-once-push t (Left q) r m p v = once-still t (Left q) p v r refl
-once-push t (Crashed q) r m p v = once-still t (Crashed q) p v r refl
+once-push t h r m p v = once-still t h p v r refl
 
 -- who delivers nothing stays at a beginning of what was sent
 turn-still : (t : List Event) (h : Event) (p q : Address) (v : ViewId) → HasSoundMessages t → delivered_message p v h ≡ None → IsBeginningOf (own q (delivered_in p v (t ++ h ∷ []))) (sent_in q v (t ++ h ∷ []))
@@ -187,13 +162,8 @@ turn-delivered t d p q v true e r m =
     (turn-hit t d q (same_address d.message.sender q) refl r m))))
 
 turn-push : (t : List Event) (h : Event) → HasSoundMessages t → MayCarry t h → (p q : Address) (v : ViewId) → IsBeginningOf (own q (delivered_in p v (t ++ h ∷ []))) (sent_in q v (t ++ h ∷ []))
-turn-push t (Started x) r m p q v = turn-still t (Started x) p q v r refl
-turn-push t (Sent s) r m p q v = turn-still t (Sent s) p q v r refl
 turn-push t (Delivered d) r m p q v = turn-delivered t d p q v (is_delivery_to p v d) refl r m
-turn-push t (Blocked x) r m p q v = turn-still t (Blocked x) p q v r refl
-turn-push t (Installed i) r m p q v = turn-still t (Installed i) p q v r refl
-turn-push t (Left x) r m p q v = turn-still t (Left x) p q v r refl
-turn-push t (Crashed x) r m p q v = turn-still t (Crashed x) p q v r refl
+turn-push t h r m p q v = turn-still t h p q v r refl
 
 -- sound messages go one event further
 pub messages-push : (t : List Event) (h : Event) → HasSoundMessages t → MayCarry t h → HasSoundMessages (t ++ h ∷ [])
@@ -238,13 +208,8 @@ order-delivered t d p v true e r m =
 
 -- one order goes one event further
 pub order-push : (t : List Event) (h : Event) → HasOneOrder t → MayOrder t h → HasOneOrder (t ++ h ∷ [])
-order-push t (Started q) r m p v = order-still t (Started q) p v r refl
-order-push t (Sent s) r m p v = order-still t (Sent s) p v r refl
 order-push t (Delivered d) r m p v = order-delivered t d p v (is_delivery_to p v d) refl r m
-order-push t (Blocked q) r m p v = order-still t (Blocked q) p v r refl
-order-push t (Installed i) r m p v = order-still t (Installed i) p v r refl
-order-push t (Left q) r m p v = order-still t (Left q) p v r refl
-order-push t (Crashed q) r m p v = order-still t (Crashed q) p v r refl
+order-push t h r m p v = order-still t h p v r refl
 
 -- ALL FOUR
 

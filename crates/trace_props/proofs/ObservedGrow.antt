@@ -8,7 +8,7 @@ use Rattle.std.proofs.lemmas.List.Folds.{list_any-append}
 use Rattle.std.proofs.lemmas.List.Elements.{filter_map-append}
 use Rattle.address.specs.Ids.{Address, ViewId, same_address}
 use Rattle.trace_props.specs.declared.event.Event.{Event}
-use Rattle.trace_props.specs.declared.event.Event.TheVariants.{Started, Sent, Delivered, Blocked, Installed, Left, Crashed}
+use Rattle.trace_props.specs.declared.event.Event.TheVariants.{Started, Blocked, Installed}
 use Rattle.trace_props.specs.declared.event.Install.{Install}
 use Rattle.trace_props.specs.Observed.{member_of, is_start, is_end, has_started, has_ended, view_after, current_view, block_after, is_blocked}
 use Rattle.address.proofs.SameIds.{same_address-refl}
@@ -81,13 +81,8 @@ current_view-push p t h = fold-append (view_after p) None t (h ∷ [])
 
 -- what happens to another changes no view of this one
 view_after-other : (p : Address) (v : Option ViewId) (h : Event) → same_address (member_of h) p ≡ false → view_after p v h ≡ v
-view_after-other p v (Started q) e = refl
-view_after-other p v (Sent s) e = refl
-view_after-other p v (Delivered d) e = refl
-view_after-other p v (Blocked q) e = refl
 view_after-other p v (Installed i) e = cond-false (same_address i.member p) (Some i.view.id) v e
-view_after-other p v (Left q) e = refl
-view_after-other p v (Crashed q) e = refl
+view_after-other p v h e = refl
 
 -- so its current view stays
 pub current_view-other : (p : Address) (t : List Event) (h : Event) → same_address (member_of h) p ≡ false → current_view p (t ++ h ∷ []) ≡ current_view p t
@@ -103,13 +98,9 @@ is_blocked-push p t h = fold-append (block_after p) false t (h ∷ [])
 
 -- what happens to another does not block this one, or open it
 block_after-other : (p : Address) (b : Bool) (h : Event) → same_address (member_of h) p ≡ false → block_after p b h ≡ b
-block_after-other p b (Started q) e = refl
-block_after-other p b (Sent s) e = refl
-block_after-other p b (Delivered d) e = refl
 block_after-other p b (Blocked q) e = cond-false (same_address q p) true b e
 block_after-other p b (Installed i) e = cond-false (same_address i.member p) false b e
-block_after-other p b (Left q) e = refl
-block_after-other p b (Crashed q) e = refl
+block_after-other p b h e = refl
 
 -- so it stays blocked or open
 pub is_blocked-other : (p : Address) (t : List Event) (h : Event) → same_address (member_of h) p ≡ false → is_blocked p (t ++ h ∷ []) ≡ is_blocked p t

@@ -10,7 +10,7 @@ use Rattle.std.proofs.lemmas.Option.{none-some, same_Some}
 use Rattle.address.specs.Ids.{Address, ViewId, same_address, same_view_id}
 use Rattle.state_transfer.specs.Meanings.{Meaning}
 use Rattle.trace_props.specs.declared.event.Event.{Event}
-use Rattle.trace_props.specs.declared.event.Event.TheVariants.{Started, Sent, Delivered, Blocked, Installed, Left, Crashed}
+use Rattle.trace_props.specs.declared.event.Event.TheVariants.{Installed}
 use Rattle.trace_props.specs.declared.event.Install.{Install}
 use Rattle.trace_props.specs.State.{state_after, state_of, installs, entry_state, EntersAlike, EntersWithState}
 use Rattle.trace_props.specs.Agreeing.{MayEnter}
@@ -136,13 +136,8 @@ equals-matches {S} meaning t i (Some k) e m =
 
 -- who may enter enters alike
 alike-from : {S : Type 0} (meaning : Meaning S) (t : List Event) (h : Event) → MayEnter meaning t h → EntersAlike meaning t h
-alike-from meaning t (Started p) m = tt
-alike-from meaning t (Sent s) m = tt
-alike-from meaning t (Delivered d) m = tt
-alike-from meaning t (Blocked p) m = tt
 alike-from meaning t (Installed i) m = (m.0, matches-equals meaning t i (position_from (installs i.view.id.creator i.view.id) 0 t) refl m.1)
-alike-from meaning t (Left p) m = tt
-alike-from meaning t (Crashed p) m = tt
+alike-from meaning t h m = tt
 
 -- state of entry goes one event further
 pub enters-push : {S : Type 0} (meaning : Meaning S) (t : List Event) (h : Event)
@@ -150,13 +145,8 @@ pub enters-push : {S : Type 0} (meaning : Meaning S) (t : List Event) (h : Event
 enters-push meaning t h r m = EachEvent-push (EntersAlike meaning) t h r (alike-from meaning t h m)
 
 may-from : {S : Type 0} (meaning : Meaning S) (t : List Event) (h : Event) → EntersAlike meaning t h → MayEnter meaning t h
-may-from meaning t (Started p) m = tt
-may-from meaning t (Sent s) m = tt
-may-from meaning t (Delivered d) m = tt
-may-from meaning t (Blocked p) m = tt
 may-from meaning t (Installed i) m = (m.0, equals-matches meaning t i (position_from (installs i.view.id.creator i.view.id) 0 t) refl m.1)
-may-from meaning t (Left p) m = tt
-may-from meaning t (Crashed p) m = tt
+may-from meaning t h m = tt
 
 -- what happens under the rule may enter
 pub enters-needed : {S : Type 0} (meaning : Meaning S) (t : List Event) (h : Event) → EntersWithState meaning (t ++ h ∷ []) → MayEnter meaning t h

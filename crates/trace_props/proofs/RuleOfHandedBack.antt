@@ -3,7 +3,7 @@ use Rattle.std.proofs.Common.{◌≡◌, List, [], ◌∷◌, ◌++◌, length, 
 use Rattle.std.proofs.lemmas.List.{take-append-drop, drop_at}
 use Rattle.address.specs.Ids.{ViewId}
 use Rattle.trace_props.specs.declared.event.Event.{Event}
-use Rattle.trace_props.specs.declared.event.Event.TheVariants.{Started, Sent, Delivered, Blocked, Installed, Left, Crashed}
+use Rattle.trace_props.specs.declared.event.Event.TheVariants.{Installed}
 use Rattle.trace_props.specs.declared.event.Install.{Install}
 use Rattle.trace_props.specs.Observed.{delivered_in, sent_in, own}
 use Rattle.trace_props.specs.Rules.{HasSoundMessages, GivesBack, HandsBack}
@@ -29,26 +29,16 @@ rest-from-gives t i (Some v) m =
 
 -- the rest of what was sent gives back under sound messages
 gives-from : (t : List Event) (h : Event) → HasSoundMessages t → MayHandBack t h → GivesBack t h
-gives-from t (Started p) r m = tt
-gives-from t (Sent s) r m = tt
-gives-from t (Delivered d) r m = tt
-gives-from t (Blocked p) r m = tt
 gives-from t (Installed i) r m = gives-from-rest t i i.previous r m
-gives-from t (Left p) r m = tt
-gives-from t (Crashed p) r m = tt
+gives-from t h r m = tt
 
 -- handed back goes one event further
 pub hands-push : (t : List Event) (h : Event) → HasSoundMessages t → HandsBack t → MayHandBack t h → HandsBack (t ++ h ∷ [])
 hands-push t h messages r m = EachEvent-push GivesBack t h r (gives-from t h messages m)
 
 hands-from : (t : List Event) (h : Event) → GivesBack t h → MayHandBack t h
-hands-from t (Started p) m = tt
-hands-from t (Sent s) m = tt
-hands-from t (Delivered d) m = tt
-hands-from t (Blocked p) m = tt
 hands-from t (Installed i) m = rest-from-gives t i i.previous m
-hands-from t (Left p) m = tt
-hands-from t (Crashed p) m = tt
+hands-from t h m = tt
 
 -- what happens under the rule may hand back
 pub hands-needed : (t : List Event) (h : Event) → HandsBack (t ++ h ∷ []) → MayHandBack t h

@@ -4,7 +4,7 @@ use Rattle.std.proofs.lemmas.Bool.{and_from, and_parts, true≢false}
 use Rattle.std.proofs.lemmas.Option.{none-some, same_Some}
 use Rattle.address.specs.Ids.{Address, ViewId, same_view_id}
 use Rattle.trace_props.specs.declared.event.Event.{Event}
-use Rattle.trace_props.specs.declared.event.Event.TheVariants.{Started, Sent, Delivered, Blocked, Installed, Left, Crashed}
+use Rattle.trace_props.specs.declared.event.Event.TheVariants.{Delivered, Installed}
 use Rattle.trace_props.specs.declared.event.Install.{Install}
 use Rattle.trace_props.specs.declared.event.Delivery.{Delivery}
 use Rattle.trace_props.specs.Observed.{delivered_in, current_view, install_of}
@@ -80,23 +80,14 @@ meets-install t i order r m =
 
 -- same next view, same list goes one event further
 pub meets-push : (t : List Event) (h : Event) → HasRisingViews t → HasOneOrder t → MayStand t h → HasSameNext t → MayMeet t h → HasSameNext (t ++ h ∷ [])
-meets-push t (Started q) views order stands r m = meets-kept t (Started q) refl (λ k e v s came. delivered_in-still e.member v t (Started q) refl) r
-meets-push t (Sent x) views order stands r m = meets-kept t (Sent x) refl (λ k e v s came. delivered_in-still e.member v t (Sent x) refl) r
 meets-push t (Delivered d) views order stands r m = meets-kept t (Delivered d) refl (λ k e v s came. gone-delivered t d (is_delivery_to e.member v d) k e v refl views stands s came) r
-meets-push t (Blocked q) views order stands r m = meets-kept t (Blocked q) refl (λ k e v s came. delivered_in-still e.member v t (Blocked q) refl) r
 meets-push t (Installed i) views order stands r m = meets-install t i order r m
-meets-push t (Left q) views order stands r m = meets-kept t (Left q) refl (λ k e v s came. delivered_in-still e.member v t (Left q) refl) r
-meets-push t (Crashed q) views order stands r m = meets-kept t (Crashed q) refl (λ k e v s came. delivered_in-still e.member v t (Crashed q) refl) r
+meets-push t h views order stands r m = meets-kept t h refl (λ k e v s came. delivered_in-still e.member v t h refl) r
 
 -- what happens under the rule may meet
 pub meets-needed : (t : List Event) (h : Event) → HasSameNext (t ++ h ∷ []) → MayMeet t h
-meets-needed t (Started q) r = tt
-meets-needed t (Sent x) r = tt
-meets-needed t (Delivered d) r = tt
-meets-needed t (Blocked q) r = tt
 meets-needed t (Installed i) r = λ v right f e.
     let at = register-stands (goes v i.view.id) t f e in
     let way = and_parts (same_view_id f.view.id i.view.id) (is_view v f.previous) at.passes in
     ap length (sym (list-stayed t i i f (EachTwoInstalls-right (SameList (t ++ Installed i ∷ [])) t i r at.place f at.stands) (sym (same_view_id-true f.view.id i.view.id way.0)) v right (is_view-true v f.previous way.1)))
-meets-needed t (Left q) r = tt
-meets-needed t (Crashed q) r = tt
+meets-needed t h r = tt

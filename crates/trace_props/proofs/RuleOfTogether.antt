@@ -4,7 +4,7 @@ use Rattle.std.proofs.lemmas.Bool.{and_parts}
 use Rattle.address.specs.Ids.{Address, same_address, same_view_id}
 use Rattle.view.specs.Members.{stands_in}
 use Rattle.trace_props.specs.declared.event.Event.{Event}
-use Rattle.trace_props.specs.declared.event.Event.TheVariants.{Started, Sent, Delivered, Blocked, Installed, Left, Crashed}
+use Rattle.trace_props.specs.declared.event.Event.TheVariants.{Installed}
 use Rattle.trace_props.specs.declared.event.Install.{Install}
 use Rattle.trace_props.specs.Observed.{install_of, entry_of}
 use Rattle.trace_props.specs.Rules.{EntersAbove, RisesAt, HasRisingViews, LiesWithin, KnowsTogether}
@@ -77,13 +77,8 @@ knows-install t i views r m =
 
 -- together goes one event further
 pub knows-push : (t : List Event) (h : Event) → HasRisingViews (t ++ h ∷ []) → KnowsTogether t → MayKnow t h → KnowsTogether (t ++ h ∷ [])
-knows-push t (Started q) views r m = knows-still t (Started q) refl r
-knows-push t (Sent x) views r m = knows-still t (Sent x) refl r
-knows-push t (Delivered d) views r m = knows-still t (Delivered d) refl r
-knows-push t (Blocked q) views r m = knows-still t (Blocked q) refl r
 knows-push t (Installed i) views r m = knows-install t i views r m
-knows-push t (Left q) views r m = knows-still t (Left q) refl r
-knows-push t (Crashed q) views r m = knows-still t (Crashed q) refl r
+knows-push t h views r m = knows-still t h refl r
 
 -- who enters under the rule knows all
 knows-all : (t : List Event) (i : Install) → KnowsTogether (t ++ Installed i ∷ []) → KnowsAll t i
@@ -104,10 +99,5 @@ knows-all t i r = record {
 
 -- what happens under the rule may know
 pub knows-needed : (t : List Event) (h : Event) → KnowsTogether (t ++ h ∷ []) → MayKnow t h
-knows-needed t (Started q) r = tt
-knows-needed t (Sent x) r = tt
-knows-needed t (Delivered d) r = tt
-knows-needed t (Blocked q) r = tt
 knows-needed t (Installed i) r = knows-all t i r
-knows-needed t (Left q) r = tt
-knows-needed t (Crashed q) r = tt
+knows-needed t h r = tt
