@@ -1,7 +1,7 @@
 -- The tests decide the conditions on the next event: the rules that speak of one view at a time.
 use Rattle.std.proofs.Common.{◌≡◌, ℕ, ◌+◌, Bool, true, false, ◌&&◌, ◌||◌, not, List, length, Option, Some, None, is_some, slice_get, nat_eq, is_lt, sym, refl, ap, ◌∙◌, subst}
 use Rattle.std.specs.Bool.{Decides}
-use Rattle.std.specs.Option.{ForSome}
+use Rattle.std.specs.Option.{ForSome, option_map_or}
 use Rattle.std.specs.Str.{bytes_eq}
 use Rattle.std.specs.Cmp.Lexicographic.{pointwise}
 use Rattle.std.specs.declared.cmp.Ordering.{Ordering}
@@ -36,6 +36,11 @@ same-decides a p f g = ((λ e. f (p.0 e)), (λ x. p.1 (g x)))
 -- a test of an event that is this one
 pub of-event : (P : Event → Type 0) (h g : Event) (b c : Bool) → h ≡ g → b ≡ c → Decides c (P g) → Decides b (P h)
 of-event P h g b c e same d = Decides-at b c same (subst (λ (x : Event). Decides c (P x)) (sym e) d)
+
+-- a test of what is there, if it is
+pub some-decides : {X : Type 0} (o : Option X) (test : X → Bool) (P : X → Type 0) → ((x : X) → Decides (test x) (P x)) → Decides (option_map_or test o true) (ForSome o P)
+some-decides None test P d = ((λ e x s. absurd (none-some x s)), (λ f. refl))
+some-decides (Some x) test P d = ((λ e y s. subst P (same_Some x y s) ((d x).0 e)), (λ f. (d x).1 (f x refl)))
 
 -- a flag that is set, or is not
 true-decides : (a : Bool) → Decides a (a ≡ true)
@@ -82,13 +87,10 @@ less-decides Equal = ((λ e. absurd (true≢false (sym e))), (λ e. ap is_lt e))
 less-decides Greater = ((λ e. absurd (true≢false (sym e))), (λ e. ap is_lt e))
 
 below-decides : (o : Option ViewId) (w : ViewId) → Decides (is_below o w) (ForSome o (λ v. IsBelow v w))
-below-decides None w = ((λ e v s. absurd (none-some v s)), (λ x. refl))
-below-decides (Some u) w = same-decides (is_lt (view_id_cmp u w)) (less-decides (view_id_cmp u w)) (λ b v s. subst (λ (x : ViewId). IsBelow x w) (same_Some u v s) b) (λ f. f u refl)
+below-decides o w = some-decides o _ (λ v. IsBelow v w) (λ v. less-decides (view_id_cmp v w))
 
 members-decides : (o : Option Install) (ms : List Address) → Decides (has_members o ms) (ForSome o (λ f. f.view.members ≡ ms))
-members-decides None ms = ((λ e f s. absurd (none-some f s)), (λ x. refl))
-members-decides (Some g) ms = same-decides (pointwise same_address g.view.members ms) (slice_eq-Decides same_address-decides g.view.members ms (pointwise same_address g.view.members ms) refl)
-    (λ b f s. subst (λ (x : Install). x.view.members ≡ ms) (same_Some g f s) b) (λ f. f g refl)
+members-decides o ms = some-decides o _ (λ f. f.view.members ≡ ms) (λ f. slice_eq-Decides same_address-decides f.view.members ms (pointwise same_address f.view.members ms) refl)
 
 -- the test decides whether an install may rise
 pub rises-decides : (t : List Event) (i : Install) → Decides (rises (current_view i.member t) (first_install i.view.id t) i) (MayRise t (Installed i))

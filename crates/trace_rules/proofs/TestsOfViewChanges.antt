@@ -1,12 +1,12 @@
 -- The tests decide the conditions on the next event: the rules on members that go from view to view.
-use Rattle.std.proofs.Common.{◌≡◌, ◌↔◌, ℕ, ◌+◌, ◌-◌, ◌<◌, ◌≤◌, suc, Bool, true, false, ◌&&◌, ◌||◌, not, List, [], ◌∷◌, length, drop, Option, Some, None, slice_get, nat_eq, sym, refl, ap, ◌∙◌, subst, below_more, length-drop, arith}
+use Rattle.std.proofs.Common.{◌≡◌, ◌↔◌, ℕ, ◌+◌, ◌-◌, ◌<◌, ◌≤◌, suc, Bool, true, false, ◌&&◌, ◌||◌, not, List, [], ◌∷◌, length, drop, Option, Some, slice_get, sym, refl, ap, ◌∙◌, subst, below_more, length-drop, arith}
 use Rattle.std.specs.Bool.{Decides}
 use Rattle.std.specs.List.{list_all}
 use Rattle.trace_props.specs.declared.event.Numbered.{Numbered}
 use Rattle.std.specs.Option.{ForSome}
 use Rattle.std.proofs.lemmas.Bool.{and_from, and_parts, or_left, or_right, true≢false, not-true}
 use Rattle.std.proofs.lemmas.Bool.Decides.{Decides-and, Decides-eqb}
-use Rattle.std.proofs.lemmas.Option.{none-some, same_Some}
+use Rattle.std.proofs.lemmas.Option.{same_Some}
 use Rattle.address.specs.Ids.{Address, ViewId, same_address}
 use Rattle.view.specs.Members.{stands_in}
 use Rattle.trace_props.specs.declared.event.Event.{Event}
@@ -15,35 +15,18 @@ use Rattle.trace_props.specs.declared.event.Install.{Install}
 use Rattle.trace_props.specs.Observed.{delivered_in, entry_of, first_install}
 use Rattle.trace_props.specs.Rules.{LiesWithin}
 use Rattle.trace_props.specs.Agreeing.{first_from, MayMeet, KnowEachOther, MayKnow}
-use Rattle.trace_rules.specs.Judged.{same_previous, is_level, meets, lies_within, inside_first, inside_previous, alike, know_each_other, knows_all, is_numbered}
+use Rattle.trace_rules.specs.Judged.{same_previous, meets, lies_within, inside_previous, alike, know_each_other, knows_all, is_numbered}
 use Rattle.trace_props.proofs.RulesAlongLists.{slice_get-drop}
 use Rattle.address.proofs.SameIds.{same_address-true, same_address-refl}
-use Rattle.trace_rules.proofs.TestsOfOneView.{and3-decides, same-decides, previous-decides, numbered-decides}
-
--- where nothing is to be met
-none-decides : {X : Type 0} (P : X → Type 0) → Decides true (ForSome None P)
-none-decides P = ((λ e x s. absurd (none-some x s)), (λ f. refl))
-
--- where one is
-one-decides : {X : Type 0} (b : Bool) (x : X) (P : X → Type 0) → Decides b (P x) → Decides b (ForSome (Some x) P)
-one-decides b x P d = ((λ e y s. subst P (same_Some x y s) (d.0 e)), (λ f. d.1 (f x refl)))
+use Rattle.trace_rules.proofs.TestsOfOneView.{and3-decides, same-decides, some-decides, previous-decides, numbered-decides}
 
 -- SAME NEXT VIEW
 
-level-decides : (o : Option Install) (v : ViewId) (p : Address) (t : List Event) → Decides (is_level o v p t) (ForSome o (λ f. length (delivered_in f.member v t) ≡ length (delivered_in p v t)))
-level-decides None v p t = none-decides (λ f. length (delivered_in f.member v t) ≡ length (delivered_in p v t))
-level-decides (Some f) v p t = one-decides (nat_eq (length (delivered_in f.member v t)) (length (delivered_in p v t))) f (λ g. length (delivered_in g.member v t) ≡ length (delivered_in p v t))
-    (Decides-eqb (length (delivered_in f.member v t)) (length (delivered_in p v t)))
-
-meets-by : (o : Option ViewId) (i : Install) (t : List Event)
-    → Decides (meets o i t) (ForSome o (λ v. ForSome (first_from v i.view.id t) (λ f. length (delivered_in f.member v t) ≡ length (delivered_in i.member v t))))
-meets-by None i t = none-decides (λ v. ForSome (first_from v i.view.id t) (λ f. length (delivered_in f.member v t) ≡ length (delivered_in i.member v t)))
-meets-by (Some v) i t = one-decides (is_level (first_from v i.view.id t) v i.member t) v (λ u. ForSome (first_from u i.view.id t) (λ f. length (delivered_in f.member u t) ≡ length (delivered_in i.member u t)))
-    (level-decides (first_from v i.view.id t) v i.member t)
-
 -- the test decides whether an install may meet
 pub meets-decides : (t : List Event) (i : Install) → Decides (meets i.previous i t) (MayMeet t (Installed i))
-meets-decides t i = meets-by i.previous i t
+meets-decides t i =
+    some-decides i.previous _ (λ v. ForSome (first_from v i.view.id t) (λ f. length (delivered_in f.member v t) ≡ length (delivered_in i.member v t)))
+    (λ v. some-decides (first_from v i.view.id t) _ (λ f. length (delivered_in f.member v t) ≡ length (delivered_in i.member v t)) (λ f. Decides-eqb _ _))
 
 -- TOGETHER
 
@@ -71,13 +54,10 @@ all-decides test P d ms = (all-true test P d ms, all-from test P d ms)
 within-decides : (ps qs : List Address) → Decides (lies_within ps qs) (LiesWithin ps qs)
 within-decides ps qs = all-decides (λ q. stands_in q qs) (λ q. stands_in q qs ≡ true) (λ q. ((λ e. e), (λ e. e))) ps
 
-inside_first-decides : (o : Option Install) (ps : List Address) → Decides (inside_first o ps) (ForSome o (λ f. LiesWithin ps f.view.members))
-inside_first-decides None ps = none-decides (λ f. LiesWithin ps f.view.members)
-inside_first-decides (Some f) ps = one-decides (lies_within ps f.view.members) f (λ g. LiesWithin ps g.view.members) (within-decides ps f.view.members)
-
 inside_previous-decides : (o : Option ViewId) (ps : List Address) (t : List Event) → Decides (inside_previous o ps t) (ForSome o (λ v. ForSome (first_install v t) (λ f. LiesWithin ps f.view.members)))
-inside_previous-decides None ps t = none-decides (λ v. ForSome (first_install v t) (λ f. LiesWithin ps f.view.members))
-inside_previous-decides (Some v) ps t = one-decides (inside_first (first_install v t) ps) v (λ u. ForSome (first_install u t) (λ f. LiesWithin ps f.view.members)) (inside_first-decides (first_install v t) ps)
+inside_previous-decides o ps t =
+    some-decides o _ (λ v. ForSome (first_install v t) (λ f. LiesWithin ps f.view.members))
+    (λ v. some-decides (first_install v t) _ (λ f. LiesWithin ps f.view.members) (λ f. within-decides ps f.view.members))
 
 -- both or neither
 alike-decides : {P Q : Type 0} (a b : Bool) → Decides a P → Decides b Q → Decides (alike a b) (P ↔ Q)
@@ -95,11 +75,9 @@ stands-decides : (q : Address) (ms : List Address) → Decides (stands_in q ms) 
 stands-decides q ms = ((λ e. e), (λ e. e))
 
 know-decides : (o : Option Install) (i : Install) → Decides (know_each_other o i) (ForSome o (KnowEachOther i))
-know-decides None i = none-decides (KnowEachOther i)
-know-decides (Some f) i =
+know-decides o i = some-decides o _ (KnowEachOther i) (λ f.
     let before = previous-decides f.previous i.previous in
-    one-decides (know_each_other (Some f) i) f (KnowEachOther i)
-    (same-decides (know_each_other (Some f) i)
+    same-decides _
     (Decides-and _ _ (alike-decides _ _ (stands-decides f.member i.together) before) (alike-decides _ _ (stands-decides i.member f.together) (same-decides (same_previous f.previous i.previous) before sym sym)))
     (λ x. record { knows = x.0; known = x.1 })
     (λ r. (r.knows, r.known)))

@@ -1,6 +1,7 @@
 -- The conditions on the next event as tests, over what is known of the past.
 use Rattle.std.specs.Prelude.{Bool, true, false, ◌&&◌, not, Option, None, Some, List, length, nat_eq, is_some}
 use Rattle.std.specs.List.{list_all}
+use Rattle.std.specs.Option.{option_map_or}
 use Rattle.std.specs.Ordering.{is_lt}
 use Rattle.std.specs.Str.{bytes_eq}
 use Rattle.std.specs.Cmp.Lexicographic.{pointwise}
@@ -37,12 +38,10 @@ same_previous (Some u) None = false
 same_previous (Some u) (Some v) = same_view_id u v
 
 abbrev pub is_below : Option ViewId → ViewId → Bool
-is_below None w = true
-is_below (Some v) w = is_lt (view_id_cmp v w)
+is_below from w = option_map_or (λ v. is_lt (view_id_cmp v w)) from true
 
 abbrev pub has_members : Option Install → List Address → Bool
-has_members None members = true
-has_members (Some f) members = pointwise same_address f.view.members members
+has_members first members = option_map_or (λ f. pointwise same_address f.view.members members) first true
 
 abbrev pub rises : Option ViewId → Option Install → Install → Bool
 rises current first i = stands_in i.member i.view.members && same_previous i.previous current && is_below i.previous i.view.id && has_members first i.view.members
@@ -63,27 +62,18 @@ is_message (Some n) m = same_address n.sender m.sender && nat_eq n.number m.numb
 -- SAME NEXT VIEW
 
 -- as many messages as the first who went from the same view to the same next, if there is one
-abbrev pub is_level : Option Install → ViewId → Address → List Event → Bool
-is_level None v p t = true
-is_level (Some f) v p t = nat_eq (length (delivered_in f.member v t)) (length (delivered_in p v t))
-
 abbrev pub meets : Option ViewId → Install → List Event → Bool
-meets None i t = true
-meets (Some v) i t = is_level (first_from v i.view.id t) v i.member t
+meets previous i t =
+    option_map_or (λ v. option_map_or (λ f. nat_eq (length (delivered_in f.member v t)) (length (delivered_in i.member v t))) (first_from v i.view.id t) true) previous true
 
 -- TOGETHER
 
 abbrev pub lies_within : List Address → List Address → Bool
 lies_within ps qs = list_all (λ q. stands_in q qs) ps
 
--- in the members of the first install of the view, if there is one
-abbrev pub inside_first : Option Install → List Address → Bool
-inside_first None together = true
-inside_first (Some f) together = lies_within together f.view.members
-
+-- in the members of the view's first install, if there is one
 abbrev pub inside_previous : Option ViewId → List Address → List Event → Bool
-inside_previous None together t = true
-inside_previous (Some v) together t = inside_first (first_install v t) together
+inside_previous previous together t = option_map_or (λ v. option_map_or (λ f. lies_within together f.view.members) (first_install v t) true) previous true
 
 -- both or neither
 abbrev pub alike : Bool → Bool → Bool
@@ -91,8 +81,8 @@ alike true b = b
 alike false b = not b
 
 abbrev pub know_each_other : Option Install → Install → Bool
-know_each_other None i = true
-know_each_other (Some f) i = alike (stands_in f.member i.together) (same_previous f.previous i.previous) && alike (stands_in i.member f.together) (same_previous f.previous i.previous)
+know_each_other entry i =
+    option_map_or (λ f. alike (stands_in f.member i.together) (same_previous f.previous i.previous) && alike (stands_in i.member f.together) (same_previous f.previous i.previous)) entry true
 
 abbrev pub knows_all : List Event → Install → Bool
 knows_all t i =
