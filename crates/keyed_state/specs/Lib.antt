@@ -9,4 +9,5 @@ pub mod Tokens
 pub mod Spelling
 pub mod TokenText
 pub mod TokenLaws
+pub mod PartLaws
 pub mod SpellingLaws

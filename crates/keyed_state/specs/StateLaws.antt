@@ -1,5 +1,5 @@
 -- The laws of such states and of their encoding.
-use Rattle.std.proofs.Common.{◌≡◌, ℕ, ◌≤◌, Bool, true, cond, eqb, leb, ◌&&◌, List, [], ◌∷◌, ◌++◌, length, Some, None, refl, sym, ap, subst, ◌∙◌, append_assoc, arith}
+use Rattle.std.proofs.Common.{◌≡◌, ℕ, ◌≤◌, Bool, true, cond, eqb, leb, ◌&&◌, List, [], ◌∷◌, ◌++◌, length, Some, None, refl, sym, ap, subst, ◌∙◌, arith}
 use Rattle.std.specs.List.{flat_map, AllByRecursion, sum_by}
 use Rattle.std.specs.Ordering.{match_ordering}
 use Rattle.std.specs.declared.cmp.Ordering.{Ordering}
@@ -11,16 +11,16 @@ use Rattle.std.proofs.lemmas.Option.{cond_some}
 use Rattle.byteorder.specs.Endian.{big_bytes}
 use Rattle.big_endian.proofs.Bytes.{wide4}
 use Rattle.address.specs.declared.limits.TheConstants.{STATE}
-use Rattle.big_endian.specs.Reading.{number_at, list_at, ◌>>=◌}
-use Rattle.big_endian.proofs.PartLaws.{bind_some, some_is, joined, IsPart, IsWithin, number_part, list_takes, list_again}
+use Rattle.big_endian.proofs.PartLaws.{bind_some, IsPart}
 use Rattle.keyed_state.specs.declared.entries.KeyedEntry.{KeyedEntry}
 use Rattle.keyed_state.specs.Entries.{key_cmp, entry_of, put, without, rises}
 use Rattle.keyed_state.specs.EntryLaws.{rises-found, rises-tested, all-put, all-without, rises-put, rises-without}
-use Rattle.keyed_state.specs.Keys.{IsKey, key_bytes, key_at}
-use Rattle.keyed_state.specs.KeyLaws.{key_takes, key_again}
+use Rattle.keyed_state.specs.Keys.{IsKey, key_bytes}
+use Rattle.keyed_state.specs.KeyLaws.{key_part}
 use Rattle.keyed_state.specs.declared.token.Token.{Token}
 use Rattle.keyed_state.specs.Tokens.{IsToken, is_up_to, least_token}
-use Rattle.keyed_state.specs.Spelling.{token_bytes, token_at}
+use Rattle.keyed_state.specs.Spelling.{token_bytes}
+use Rattle.keyed_state.specs.PartLaws.{two_parts, counted_part}
 use Rattle.keyed_state.specs.SpellingLaws.{token_part, length-token}
 use Rattle.keyed_state.specs.TokenLaws.{up-trans}
 use Rattle.keyed_state.specs.States.{Form, KeyedState, state_of, entry_bytes, entry_at, entry_size, state_encode, state_at, state_size, are_up_to, state_decode, IsEntry, AreUpTo, IsState}
@@ -71,24 +71,10 @@ module _ {V : Type 0} (form : Form V) where
       key : IsKey e.key
       value : form.IsShort e.value
 
-    entry_takes : (bytes : List ℕ) (x : KeyedEntry V) (rest : List ℕ) → entry_at form bytes ≡ Some (x, rest) → (bytes ≡ entry_bytes form x ++ rest) × IsShortEntry x
-    unfolding entry_at
-    entry_takes bytes x rest e =
-        let a = bind_some (key_at bytes) (λ key. form.read_at key.1 >>= λ value. Some (entry_of key.0 value.0, value.1)) (x, rest) e in
-        let b = bind_some (form.read_at a.0.1) (λ value. Some (entry_of a.0.0 value.0, value.1)) (x, rest) a.2 in
-        let t = key_takes bytes a.0.0 a.0.1 a.1 in
-        let u = laws.part.takes a.0.1 b.0.0 b.0.1 b.1 in
-        subst (λ (p : KeyedEntry V × List ℕ). (bytes ≡ entry_bytes form p.0 ++ p.1) × IsShortEntry p.0) (some_is (entry_of a.0.0 b.0.0, b.0.1) (x, rest) b.2)
-        (joined bytes (key_bytes a.0.0) a.0.1 (form.bytes_of b.0.0) b.0.1 t.0 u.0, record { key = t.1; value = u.1 })
-
-    entry_again : (x : KeyedEntry V) (rest : List ℕ) → IsShortEntry x → entry_at form (entry_bytes form x ++ rest) ≡ Some (x, rest)
-    unfolding entry_at
-    entry_again x rest is =
-        ap (entry_at form) (append_assoc (key_bytes x.key) (form.bytes_of x.value) rest)
-        ∙ rw (key_again x.key (form.bytes_of x.value ++ rest) is.key, laws.part.again x.value rest is.value) refl
-
     entry_part : IsPart (entry_at form) (entry_bytes form) IsShortEntry
-    entry_part = record { takes = entry_takes; again = entry_again }
+    unfolding entry_at
+    entry_part = two_parts key_part laws.part entry_of (λ e. e.key) (λ e. e.value) IsShortEntry
+        (λ e. refl) (λ key value p q. (refl, record { key = p; value = q })) (λ e is. (is.key, is.value))
 
     -- the states that can be spelled
     record IsSpelled (s : KeyedState V) : Type 0 where
@@ -96,28 +82,10 @@ module _ {V : Type 0} (form : Form V) where
       entries : AllByRecursion IsShortEntry s.entries
       few : length s.entries ≤ 4294967295
 
-    abbrev numbers : IsPart (number_at 4 0 4294967295) (big_bytes 4) (IsWithin 0 4294967295)
-    numbers = number_part 4 0 4294967295 wide4 (omega arith)
-
-    state_takes : (bytes : List ℕ) (s : KeyedState V) (rest : List ℕ) → state_at form bytes ≡ Some (s, rest) → (bytes ≡ state_encode form s ++ rest) × IsSpelled s
+    state_part : IsPart (state_at form) (state_encode form) IsSpelled
     unfolding state_at
-    state_takes bytes s rest e =
-        let a = bind_some (token_at bytes) (λ last. number_at 4 0 4294967295 last.1 >>= λ count. list_at (entry_at form) count.0 count.1 >>= λ entries. Some (state_of last.0 entries.0, entries.1)) (s, rest) e in
-        let b = bind_some (number_at 4 0 4294967295 a.0.1) (λ count. list_at (entry_at form) count.0 count.1 >>= λ entries. Some (state_of a.0.0 entries.0, entries.1)) (s, rest) a.2 in
-        let c = bind_some (list_at (entry_at form) b.0.0 b.0.1) (λ entries. Some (state_of a.0.0 entries.0, entries.1)) (s, rest) b.2 in
-        let t = token_part.takes bytes a.0.0 a.0.1 a.1 in
-        let u = numbers.takes a.0.1 b.0.0 b.0.1 b.1 in
-        let v = list_takes (entry_at form) (entry_bytes form) IsShortEntry entry_part b.0.0 b.0.1 c.0.0 c.0.1 c.1 in
-        let counted : a.0.1 ≡ (big_bytes 4 b.0.0 ++ flat_map (entry_bytes form) c.0.0) ++ c.0.1 = joined a.0.1 (big_bytes 4 b.0.0) b.0.1 (flat_map (entry_bytes form) c.0.0) c.0.1 u.0 v.0 in
-        let entries : a.0.1 ≡ (big_bytes 4 (length c.0.0) ++ flat_map (entry_bytes form) c.0.0) ++ c.0.1 = subst (λ (n : ℕ). a.0.1 ≡ (big_bytes 4 n ++ flat_map (entry_bytes form) c.0.0) ++ c.0.1) (sym v.1) counted in
-        subst (λ (p : KeyedState V × List ℕ). (bytes ≡ state_encode form p.0 ++ p.1) × IsSpelled p.0) (some_is (state_of a.0.0 c.0.0, c.0.1) (s, rest) c.2)
-        (joined bytes (token_bytes a.0.0) a.0.1 (big_bytes 4 (length c.0.0) ++ flat_map (entry_bytes form) c.0.0) c.0.1 t.0 entries, record { last = t.1; entries = v.2; few = omega (arith, v.1, u.1.1) })
-
-    state_again : (s : KeyedState V) (rest : List ℕ) → IsSpelled s → state_at form (state_encode form s ++ rest) ≡ Some (s, rest)
-    unfolding state_at
-    state_again s rest is =
-        ap (state_at form) (append_assoc (token_bytes s.last) (big_bytes 4 (length s.entries) ++ flat_map (entry_bytes form) s.entries) rest ∙ ap (λ (t : List ℕ). token_bytes s.last ++ t) (append_assoc (big_bytes 4 (length s.entries)) (flat_map (entry_bytes form) s.entries) rest))
-        ∙ rw (token_part.again s.last (big_bytes 4 (length s.entries) ++ (flat_map (entry_bytes form) s.entries ++ rest)) is.last, numbers.again (length s.entries) (flat_map (entry_bytes form) s.entries ++ rest) (omega arith, is.few), list_again (entry_at form) (entry_bytes form) IsShortEntry entry_part s.entries rest is.entries) refl
+    state_part = two_parts token_part (counted_part entry_part 4 0 4294967295 wide4 (omega arith)) state_of (λ s. s.last) (λ s. s.entries) IsSpelled
+        (λ s. refl) (λ last entries p q. (refl, record { last = p; entries = q.1; few = q.0.1 })) (λ s is. (is.last, ((omega arith, is.few), is.entries)))
 
     -- ---- what is tested
 
@@ -157,7 +125,7 @@ module _ {V : Type 0} (form : Form V) where
         let more = and_parts (leb (length bytes) STATE) (rises a.0.0.entries && are_up_to form a.0.0.last a.0.0.entries) tests.1 in
         let order = and_parts (rises a.0.0.entries) (are_up_to form a.0.0.last a.0.0.entries) more.1 in
         let nothing : a.0.1 ≡ [] = nil_from_length a.0.1 (eqb-true _ _ tests.0) in
-        let u = state_takes bytes a.0.0 a.0.1 a.1 in
+        let u = state_part.takes bytes a.0.0 a.0.1 a.1 in
         let whole : bytes ≡ state_encode form a.0.0 = u.0 ∙ ap (λ (r : List ℕ). state_encode form a.0.0 ++ r) nothing ∙ append-nil (state_encode form a.0.0) in
         let few : length bytes ≤ STATE = leb-true _ _ more.0 in
         let same : length bytes ≡ length (state_encode form a.0.0) = ap length whole in
@@ -181,7 +149,7 @@ module _ {V : Type 0} (form : Form V) where
     encoded_is_decoded s is =
         let fits : state_size form s.entries ≤ STATE = is.fits in
         let spelled : IsSpelled s = record { last = is.last; entries = short-entries s.entries is.entries (omega (arith, fits)); few = count_of s is } in
-        let again : state_at form (state_encode form s) ≡ Some (s, []) = ap (state_at form) (sym (append-nil (state_encode form s))) ∙ state_again s [] spelled in
+        let again : state_at form (state_encode form s) ≡ Some (s, []) = ap (state_at form) (sym (append-nil (state_encode form s))) ∙ state_part.again s [] spelled in
         rw (again, le-leb (length (state_encode form s)) STATE (encoded_short s is), rises-tested s.entries is.rises, up-tested s.last s.entries is.tokens) refl
 
   -- ---- which states there are

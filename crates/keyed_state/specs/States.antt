@@ -1,15 +1,14 @@
 -- States that are entries in the order of their keys, and the last token that was given; as bytes, and the state that bytes stand for.
 use Rattle.std.specs.Prelude.{◌≡◌, ℕ, ◌+◌, ◌≤◌, Bool, true, ◌==◌, ◌&&◌, List, ◌++◌, length, Option, Some, None, nat_le, if◌then◌else◌}
-use Rattle.std.specs.List.{AllByRecursion, flat_map, list_all, sum_by}
-use Rattle.byteorder.specs.Endian.{big_bytes}
+use Rattle.std.specs.List.{AllByRecursion, list_all, sum_by}
 use Rattle.address.specs.declared.limits.TheConstants.{STATE}
-use Rattle.big_endian.specs.Reading.{Read, ◌>>=◌, number_at, list_at}
+use Rattle.big_endian.specs.Reading.{Read, ◌>>=◌}
 use Rattle.keyed_state.specs.declared.entries.KeyedEntry.{KeyedEntry}
 use Rattle.keyed_state.specs.Keys.{IsKey, key_bytes, key_at}
 use Rattle.keyed_state.specs.Entries.{entry_of, rises, Rises}
 use Rattle.keyed_state.specs.declared.token.Token.{Token}
 use Rattle.keyed_state.specs.Tokens.{is_up_to, IsToken}
-use Rattle.keyed_state.specs.Spelling.{token_bytes, token_at}
+use Rattle.keyed_state.specs.Spelling.{token_bytes, token_at, counted_bytes, counted_at}
 
 -- what a key may have: its bytes and how many, what bytes begin with, its token, which there are, and which of them can be spelled
 pub record Form (V : Type 0) : Type 1 where
@@ -46,13 +45,12 @@ entry_size form e = 1 + length e.key + form.size_of e.value
 -- ---- the state: the last token, the number of entries in four bytes, and the entries, their keys rising
 
 abbrev pub state_encode : {V : Type 0} → Form V → KeyedState V → List ℕ
-state_encode form s = token_bytes s.last ++ (big_bytes 4 (length s.entries) ++ flat_map (entry_bytes form) s.entries)
+state_encode form s = token_bytes s.last ++ counted_bytes 4 (entry_bytes form) s.entries
 
 unfoldable pub state_at : {V : Type 0} → Form V → List ℕ → Read (KeyedState V)
 state_at form bytes = do
   last ← token_at bytes
-  count ← number_at 4 0 4294967295 last.1
-  entries ← list_at (entry_at form) count.0 count.1
+  entries ← counted_at 4 0 4294967295 (entry_at form) last.1
   Some (state_of last.0 entries.0, entries.1)
 
 -- in how many bytes: the last token in 22, the number of entries in four

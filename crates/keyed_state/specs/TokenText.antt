@@ -1,5 +1,5 @@
 -- Tokens in texts.
-use Rattle.std.specs.Prelude.{ℕ, ◌∷◌, ◌++◌, List, Option, Some, None}
+use Rattle.std.specs.Prelude.{ℕ, ◌∷◌, ◌++◌, List, Option, Some}
 use Rattle.std.specs.Fmt.{decimal}
 use Rattle.address.specs.Ids.{text_of_view_id}
 use Rattle.address.specs.declared.limits.TheConstants.{GREATEST_NUMBER}

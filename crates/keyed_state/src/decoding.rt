@@ -75,7 +75,13 @@ fn contents_from<V: Kept>(
 fn are_up_to<V: Kept>(last: Token, entries: &[KeyedEntry<V>]) -> bool
     ensures { result ≡ are_up_to V.form last entries.now }
 {
-    entries.iter().all(|entry| entry.value.token().cmp(&last) != Ordering::Greater)
+    for entry in entries {
+        match entry.value.token().cmp(&last) {
+            Ordering::Less | Ordering::Equal => {}
+            Ordering::Greater => return false,
+        }
+    }
+    true
 }
 
 /// The state that bytes are the encoding of; `None` where they are none's: something follows the last entry, they are more than `STATE`, the keys do not rise, or a token
@@ -88,17 +94,10 @@ pub fn contents_of<V: Kept>(alloc: Global, bytes: &[u8]) -> Result<Option<Conten
     let Some(contents) = contents_from::<V>(alloc, &mut from)? else {
         return Ok(None);
     };
-    if !from.is_empty() {
-        return Ok(None);
+    let fits = from.is_empty() & (bytes.len() <= STATE);
+    let entries = contents.entries.as_slice();
+    if fits & is_rising(entries) & are_up_to(contents.last, entries) {
+        return Ok(Some(contents));
     }
-    if bytes.len() > STATE {
-        return Ok(None);
-    }
-    if !is_rising(contents.entries.as_slice()) {
-        return Ok(None);
-    }
-    if !are_up_to(contents.last, contents.entries.as_slice()) {
-        return Ok(None);
-    }
-    Ok(Some(contents))
+    Ok(None)
 }

@@ -7,13 +7,6 @@ use crate::{Kept, KeyedEntry, Token, put_key, put_token};
 use big_endian::put_u32;
 use std::alloc::AllocError;
 
-fn size_of_entry<V: Kept>(entry: &KeyedEntry<V>) -> usize
-    requires { entry_size V.form entry.now ≤ STATE }
-    ensures { result ≡ entry_size V.form entry.now }
-{
-    1 + entry.key.as_slice().len() + entry.value.size()
-}
-
 /// In how many bytes a state with these entries is encoded: 26, and what each entry takes.
 pub fn size_of_all<V: Kept>(entries: &[KeyedEntry<V>]) -> usize
     requires { state_size V.form entries.now ≤ STATE }
@@ -21,7 +14,7 @@ pub fn size_of_all<V: Kept>(entries: &[KeyedEntry<V>]) -> usize
 {
     let mut size = 26;
     for entry in entries {
-        size += size_of_entry(entry);
+        size += 1 + entry.key.as_slice().len() + entry.value.size();
     }
     size
 }
@@ -31,6 +24,7 @@ fn put_entry<V: Kept>(entry: &KeyedEntry<V>, out: &mut Vec<u8>)
     requires few { entry_size V.form entry.now ≤ STATE }
     requires room { vec_len out.old + entry_size V.form entry.now ≤ vec_capacity out.old }
     ensures items { out.new.items ≡ out.old.items ++ entry_bytes V.form entry.now }
+    ensures len { vec_len out.new ≡ vec_len out.old + entry_size V.form entry.now }
     ensures room { vec_capacity out.old ≤ vec_capacity out.new }
 {
     put_key(entry.key.as_slice(), out);
@@ -49,16 +43,6 @@ fn put_entries<V: Kept>(entries: &[KeyedEntry<V>], out: &mut Vec<u8>)
     }
 }
 
-fn put_all<V: Kept>(last: Token, entries: &[KeyedEntry<V>], out: &mut Vec<u8>)
-    requires state { IsState V.form (state_of last entries.now) }
-    requires room { vec_len out.old + state_size V.form entries.now ≤ vec_capacity out.old }
-    ensures { out.new.items ≡ out.old.items ++ state_encode V.form (state_of last entries.now) }
-{
-    put_token(last, out);
-    put_u32(entries.len() as u32, out);
-    put_entries(entries, out);
-}
-
 /// Appends the encoding of a state of this size, whose room is taken at once. Where memory is refused, the bytes are as they were.
 pub fn put_state<V: Kept>(
     last: Token,
@@ -72,6 +56,8 @@ pub fn put_state<V: Kept>(
     ensures err { OnErr result (out.new.items ≡ out.old.items) }
 {
     out.reserve(size)?;
-    put_all(last, entries, out);
+    put_token(last, out);
+    put_u32(entries.len() as u32, out);
+    put_entries(entries, out);
     Ok(())
 }

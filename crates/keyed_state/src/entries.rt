@@ -78,8 +78,9 @@ pub fn is_rising<V: Drop>(entries: &[KeyedEntry<V>]) -> bool
     ensures { result ≡ rises entries.now }
 {
     for i in 1..entries.len() {
-        if entries[i - 1].key.as_slice().cmp(entries[i].key.as_slice()) != Ordering::Less {
-            return false;
+        match key_order(entries[i - 1].key.as_slice(), entries[i].key.as_slice()) {
+            Ordering::Less => {}
+            Ordering::Equal | Ordering::Greater => return false,
         }
     }
     true

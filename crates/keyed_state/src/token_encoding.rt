@@ -1,29 +1,22 @@
 //! Tokens as bytes.
 
 ghost use Rattle.std.specs.Prelude.{◌≡◌, ◌≤◌, ◌+◌, ◌++◌, vec_len, vec_capacity};
-ghost use Rattle.address.specs.Ids.{IsAddress};
 ghost use Rattle.keyed_state.specs.Tokens.{IsViewId};
 ghost use Rattle.keyed_state.specs.Spelling.{view_id_bytes, token_bytes};
 ghost use Rattle.keyed_state.specs.declared.TheConstants.{VIEW_ID_BYTES, TOKEN_BYTES};
 
 use crate::Token;
-use address::{Address, ViewId};
+use address::ViewId;
 use big_endian::{put_address, put_u64};
-
-// What a program holds as an address is one. It does nothing; its clause is a fact for proofs.
-fn known_address(address: Address)
-    ensures { IsAddress address }
-{
-    let _node = address.node().number();
-    let _incarnation = address.incarnation();
-}
 
 /// What a program holds as a view id is one. It does nothing; its clause is a fact for proofs.
 pub fn known_view_id(view: ViewId)
     ensures { IsViewId view }
 {
     let _counter = view.counter();
-    known_address(view.creator());
+    let creator = view.creator();
+    let _node = creator.node().number();
+    let _incarnation = creator.incarnation();
 }
 
 /// Appends a view id: its counter in eight bytes, and its creator.

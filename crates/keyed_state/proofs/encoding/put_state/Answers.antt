@@ -1,7 +1,7 @@
 use Rattle.std.proofs.Common.{◌≤◌, length, rules}
 use Rattle.keyed_state.specs.States.{state_of}
 use Rattle.keyed_state.specs.StateLaws.{count_of}
-use Rattle.keyed_state.proofs.encoding.put_all.Goals as goal
+use Rattle.keyed_state.proofs.encoding.put_state.Goals as goal
 
 pub overflow_cast-entries : goal.overflow_cast-entries
 overflow_cast-entries g c =
