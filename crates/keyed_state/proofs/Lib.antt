@@ -1,2 +1,3 @@
 pub mod KeysHavePlaces
 pub mod LookUpsFind
+pub mod PartsAppend

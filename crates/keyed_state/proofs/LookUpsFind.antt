@@ -12,6 +12,12 @@ use Rattle.keyed_state.specs.declared.entries.KeyedEntry.{KeyedEntry}
 use Rattle.keyed_state.specs.Entries.{key_cmp, entry_of, value_of, put, without, Rises}
 use Rattle.keyed_state.specs.EntryLaws.{IsBelowAll, below-all, equal-all, flipped}
 
+pub same-key-is : (k : List ℕ) → is_eq (key_cmp k k) ≡ true
+same-key-is k = is_eq-slice_cmp k k ∙ (bytes_eq-Decides k k).1 refl
+
+pub equal-is-same : (k l : List ℕ) → is_eq (key_cmp k l) ≡ true → k ≡ l
+equal-is-same k l e = (bytes_eq-Decides k l).0 (sym (is_eq-slice_cmp k l) ∙ e)
+
 module _ {V : Type 0} where
   -- what the first entry and those behind it say of a key
   abbrev here : KeyedEntry V → Ordering → Option V → Option V
@@ -48,8 +54,11 @@ module _ {V : Type 0} where
         same (key_cmp q x.key) ∙ ap (λ (o : Ordering). cond (is_eq o) (Some v) (here x (key_cmp q x.key) (value_of q xs))) (sym (alike_right nat_list_cmp_total k x.key q is))
     at Greater is r = later (key_cmp q x.key) refl (flipped k x.key is) (value_of q (put k v xs)) r
 
+  pub found-there : (k : List ℕ) (v : V) (s : List (KeyedEntry V)) → value_of k (put k v s) ≡ Some v
+  found-there k v s = found-put k v s k ∙ ap (λ (b : Bool). cond b (Some v) (value_of k s)) (same-key-is k)
+
   -- a key below all has no value
-  none-below : (q : List ℕ) (xs : List (KeyedEntry V)) → IsBelowAll q xs → value_of q xs ≡ None
+  pub none-below : (q : List ℕ) (xs : List (KeyedEntry V)) → IsBelowAll q xs → value_of q xs ≡ None
   none-below q [] all = refl
   none-below q (x ∷ xs) all = ap (λ (o : Ordering). match_ordering o None (Some x.value) (value_of q xs)) all.0
 
@@ -95,7 +104,7 @@ module _ {V : Type 0} where
   same-key x y xs ys same = by (key_cmp x.key y.key) refl where
     by : (o : Ordering) → key_cmp x.key y.key ≡ o → x.key ≡ y.key
     by Less is = absurd (above-first y ys x.key x.value (sym (same x.key) ∙ found-first x xs) is)
-    by Equal is = (bytes_eq-Decides x.key y.key).0 (sym (is_eq-slice_cmp x.key y.key) ∙ ap is_eq is)
+    by Equal is = equal-is-same x.key y.key (ap is_eq is)
     by Greater is = absurd (above-first x xs y.key y.value (same y.key ∙ found-first y ys) (flipped x.key y.key is))
 
   -- behind the first, look-ups agree where those with it do

@@ -1,13 +1,14 @@
 -- What a put and a removal keep of entries, and that the test of their order decides it.
-use Rattle.std.proofs.Common.{◌≡◌, ℕ, true, List, [], ◌∷◌, refl, ap, ◌∙◌}
+use Rattle.std.proofs.Common.{◌≡◌, ℕ, true, List, [], ◌∷◌, None, Some, refl, ap, subst, ◌∙◌}
 use Rattle.std.proofs.lemmas.Bool.{and_parts}
+use Rattle.std.proofs.lemmas.Option.{none-some, same_Some}
 use Rattle.std.specs.List.{AllByRecursion}
 use Rattle.std.specs.Ordering.{match_ordering, ordering_reverse, is_lt}
 use Rattle.std.specs.Cmp.Lexicographic.{nat_list_cmp_total}
 use Rattle.std.specs.declared.cmp.Ordering.{Ordering}
 use Rattle.std.specs.declared.cmp.Ordering.TheVariants.{Less, Equal, Greater}
 use Rattle.keyed_state.specs.declared.entries.KeyedEntry.{KeyedEntry}
-use Rattle.keyed_state.specs.Entries.{key_cmp, entry_of, put, without, Rises, comes_before, rises}
+use Rattle.keyed_state.specs.Entries.{key_cmp, entry_of, value_of, put, without, Rises, comes_before, rises}
 
 -- where a key is above another, the other is below it
 pub flipped : (k l : List ℕ) → key_cmp k l ≡ Greater → key_cmp l k ≡ Less
@@ -31,6 +32,15 @@ module _ {V : Type 0} where
     by Less rest = all
     by Equal rest = all.1
     by Greater rest = (all.0, rest)
+
+  -- what holds of each value holds of a key's
+  pub holds-of : (Q : V → Type 0) (k : List ℕ) (xs : List (KeyedEntry V)) (v : V) → AllByRecursion (λ e. Q e.value) xs → value_of k xs ≡ Some v → Q v
+  holds-of Q k [] v all at = absurd (none-some v at)
+  holds-of Q k (x ∷ xs) v all at = by (key_cmp k x.key) (holds-of Q k xs v all.1) at where
+    by : (o : Ordering) → (value_of k xs ≡ Some v → Q v) → match_ordering o None (Some x.value) (value_of k xs) ≡ Some v → Q v
+    by Less rest at = absurd (none-some v at)
+    by Equal rest at = subst Q (same_Some x.value v at) all.0
+    by Greater rest at = rest at
 
   -- ---- the order
 

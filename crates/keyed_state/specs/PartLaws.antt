@@ -32,6 +32,12 @@ pub both_part : {A B : Type 0} {read_a : List ℕ → Read A} {spell_a : A → L
 both_part {A = A} {B = B} {FitsA = FitsA} {FitsB = FitsB} first second = two_parts first second (λ a b. (a, b)) (λ p. p.0) (λ p. p.1) (λ (p : A × B). FitsA p.0 × FitsB p.1) (λ p. refl) (λ a b p q. (refl, (p, q))) (λ p fits. fits)
 
 module _ {A : Type 0} {read : List ℕ → Read A} {spell : A → List ℕ} {Fits : A → Type 0} where
+  -- two texts that are the same begin with the same part, and are the same behind it
+  pub same_parts : IsPart read spell Fits → (x y : A) (r s : List ℕ) → Fits x → Fits y → spell x ++ r ≡ spell y ++ s → (x ≡ y) × (r ≡ s)
+  same_parts part x y r s p q same =
+      let both = some_is (x, r) (y, s) (sym (part.again x r p) ∙ ap read same ∙ part.again y s q) in
+      (ap (λ (t : A × List ℕ). t.0) both, ap (λ (t : A × List ℕ). t.1) both)
+
   -- so many values, behind their number
   pub counted_part : IsPart read spell Fits → (n low high : ℕ) → IsWide n → high < 256 ^ n → IsPart (counted_at n low high read) (counted_bytes n spell) (λ xs. IsWithin low high (length xs) × AllByRecursion Fits xs)
   counted_part part n low high wide small = record {

@@ -1,5 +1,5 @@
 -- The laws of such states and of their encoding.
-use Rattle.std.proofs.Common.{◌≡◌, ℕ, ◌≤◌, Bool, true, cond, eqb, leb, ◌&&◌, List, [], ◌∷◌, ◌++◌, length, Some, None, refl, sym, ap, subst, ◌∙◌, arith}
+use Rattle.std.proofs.Common.{◌≡◌, ℕ, ◌+◌, ◌≤◌, Bool, true, cond, eqb, leb, ◌&&◌, List, [], ◌∷◌, ◌++◌, length, Some, None, refl, sym, ap, subst, ◌∙◌, arith}
 use Rattle.std.specs.List.{flat_map, AllByRecursion, sum_by}
 use Rattle.std.specs.Ordering.{match_ordering}
 use Rattle.std.specs.declared.cmp.Ordering.{Ordering}
@@ -7,13 +7,13 @@ use Rattle.std.specs.declared.cmp.Ordering.TheVariants.{Less, Equal, Greater}
 use Rattle.std.proofs.lemmas.Bool.{eqb-true, leb-true, le-leb, and_parts}
 use Rattle.std.proofs.lemmas.List.{append-nil, nil_from_length, length-append}
 use Rattle.std.proofs.lemmas.List.Sums.{sum_by-cons}
-use Rattle.std.proofs.lemmas.Option.{cond_some}
+use Rattle.std.proofs.lemmas.Option.{cond_some, none-some, same_Some}
 use Rattle.byteorder.specs.Endian.{big_bytes}
 use Rattle.big_endian.proofs.Bytes.{wide4}
 use Rattle.address.specs.declared.limits.TheConstants.{STATE}
 use Rattle.big_endian.proofs.PartLaws.{bind_some, IsPart}
 use Rattle.keyed_state.specs.declared.entries.KeyedEntry.{KeyedEntry}
-use Rattle.keyed_state.specs.Entries.{key_cmp, entry_of, put, without, rises}
+use Rattle.keyed_state.specs.Entries.{key_cmp, entry_of, value_of, put, without, rises}
 use Rattle.keyed_state.specs.EntryLaws.{rises-found, rises-tested, all-put, all-without, rises-put, rises-without}
 use Rattle.keyed_state.specs.Keys.{IsKey, key_bytes}
 use Rattle.keyed_state.specs.KeyLaws.{key_part}
@@ -42,6 +42,26 @@ module _ {V : Type 0} (form : Form V) where
     by Less rest = omega arith
     by Equal rest = omega (arith, sum_by-cons (entry_size form) x xs)
     by Greater rest = omega (arith, rest, sum_by-cons (entry_size form) x xs, sum_by-cons (entry_size form) x (without k xs))
+
+  pub size-put : (k : List ℕ) (xs : List (KeyedEntry V)) (old v : V) → value_of k xs ≡ Some old → sum_by (entry_size form) (put k v xs) + form.size_of old ≡ sum_by (entry_size form) xs + form.size_of v
+  size-put k [] old v at = absurd (none-some old at)
+  size-put k (x ∷ xs) old v at = by (key_cmp k x.key) (size-put k xs old v) at where
+    by : (o : Ordering) → (value_of k xs ≡ Some old → sum_by (entry_size form) (put k v xs) + form.size_of old ≡ sum_by (entry_size form) xs + form.size_of v) → match_ordering o None (Some x.value) (value_of k xs) ≡ Some old
+        → sum_by (entry_size form) (match_ordering o (entry_of k v ∷ x ∷ xs) (entry_of x.key v ∷ xs) (x ∷ put k v xs)) + form.size_of old ≡ sum_by (entry_size form) (x ∷ xs) + form.size_of v
+    by Less rest at = absurd (none-some old at)
+    by Equal rest at =
+        let same = ap form.size_of (same_Some x.value old at) in
+        omega (arith, same, sum_by-cons (entry_size form) (entry_of x.key v) xs, sum_by-cons (entry_size form) x xs)
+    by Greater rest at = let more = rest at in omega (arith, more, sum_by-cons (entry_size form) x (put k v xs), sum_by-cons (entry_size form) x xs)
+
+  pub size-new : (k : List ℕ) (v : V) (xs : List (KeyedEntry V)) → value_of k xs ≡ None → sum_by (entry_size form) (put k v xs) ≡ sum_by (entry_size form) xs + entry_size form (entry_of k v)
+  size-new k v [] at = omega (arith, sum_by-cons (entry_size form) (entry_of k v) [])
+  size-new k v (x ∷ xs) at = by (key_cmp k x.key) (size-new k v xs) at where
+    by : (o : Ordering) → (value_of k xs ≡ None → sum_by (entry_size form) (put k v xs) ≡ sum_by (entry_size form) xs + entry_size form (entry_of k v)) → match_ordering o None (Some x.value) (value_of k xs) ≡ None
+        → sum_by (entry_size form) (match_ordering o (entry_of k v ∷ x ∷ xs) (entry_of x.key v ∷ xs) (x ∷ put k v xs)) ≡ sum_by (entry_size form) (x ∷ xs) + entry_size form (entry_of k v)
+    by Less rest at = omega (arith, sum_by-cons (entry_size form) (entry_of k v) (x ∷ xs))
+    by Equal rest at = absurd (none-some x.value (sym at))
+    by Greater rest at = let more = rest at in omega (arith, more, sum_by-cons (entry_size form) x (put k v xs), sum_by-cons (entry_size form) x xs)
 
   pub few_entries : (s : List (KeyedEntry V)) → length s ≤ sum_by (entry_size form) s
   few_entries [] = omega arith

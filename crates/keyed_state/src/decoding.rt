@@ -1,6 +1,6 @@
 ghost use Rattle.std.specs.Prelude.{◌≡◌, IfOk};
 ghost use Rattle.big_endian.specs.Reading.{IsReadOrNone, list_at};
-ghost use Rattle.keyed_state.specs.States.{are_up_to, entry_at, state_at, state_decode, state_of};
+ghost use Rattle.keyed_state.specs.States.{are_up_to, entry_at, state_decode, state_of};
 
 use crate::{Kept, KeyedEntry, Token, is_rising, key_from, token_from};
 use address::Bytes;
@@ -52,25 +52,6 @@ fn some_entries<V: Kept>(
     Ok(Some(entries))
 }
 
-#[tactic(auto, unfolding(crate::specs::States::state_at))]
-fn contents_from<V: Kept>(
-    alloc: Global,
-    from: &mut Reader<'_>,
-) -> Result<Option<Contents<V>>, AllocError>
-    ensures { IfOk result (λ read. IsReadOrNone (λ c. (state_of c.last c.entries.items, from.new)) read (state_at V.form from.old)) }
-{
-    let Some(last) = token_from(from) else {
-        return Ok(None);
-    };
-    let Some(count) = from.u32(0, u32::MAX) else {
-        return Ok(None);
-    };
-    let Some(entries) = some_entries::<V>(alloc, count, from)? else {
-        return Ok(None);
-    };
-    Ok(Some(Contents { last, entries }))
-}
-
 // Whether no token is above the last.
 fn are_up_to<V: Kept>(last: Token, entries: &[KeyedEntry<V>]) -> bool
     ensures { result ≡ are_up_to V.form last entries.now }
@@ -86,17 +67,24 @@ fn are_up_to<V: Kept>(last: Token, entries: &[KeyedEntry<V>]) -> bool
 
 /// The state that bytes are the encoding of; `None` where they are none's: something follows the last entry, they are more than `STATE`, the keys do not rise, or a token
 /// is above the last.
-#[tactic(auto, unfolding(crate::specs::States::state_decode))]
+#[tactic(auto, unfolding(crate::specs::States::state_decode, crate::specs::States::state_at))]
 pub fn contents_of<V: Kept>(alloc: Global, bytes: &[u8]) -> Result<Option<Contents<V>>, AllocError>
     ensures { IfOk result (λ read. IsReadOrNone (λ c. state_of c.last c.entries.items) read (state_decode V.form bytes.now)) }
 {
     let mut from = Reader::new(bytes);
-    let Some(contents) = contents_from::<V>(alloc, &mut from)? else {
+    let Some(last) = token_from(&mut from) else {
         return Ok(None);
     };
-    let fits = from.is_empty() & (bytes.len() <= STATE);
+    let Some(count) = from.u32(0, u32::MAX) else {
+        return Ok(None);
+    };
+    let Some(entries) = some_entries::<V>(alloc, count, &mut from)? else {
+        return Ok(None);
+    };
+    let contents = Contents { last, entries };
+    let is_whole = from.is_empty() & (bytes.len() <= STATE);
     let entries = contents.entries.as_slice();
-    if fits & is_rising(entries) & are_up_to(contents.last, entries) {
+    if is_whole & is_rising(entries) & are_up_to(contents.last, entries) {
         return Ok(Some(contents));
     }
     Ok(None)
