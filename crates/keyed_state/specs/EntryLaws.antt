@@ -33,13 +33,13 @@ module _ {V : Type 0} where
     by Equal rest = all.1
     by Greater rest = (all.0, rest)
 
-  -- what holds of each value holds of a key's
-  pub holds-of : (Q : V → Type 0) (k : List ℕ) (xs : List (KeyedEntry V)) (v : V) → AllByRecursion (λ e. Q e.value) xs → value_of k xs ≡ Some v → Q v
-  holds-of Q k [] v all at = absurd (none-some v at)
-  holds-of Q k (x ∷ xs) v all at = by (key_cmp k x.key) (holds-of Q k xs v all.1) at where
+  -- what holds of each entry's value holds of a key's
+  pub holds-of : (P : KeyedEntry V → Type 0) (Q : V → Type 0) → ((x : KeyedEntry V) → P x → Q x.value) → (k : List ℕ) (xs : List (KeyedEntry V)) (v : V) → AllByRecursion P xs → value_of k xs ≡ Some v → Q v
+  holds-of P Q f k [] v all at = absurd (none-some v at)
+  holds-of P Q f k (x ∷ xs) v all at = by (key_cmp k x.key) (holds-of P Q f k xs v all.1) at where
     by : (o : Ordering) → (value_of k xs ≡ Some v → Q v) → match_ordering o None (Some x.value) (value_of k xs) ≡ Some v → Q v
     by Less rest at = absurd (none-some v at)
-    by Equal rest at = subst Q (same_Some x.value v at) all.0
+    by Equal rest at = subst Q (same_Some x.value v at) (f x all.0)
     by Greater rest at = rest at
 
   -- ---- the order

@@ -14,7 +14,7 @@ use Rattle.address.specs.declared.limits.TheConstants.{STATE}
 use Rattle.big_endian.proofs.PartLaws.{bind_some, IsPart}
 use Rattle.keyed_state.specs.declared.entries.KeyedEntry.{KeyedEntry}
 use Rattle.keyed_state.specs.Entries.{key_cmp, entry_of, value_of, put, without, rises}
-use Rattle.keyed_state.specs.EntryLaws.{rises-found, rises-tested, all-put, all-without, rises-put, rises-without}
+use Rattle.keyed_state.specs.EntryLaws.{rises-found, rises-tested, all-put, all-without, holds-of, rises-put, rises-without}
 use Rattle.keyed_state.specs.Keys.{IsKey, key_bytes}
 use Rattle.keyed_state.specs.KeyLaws.{key_part}
 use Rattle.keyed_state.specs.declared.token.Token.{Token}
@@ -182,6 +182,13 @@ module _ {V : Type 0} (form : Form V) where
     rises = tt;
     fits = omega arith;
   }
+
+  -- what a key has is a value, and its token is not above the last
+  pub value-is : (k : List ℕ) (v : V) (s : KeyedState V) → IsState form s → value_of k s.entries ≡ Some v → form.IsValue v
+  value-is k v s is at = holds-of (IsEntry form) form.IsValue (λ x one. one.value) k s.entries v is.entries at
+
+  pub token-up : (k : List ℕ) (v : V) (s : KeyedState V) → IsState form s → value_of k s.entries ≡ Some v → is_up_to (form.token_of v) s.last ≡ true
+  token-up k v s is at = holds-of (λ x. is_up_to (form.token_of x.value) s.last ≡ true) (λ y. is_up_to (form.token_of y) s.last ≡ true) (λ x up. up) k s.entries v is.tokens at
 
   -- the tokens of entries are up to a greater one too
   pub all-up : (a b : Token) (es : List (KeyedEntry V)) → AreUpTo form a es → is_up_to a b ≡ true → AreUpTo form b es

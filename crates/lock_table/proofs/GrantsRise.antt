@@ -1,5 +1,5 @@
 -- The tokens of grants rise along the messages, and along the names that one message grants.
-use Rattle.std.proofs.Common.{◌≡◌, ◌≢◌, ℕ, Bool, true, false, cond, not, List, [], ◌∷◌, Option, Some, None, sym, ap, subst, ◌∙◌}
+use Rattle.std.proofs.Common.{◌≡◌, ◌≢◌, ℕ, Bool, true, false, cond, not, List, [], ◌∷◌, Option, Some, None, refl, sym, ap, subst, ◌∙◌}
 use Rattle.std.specs.List.{filter, AllByRecursion}
 use Rattle.std.specs.Option.{option_map}
 use Rattle.address.specs.Ids.{Address, ViewId}
@@ -9,7 +9,8 @@ use Rattle.keyed_state.specs.Tokens.{next_token, is_up_to, IsBelow}
 use Rattle.lock_table.specs.Locks.{Lock, Table, IsTable, lock_of, left_to, passed_on}
 use Rattle.lock_table.specs.Commands.{command_of, after_command}
 use Rattle.keyed_state.specs.TokenLaws.{up-refl, up-trans, up-below, next-above}
-use Rattle.lock_table.specs.StepLaws.{holds-of}
+use Rattle.lock_table.specs.Forms.{lock_form}
+use Rattle.keyed_state.specs.StateLaws.{token-up}
 use Rattle.lock_table.specs.Turns.{Message, IsMessage, after, after_all, token_of, leaves_by, Grants}
 use Rattle.lock_table.proofs.MessagesTurnLocks.{IsTurn, Unchanged, Aside, Free, Granted, Joined, Left, with_one, turn, carried-up}
 use Rattle.lock_table.proofs.HoldersHold.{after-is-table, all-is-table}
@@ -20,17 +21,21 @@ token-in o = option_map (λ (x : Lock). x.token) o
 pub some-lock : (x y : Lock) → Some x ≡ Some y → x ≡ y
 some-lock x y e = cc
 
--- a lock that some left has the token that it had, or the next one
-pub left-token : (stays : Address → Bool) (view : ViewId) (last : Token) (x l : Lock) → (left_to stays view last x).lock ≡ Some l → Some x.token ≢ Some l.token → l.token ≡ next_token view last
-left-token stays view last x l = by (stays x.holder) where
-  by-first : (ps : List Address) → (passed_on last (next_token view last) ps).lock ≡ Some l → l.token ≡ next_token view last
+-- a lock that some left has the token that it had, or the next one, which is the last one then
+pub left-new : (stays : Address → Bool) (view : ViewId) (last : Token) (x l : Lock) → (left_to stays view last x).lock ≡ Some l → Some x.token ≢ Some l.token
+    → (l.token ≡ next_token view last) × ((left_to stays view last x).last ≡ next_token view last)
+left-new stays view last x l = by (stays x.holder) where
+  by-first : (ps : List Address) → (passed_on last (next_token view last) ps).lock ≡ Some l → (l.token ≡ next_token view last) × ((passed_on last (next_token view last) ps).last ≡ next_token view last)
   by-first [] e = absurd cc
-  by-first (p ∷ ps) e = ap (λ (y : Lock). y.token) (sym (some-lock (record { holder = p; token = next_token view last; waiters = ps }) l e))
+  by-first (p ∷ ps) e = (ap (λ (y : Lock). y.token) (sym (some-lock (record { holder = p; token = next_token view last; waiters = ps }) l e)), refl)
 
   by : (b : Bool) → (cond b (record { lock = Some (record { holder = x.holder; token = x.token; waiters = filter stays x.waiters }); last = last }) (passed_on last (next_token view last) (filter stays x.waiters))).lock ≡ Some l
-      → Some x.token ≢ Some l.token → l.token ≡ next_token view last
+      → Some x.token ≢ Some l.token → (l.token ≡ next_token view last) × ((cond b (record { lock = Some (record { holder = x.holder; token = x.token; waiters = filter stays x.waiters }); last = last }) (passed_on last (next_token view last) (filter stays x.waiters))).last ≡ next_token view last)
   by true e new = absurd (new (ap (λ (y : Lock). Some y.token) (some-lock (record { holder = x.holder; token = x.token; waiters = filter stays x.waiters }) l e)))
   by false e new = by-first (filter stays x.waiters) e
+
+pub left-token : (stays : Address → Bool) (view : ViewId) (last : Token) (x l : Lock) → (left_to stays view last x).lock ≡ Some l → Some x.token ≢ Some l.token → l.token ≡ next_token view last
+left-token stays view last x l e new = (left-new stays view last x l e new).0
 
 -- a new token is above the last one
 new-above : (name : List ℕ) (from : Address) (o : Option Command) (s t : Table) (l : Lock) → IsTurn name from o s t → lock_of name t ≡ Some l → token_of name s ≢ Some l.token → IsBelow s.last l.token
@@ -67,5 +72,5 @@ pub later-above : (s : Table) (m : Message) (ms : List Message) (n : Message) (n
 later-above s m ms n name other l k is one all first second =
     let start = after-is-table s m is one in
     let then = all-is-table ms (after s m) start all in
-    let held : is_up_to l.token (after s m).last ≡ true = holds-of (λ x. is_up_to x.token (after s m).last ≡ true) name (after s m).entries l start.tokens first.stands in
+    let held : is_up_to l.token (after s m).last ≡ true = token-up lock_form name l (after s m) start first.stands in
     up-below l.token (after_all (after s m) ms).last k.token (up-trans l.token (after s m).last (after_all (after s m) ms).last held (lasts-up ms (after s m))) (grant-above (after_all (after s m) ms) n other k then second)

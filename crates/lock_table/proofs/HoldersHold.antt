@@ -3,17 +3,16 @@ use Rattle.std.proofs.Common.{◌≡◌, ℕ, Bool, true, false, not, List, [], 
 use Rattle.std.specs.List.{filter, AllByRecursion, list_any}
 use Rattle.std.specs.Option.{option_map, IsSomeAnd}
 use Rattle.std.proofs.lemmas.Bool.{or_parts}
+use Rattle.std.proofs.lemmas.Option.{same_Some}
 use Rattle.address.specs.Ids.{Address, ViewId}
 use Rattle.keyed_state.specs.declared.token.Token.{Token}
 use Rattle.lock_table.specs.declared.command.Command.{Command}
 use Rattle.lock_table.specs.Locks.{Lock, Table, IsTable, lock_of, left_to}
 use Rattle.lock_table.specs.Commands.{command_of}
+use Rattle.lock_table.specs.StepLaws.{all-push}
 use Rattle.lock_table.specs.CommandLaws.{applied_is_table}
 use Rattle.lock_table.specs.Turns.{Message, IsMessage, after, after_all, token_of, leaves_by, leaves, Grants}
 use Rattle.lock_table.proofs.MessagesTurnLocks.{IsTurn, Unchanged, Aside, Free, Granted, Joined, Left, with_one, turn}
-
-some-lock : (x y : Lock) → Some x ≡ Some y → x ≡ y
-some-lock x y e = cc
 
 -- a lock with the holder and the token of another
 pub record HeldOn (l : Lock) (o : Option Lock) : Type 0 where
@@ -39,10 +38,10 @@ holds-one name from o s t l (Aside at none comes) here stays = the-same l (lock_
 holds-one name from o s t l (Free before new comes) here stays = let n = sym before ∙ here in absurd cc
 holds-one name from o s t l (Granted view before new none comes) here stays = let n = sym before ∙ here in absurd cc
 holds-one name from o s t l (Joined x at new none comes) here stays =
-    let same : x ≡ l = some-lock x l (sym at ∙ here) in
+    let same : x ≡ l = same_Some x l (sym at ∙ here) in
     record { lock = with_one from x; at = new; holder = ap (λ (y : Lock). y.holder) same; token = ap (λ (y : Lock). y.token) same }
 holds-one name from o s t l (Left view last x at up new comes) here stays =
-    let same : x ≡ l = some-lock x l (sym at ∙ here) in
+    let same : x ≡ l = same_Some x l (sym at ∙ here) in
     let held = left-holds (λ p. not (leaves_by name p from o)) view last l (ap not stays) in
     record { lock = held.lock; at = new ∙ ap (λ (y : Lock). (left_to (λ p. not (leaves_by name p from o)) view last y).lock) same ∙ held.at; holder = held.holder; token = held.token }
 
@@ -69,10 +68,6 @@ pub after-push : (ms : List Message) (s : Table) (m : Message) → after_all s (
 after-push [] s m = refl
 after-push (x ∷ ms) s m = after-push ms (after s x) m
 
-all-push : (ms : List Message) (m : Message) → AllByRecursion IsMessage ms → IsMessage m → AllByRecursion IsMessage (ms ++ m ∷ [])
-all-push [] m all one = (one, tt)
-all-push (x ∷ ms) m all one = (all.0, all-push ms m all.1 one)
-
 any-push : (f : Message → Bool) (ms : List Message) (m : Message) → list_any f (ms ++ m ∷ []) ≡ false → list_any f ms ≡ false
 any-push f [] m e = refl
 any-push f (x ∷ ms) m e = let parts = or_parts (f x) (list_any f (ms ++ m ∷ [])) e in rw (parts.0, any-push f ms m parts.1) refl
@@ -89,9 +84,9 @@ leaves-between s m ms n name l k is one all other first second = by (list_any (l
   by false e =
       let is-start = after-is-table s m is one in
       let before = holds-on ms start name l is-start all first.stands (any-push (leaves name l.holder) ms n e) in
-      let later = holds-on (ms ++ n ∷ []) start name l is-start (all-push ms n all other) first.stands e in
+      let later = holds-on (ms ++ n ∷ []) start name l is-start (all-push IsMessage ms n all other) first.stands e in
       let stands : lock_of name (after_all start (ms ++ n ∷ [])) ≡ Some k = ap (lock_of name) (after-push ms start n) ∙ second.stands in
-      let same : later.lock ≡ k = some-lock later.lock k (sym later.at ∙ stands) in
+      let same : later.lock ≡ k = same_Some later.lock k (sym later.at ∙ stands) in
       let token : k.token ≡ l.token = ap (λ (x : Lock). x.token) (sym same) ∙ later.token in
       let had : token_of name (after_all start ms) ≡ Some k.token = ap (option_map (λ x. x.token)) before.at ∙ ap (λ (t : Token). Some t) (before.token ∙ sym token) in
       absurd (second.new had)

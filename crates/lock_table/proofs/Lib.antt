@@ -1,5 +1,4 @@
 pub mod LocksLeft
-pub mod PartsAppend
 pub mod LocksRoll
 pub mod MessagesTurnLocks
 pub mod LocksInPlaces

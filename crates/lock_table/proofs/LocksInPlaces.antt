@@ -12,7 +12,8 @@ use Rattle.keyed_state.specs.Entries.{entry_of, value_of, put, IsHeldAt, IsFreeA
 use Rattle.keyed_state.specs.declared.token.Token.{Token}
 use Rattle.keyed_state.specs.Tokens.{next_token}
 use Rattle.lock_table.specs.Locks.{Lock, Table, queue, granted, joined_by, left_to, others, with_lock, table_of, lock_size, table_size, acquired, asked, gone_from, released, within, IsLeft}
-use Rattle.lock_table.specs.StepLaws.{size-put}
+use Rattle.lock_table.specs.Forms.{lock_form}
+use Rattle.keyed_state.specs.StateLaws.{size-put}
 
 remove-set : {X : Type 0} (xs : List X) (i : ℕ) (y : X) → remove (set xs i y) i ≡ remove xs i
 remove-set [] i y = refl
@@ -47,7 +48,7 @@ stays-away s new more = by (leb (table_size new.entries) STATE) refl where
   by true test = let small : table_size new.entries ≤ STATE = leb-true _ _ test in absurd (omega (arith, small, more))
   by false test = refl
 
-comes-in : (s new : Table) → table_size new.entries ≤ STATE → new ≡ within s new
+pub comes-in : (s new : Table) → table_size new.entries ≤ STATE → new ≡ within s new
 comes-in s new few = sym (cond-true (leb (table_size new.entries) STATE) new s (le-leb _ _ few))
 
 either-way : (s new : Table) → new ≡ s → s ≡ within s new
@@ -84,7 +85,7 @@ pub joins : (p : Address) (view : ViewId) (k : List ℕ) (last : Token) (entries
 joins p view k last entries i x l held stands e is few =
     let at = held.value x stands in
     let new = asked-held p view k last entries x.value at in
-    let size = size-put k entries x.value (joined_by p x.value) at in
+    let size = size-put lock_form k entries x.value (joined_by p x.value) at in
     let puts : set entries i (entry_of x.key l) ≡ put k (joined_by p x.value) entries = ap (λ (m : Lock). set entries i (entry_of x.key m)) is ∙ sym (held.puts x (joined_by p x.value) stands) in
     let sizes : table_size (acquired p view k (table_of last entries)).entries ≡ table_size (put k (joined_by p x.value) entries) = ap (λ (t : Table). table_size t.entries) new in
     ap (table_of last) puts ∙ sym new ∙ comes-in (table_of last entries) (acquired p view k (table_of last entries)) (omega (arith, sizes, size, joined-new p x.value e, few))
@@ -95,7 +96,7 @@ pub joins-not : (p : Address) (view : ViewId) (k : List ℕ) (last : Token) (ent
 joins-not p view k last entries i x held stands e more =
     let at = held.value x stands in
     let new = asked-held p view k last entries x.value at in
-    let size = size-put k entries x.value (joined_by p x.value) at in
+    let size = size-put lock_form k entries x.value (joined_by p x.value) at in
     let sizes : table_size (acquired p view k (table_of last entries)).entries ≡ table_size (put k (joined_by p x.value) entries) = ap (λ (t : Table). table_size t.entries) new in
     stays-away (table_of last entries) (acquired p view k (table_of last entries)) (omega (arith, sizes, size, joined-new p x.value e, more))
 

@@ -7,15 +7,13 @@ use Rattle.std.specs.declared.cmp.Ordering.{Ordering}
 use Rattle.std.specs.declared.cmp.Ordering.TheVariants.{Less, Equal, Greater}
 use Rattle.std.proofs.lemmas.Bool.{and_right}
 use Rattle.std.proofs.lemmas.List.Elements.{filter_agree}
-use Rattle.std.proofs.lemmas.Map.Text.{is_eq-slice_cmp}
-use Rattle.std.proofs.lemmas.Slice.Eq.{bytes_eq-Decides}
 use Rattle.address.specs.declared.limits.TheConstants.{STATE}
 use Rattle.address.specs.Ids.{Address, ViewId, same_address}
 use Rattle.view.specs.Members.{View, stands_in}
 use Rattle.keyed_state.specs.declared.entries.KeyedEntry.{KeyedEntry}
 use Rattle.keyed_state.specs.Entries.{key_cmp, value_of, put, Rises}
-use Rattle.keyed_state.specs.EntryLaws.{IsBelowAll, below-all, equal-all}
-use Rattle.keyed_state.proofs.LookUpsFind.{found-put, found-without}
+use Rattle.keyed_state.specs.EntryLaws.{below-all, equal-all}
+use Rattle.keyed_state.proofs.LookUpsFind.{equal-is-same, found-put, found-without, none-below}
 use Rattle.keyed_state.specs.declared.token.Token.{Token}
 use Rattle.lock_table.specs.declared.command.Command.{Command}
 use Rattle.lock_table.specs.declared.command.Command.TheVariants.{Acquire, Release, Roll}
@@ -38,11 +36,7 @@ left-agree f g same view last l =
     ∙ ap (λ (ps : List Address). cond (g l.holder) (record { lock = Some (record { holder = l.holder; token = l.token; waiters = ps }); last = last }) (passed_on last (next_token view last) ps)) (filter_agree f g same l.waiters)
 
 pub same-name : (k l : List ℕ) → is_eq (key_cmp k l) ≡ true → k ≡ l
-same-name k l e = (bytes_eq-Decides k l).0 (sym (is_eq-slice_cmp k l) ∙ e)
-
-none-below : (q : List ℕ) (xs : List (KeyedEntry Lock)) → IsBelowAll q xs → value_of q xs ≡ None
-none-below q [] all = refl
-none-below q (x ∷ xs) all = ap (λ (o : Ordering). match_ordering o None (Some x.value) (value_of q xs)) all.0
+same-name k l e = equal-is-same k l e
 
 -- ---- a roll, at a name
 
@@ -201,14 +195,14 @@ alone-stays : (a b : Bool) → b ≡ true → not a ≡ not (a && b)
 alone-stays true b e = rw e refl
 alone-stays false b e = refl
 
+pub with-found : (name : List ℕ) (k : Option Lock) (es : List (KeyedEntry Lock)) → Rises es → is_eq (key_cmp name name) ≡ true → value_of name (with_lock name k es) ≡ k
+with-found name None es up e = found-without name es name up ∙ ap (λ (b : Bool). cond b None (value_of name es)) e
+with-found name (Some x) es up e = found-put name x es name ∙ ap (λ (b : Bool). cond b (Some x) (value_of name es)) e
+
 release-here : (name : List ℕ) (from : Address) (view : ViewId) (s : Table) (l : Lock) → Rises s.entries → is_eq (key_cmp name name) ≡ true → value_of name s.entries ≡ Some l → IsTurn name from (Some (Release view name)) s (gone_from from view name s (Some l))
-release-here name from view s l up e at = Left view s.last l at (up-refl s.last) (found (left_to (others from) view s.last l).lock ∙ ap (λ (o : Outcome). o.lock) agree) refl where
+release-here name from view s l up e at = Left view s.last l at (up-refl s.last) (with-found name (left_to (others from) view s.last l).lock s.entries up e ∙ ap (λ (o : Outcome). o.lock) agree) refl where
   agree : left_to (others from) view s.last l ≡ left_to (λ p. not (leaves_by name p from (Some (Release view name)))) view s.last l
   agree = left-agree (others from) (λ p. not (leaves_by name p from (Some (Release view name)))) (λ p. alone-stays (same_address from p) (is_eq (key_cmp name name)) e) view s.last l
-
-  found : (k : Option Lock) → value_of name (with_lock name k s.entries) ≡ k
-  found None = found-without name s.entries name up ∙ ap (λ (b : Bool). cond b None (value_of name s.entries)) e
-  found (Some x) = found-put name x s.entries name ∙ ap (λ (b : Bool). cond b (Some x) (value_of name s.entries)) e
 
 -- who leaves a lock leaves the others as they are
 pub gone-beside : (name : List ℕ) (from : Address) (view : ViewId) (n : List ℕ) (s : Table) (l : Lock) → Rises s.entries → is_eq (key_cmp name n) ≡ false → lock_of name (gone_from from view n s (Some l)) ≡ lock_of name s

@@ -1,6 +1,5 @@
 -- The tokens that one message grants rise along the names of the locks.
 use Rattle.std.proofs.Common.{◌≡◌, ◌≢◌, ℕ, Bool, true, false, cond, leb, List, [], ◌∷◌, Option, Some, None, refl, sym, ap, subst, ◌∙◌}
-use Rattle.std.specs.List.{filter}
 use Rattle.std.specs.Ordering.{match_ordering, is_eq}
 use Rattle.std.specs.declared.cmp.Ordering.{Ordering}
 use Rattle.std.specs.declared.cmp.Ordering.TheVariants.{Less, Equal, Greater}
@@ -12,12 +11,12 @@ use Rattle.keyed_state.specs.declared.token.Token.{Token}
 use Rattle.lock_table.specs.declared.command.Command.{Command}
 use Rattle.lock_table.specs.declared.command.Command.TheVariants.{Acquire, Release, Roll}
 use Rattle.keyed_state.specs.Tokens.{next_token, is_up_to, IsBelow}
-use Rattle.lock_table.specs.Locks.{Lock, Table, IsTable, lock_of, table_size, left_to, passed_on, members, rolled, acquired, gone_from, view_of, is_used_up, obeyed, carried_out}
+use Rattle.lock_table.specs.Locks.{Lock, Table, IsTable, lock_of, table_size, left_to, members, rolled, acquired, gone_from, view_of, is_used_up, obeyed, carried_out}
 use Rattle.lock_table.specs.Commands.{command_of, after_command}
 use Rattle.keyed_state.specs.TokenLaws.{up-below, next-above}
 use Rattle.lock_table.specs.Turns.{Message, token_of, Grants}
 use Rattle.lock_table.proofs.MessagesTurnLocks.{came, came-up, left_at, found-rolled, same-name, acquired-beside, gone-beside}
-use Rattle.lock_table.proofs.GrantsRise.{token-in, some-lock, left-token}
+use Rattle.lock_table.proofs.GrantsRise.{token-in, some-lock, left-new, left-token}
 
 -- ---- one name alone
 
@@ -66,18 +65,6 @@ came-later stays view last a b (e ∷ es) x less at = by (key_cmp a e.key) refl 
       let past = not-equal a b e.key less Greater is (λ n. absurd cc) in
       rw past (rest at)
 
--- a lock that some left has the last token, if that is new
-left-last : (stays : Address → Bool) (view : ViewId) (last : Token) (x l : Lock) → (left_to stays view last x).lock ≡ Some l → Some x.token ≢ Some l.token → l.token ≡ (left_to stays view last x).last
-left-last stays view last x l = by (stays x.holder) where
-  by-first : (ps : List Address) → (passed_on last (next_token view last) ps).lock ≡ Some l → l.token ≡ (passed_on last (next_token view last) ps).last
-  by-first [] e = absurd cc
-  by-first (p ∷ ps) e = ap (λ (y : Lock). y.token) (sym (some-lock (record { holder = p; token = next_token view last; waiters = ps }) l e))
-
-  by : (b : Bool) → (cond b (record { lock = Some (record { holder = x.holder; token = x.token; waiters = filter stays x.waiters }); last = last }) (passed_on last (next_token view last) (filter stays x.waiters))).lock ≡ Some l
-      → Some x.token ≢ Some l.token → l.token ≡ (cond b (record { lock = Some (record { holder = x.holder; token = x.token; waiters = filter stays x.waiters }); last = last }) (passed_on last (next_token view last) (filter stays x.waiters))).last
-  by true e new = absurd (new (ap (λ (y : Lock). Some y.token) (some-lock (record { holder = x.holder; token = x.token; waiters = filter stays x.waiters }) l e)))
-  by false e new = by-first (filter stays x.waiters) e
-
 rolled-rise : (stays : Address → Bool) (view : ViewId) (s : Table) (a b : List ℕ) (l k : Lock) → Rises s.entries → IsNew a s (rolled stays view s.last s.entries) l → IsNew b s (rolled stays view s.last s.entries) k → key_cmp a b ≡ Less → IsBelow l.token k.token
 rolled-rise stays view s a b l k up one two less = by (value_of a s.entries) refl (value_of b s.entries) refl where
   found : (q : List ℕ) (o : Option Lock) → value_of q s.entries ≡ o → lock_of q (rolled stays view s.last s.entries) ≡ left_at stays view (came stays view s.last q s.entries) o
@@ -87,7 +74,8 @@ rolled-rise stays view s a b l k up one two less = by (value_of a s.entries) ref
   by None at p other = let n = sym (found a None at) ∙ one.stands in absurd cc
   by (Some x) at None other = let n = sym (found b None other) ∙ two.stands in absurd cc
   by (Some x) at (Some y) other =
-      let first = left-last stays view (came stays view s.last a s.entries) x l (sym (found a (Some x) at) ∙ one.stands) (λ e. one.new (ap token-in at ∙ e)) in
+      let given = left-new stays view (came stays view s.last a s.entries) x l (sym (found a (Some x) at) ∙ one.stands) (λ e. one.new (ap token-in at ∙ e)) in
+      let first = given.0 ∙ sym given.1 in
       let second = left-token stays view (came stays view s.last b s.entries) y k (sym (found b (Some y) other) ∙ two.stands) (λ e. two.new (ap token-in other ∙ e)) in
       let later = came-later stays view s.last a b s.entries x less at in
       let low : is_up_to l.token (came stays view s.last b s.entries) ≡ true = ap (λ (t : Token). is_up_to t (came stays view s.last b s.entries)) first ∙ later in

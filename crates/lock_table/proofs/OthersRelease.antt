@@ -6,6 +6,7 @@ use Rattle.std.specs.Ordering.{match_ordering}
 use Rattle.std.specs.declared.cmp.Ordering.{Ordering}
 use Rattle.std.specs.declared.cmp.Ordering.TheVariants.{Less, Equal, Greater}
 use Rattle.std.proofs.lemmas.Bool.{or_parts}
+use Rattle.std.proofs.lemmas.Option.{same_Some}
 use Rattle.address.specs.Ids.{Address, ViewId, same_address}
 use Rattle.view.specs.Members.{View, stands_in}
 use Rattle.keyed_state.specs.declared.entries.KeyedEntry.{KeyedEntry}
@@ -15,6 +16,7 @@ use Rattle.lock_table.specs.declared.command.Command.TheVariants.{Release, Roll}
 use Rattle.keyed_state.specs.Tokens.{next_token}
 use Rattle.lock_table.specs.Locks.{Lock, Outcome, Table, queue, left_to, passed_on, others, members, gone_from, released, with_lock, table_of, before, rolled, is_used_up, obeyed, carried_out}
 use Rattle.lock_table.specs.Commands.{command_of, after_command}
+use Rattle.lock_table.specs.StepLaws.{passes-filter}
 use Rattle.lock_table.specs.Turns.{Message, after, queue_of}
 
 -- ---- a release
@@ -57,29 +59,19 @@ record Stays (stays : Address → Bool) (l : Lock) : Type 0 where
   holder : stays l.holder ≡ true
   waiters : AllByRecursion (λ p. stays p ≡ true) l.waiters
 
-passes-filter : (stays : Address → Bool) (ps : List Address) → AllByRecursion (λ p. stays p ≡ true) (filter stays ps)
-passes-filter stays [] = tt
-passes-filter stays (p ∷ ps) = by (stays p) refl (passes-filter stays ps) where
-  by : (b : Bool) → stays p ≡ b → AllByRecursion (λ q. stays q ≡ true) (filter stays ps) → AllByRecursion (λ q. stays q ≡ true) (cond b (p ∷ filter stays ps) (filter stays ps))
-  by true is rest = (is, rest)
-  by false is rest = rest
-
 filter-passed : (stays : Address → Bool) (ps : List Address) → AllByRecursion (λ p. stays p ≡ true) ps → filter stays ps ≡ ps
 filter-passed stays [] all = refl
 filter-passed stays (p ∷ ps) all = rw all.0 (ap (λ (l : List Address). p ∷ l) (filter-passed stays ps all.1))
-
-some-lock : (x y : Lock) → Some x ≡ Some y → x ≡ y
-some-lock x y e = cc
 
 -- who is left at a lock stays
 left-stays : (stays : Address → Bool) (view : ViewId) (last : Token) (l k : Lock) → (left_to stays view last l).lock ≡ Some k → Stays stays k
 left-stays stays view last l k = by (stays l.holder) refl where
   by-first : (ps : List Address) → AllByRecursion (λ p. stays p ≡ true) ps → (passed_on last (next_token view last) ps).lock ≡ Some k → Stays stays k
   by-first [] all e = absurd cc
-  by-first (p ∷ ps) all e = subst (Stays stays) (some-lock (record { holder = p; token = next_token view last; waiters = ps }) k e) (record { holder = all.0; waiters = all.1 })
+  by-first (p ∷ ps) all e = subst (Stays stays) (same_Some (record { holder = p; token = next_token view last; waiters = ps }) k e) (record { holder = all.0; waiters = all.1 })
 
   by : (b : Bool) → stays l.holder ≡ b → (cond b (record { lock = Some (record { holder = l.holder; token = l.token; waiters = filter stays l.waiters }); last = last }) (passed_on last (next_token view last) (filter stays l.waiters))).lock ≡ Some k → Stays stays k
-  by true is e = subst (Stays stays) (some-lock (record { holder = l.holder; token = l.token; waiters = filter stays l.waiters }) k e) (record { holder = is; waiters = passes-filter stays l.waiters })
+  by true is e = subst (Stays stays) (same_Some (record { holder = l.holder; token = l.token; waiters = filter stays l.waiters }) k e) (record { holder = is; waiters = passes-filter stays l.waiters })
   by false is e = by-first (filter stays l.waiters) (passes-filter stays l.waiters) e
 
 rolled-stay : (stays : Address → Bool) (view : ViewId) (last : Token) (es : List (KeyedEntry Lock)) → AllByRecursion (λ e. Stays stays e.value) (rolled stays view last es).entries

@@ -8,7 +8,6 @@ use Rattle.address.specs.Ids.{ViewId, same_view_id}
 use Rattle.address.proofs.SameIds.{same_view_id-true}
 use Rattle.byteorder.specs.Endian.{big_bytes}
 use Rattle.big_endian.proofs.Bytes.{wide1}
-use Rattle.big_endian.specs.Reading.{number_at}
 use Rattle.big_endian.proofs.PartLaws.{IsWithin, number_part}
 use Rattle.vsync_text.specs.declared.fault.Fault.{Fault}
 use Rattle.vsync_text.specs.declared.fault.Fault.TheVariants.{BadNumber}
@@ -19,10 +18,9 @@ use Rattle.keyed_state.specs.Keys.{IsKey}
 use Rattle.keyed_state.specs.Words.{key_of_text, key_field}
 use Rattle.lock_table.specs.declared.command.Command.{Command}
 use Rattle.lock_table.specs.declared.command.Command.TheVariants.{Acquire, Release, Roll}
-use Rattle.keyed_state.specs.Tokens.{IsViewId}
 use Rattle.lock_table.specs.Locks.{view_of}
-use Rattle.lock_table.specs.Commands.{IsCommand, command_bytes, command_of}
-use Rattle.keyed_state.specs.Spelling.{view_id_bytes, view_id_at}
+use Rattle.lock_table.specs.Commands.{IsCommand, view_bytes, command_bytes, command_of}
+use Rattle.keyed_state.specs.PartLaws.{same_parts}
 use Rattle.keyed_state.specs.SpellingLaws.{view_id_part}
 use Rattle.lock_table.specs.CommandLaws.{command_is_spelled, spelled_is_read}
 use Rattle.lock_table.specs.Stamps.{FirstSpells, SaidSpells, StampedSpells}
@@ -39,25 +37,17 @@ stamped-spells view (Roll w) d is x e =
 read-view : (d c : Command) → IsCommand d → command_of (command_bytes d) ≡ Some c → view_of c ≡ view_of d
 read-view d c is e = ap view_of (sym (same_Some d c (sym (spelled_is_read d is) ∙ e)))
 
--- two spellings that are the same have the same kind, and the same behind it
-same-kind : (n m : ℕ) (r s : List ℕ) → IsWithin 1 3 n → IsWithin 1 3 m → big_bytes 1 n ++ r ≡ big_bytes 1 m ++ s → (n ≡ m) × (r ≡ s)
-same-kind n m r s fits fits' same =
-    let kind = number_part 1 1 3 wide1 (omega arith) in
-    let both = same_Some (n, r) (m, s) (sym (kind.again n r fits) ∙ ap (number_at 1 1 3) same ∙ kind.again m s fits') in
-    (ap (λ (x : ℕ × List ℕ). x.0) both, ap (λ (x : ℕ × List ℕ). x.1) both)
-
--- and the same view id at their beginning
-same-id : (u v : ViewId) (r s : List ℕ) → IsViewId u → IsViewId v → view_id_bytes u ++ r ≡ view_id_bytes v ++ s → u ≡ v
-same-id u v r s fits fits' same =
-    ap (λ (x : ViewId × List ℕ). x.0) (same_Some (u, r) (v, s) (sym (view_id_part.again u r fits) ∙ ap view_id_at same ∙ view_id_part.again v s fits'))
-
 -- the roll that is sent first in a view spells it
 pub first-spells : FirstSpells
 first-spells view c is e = let read = command_is_spelled (command_bytes (Roll view)) c e in by c read.0 read.1 where
+  -- it begins with the same number
+  same-kind : (n : ℕ) (r : List ℕ) → IsWithin 1 3 n → big_bytes 1 n ++ r ≡ command_bytes (Roll view) → (n ≡ 3) × (r ≡ view_bytes view)
+  same-kind n r fits same = same_parts (number_part 1 1 3 wide1 (omega arith)) n 3 r (view_bytes view) fits (omega arith, omega arith) same
+
   by : (c : Command) → IsCommand c → command_bytes c ≡ command_bytes (Roll view) → view_of c ≡ view.id
-  by (Acquire v name) fits same = absurd (let bad : 1 ≡ 3 = (same-kind 1 3 _ _ (omega arith, omega arith) (omega arith, omega arith) same).0 in cc)
-  by (Release v name) fits same = absurd (let bad : 2 ≡ 3 = (same-kind 2 3 _ _ (omega arith, omega arith) (omega arith, omega arith) same).0 in cc)
-  by (Roll w) fits same = same-id w.id view.id _ _ fits.id is (same-kind 3 3 _ _ (omega arith, omega arith) (omega arith, omega arith) same).1
+  by (Acquire v name) fits same = absurd (let bad : 1 ≡ 3 = (same-kind 1 _ (omega arith, omega arith) same).0 in cc)
+  by (Release v name) fits same = absurd (let bad : 2 ≡ 3 = (same-kind 2 _ (omega arith, omega arith) same).0 in cc)
+  by (Roll w) fits same = (same_parts view_id_part w.id view.id _ _ fits.id is (same-kind 3 _ (omega arith, omega arith) same).1).0
 
 -- a key that ends a line is one
 text-key : (field name : List ℕ) → key_of_text field ≡ Some name → IsKey name

@@ -1,5 +1,5 @@
 -- The member waits for each lock that somebody waits for; and who waits or is answered is so as often as before.
-use Rattle.std.proofs.Common.{◌≡◌, ℕ, ◌+◌, ◌==◌, Bool, true, false, List, [], ◌∷◌, ◌++◌, map, cond, Option, None, Some, count_by, refl, ap, ◌∙◌, arith}
+use Rattle.std.proofs.Common.{◌≡◌, ℕ, ◌+◌, ◌==◌, true, List, [], ◌∷◌, ◌++◌, map, cond, Option, None, Some, count_by, refl, ap, ◌∙◌, arith}
 use Rattle.std.specs.List.{AllByRecursion, filter, flat_map}
 use Rattle.std.proofs.lemmas.List.Sums.{sum_by-cons, sum_by-append}
 use Rattle.address.specs.Ids.{Address, ViewId}
@@ -21,6 +21,7 @@ use Rattle.lock_table.specs.declared.own_message.Early.TheVariants.{Told, Asks}
 use Rattle.lock_table.specs.declared.answer.Queued.{Queued}
 use Rattle.lock_table.specs.declared.answer.Fate.{Fate}
 use Rattle.lock_table.specs.declared.answer.Fate.TheVariants.{Granted, Full, Gone}
+use Rattle.lock_table.specs.StepLaws.{passes-filter}
 use Rattle.lock_table.specs.Standings.{standing, is_waiting}
 use Rattle.lock_table.specs.Keeping.{Keeping, heard, delivered, installed, applied, late, answer_of, told_of, told, late_fate, first_verdict, early, verdict, queue_as, queue_by, own_answers, own_queued, back, table_in, still_waits}
 use Rattle.lock_table.specs.Answers.{heard_all, AllWait, waits_often, answered_often}
@@ -29,11 +30,7 @@ abbrev AllStill : Address → Table → List Queued → Type 0
 AllStill own s qs = AllByRecursion (λ q. still_waits own s q ≡ true) qs
 
 all-still : (own : Address) (s : Table) (qs : List Queued) → AllStill own s (filter (still_waits own s) qs)
-all-still own s [] = tt
-all-still own s (q ∷ qs) = by (still_waits own s q) refl (all-still own s qs) where
-  by : (b : Bool) → still_waits own s q ≡ b → AllStill own s (filter (still_waits own s) qs) → AllStill own s (cond b (q ∷ filter (still_waits own s) qs) (filter (still_waits own s) qs))
-  by true e rest = (e, rest)
-  by false e rest = rest
+all-still own s qs = passes-filter (still_waits own s) qs
 
 all-append : (own : Address) (s : Table) (xs ys : List Queued) → AllStill own s xs → AllStill own s ys → AllStill own s (xs ++ ys)
 all-append own s [] ys all more = more

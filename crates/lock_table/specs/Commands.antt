@@ -1,20 +1,20 @@
 -- How payloads spell commands, and what a message makes of the table.
-use Rattle.std.specs.Prelude.{◌≡◌, ℕ, List, ◌++◌, length, Option, Some, None, ◌==◌, if◌then◌else◌}
+use Rattle.std.specs.Prelude.{◌≡◌, ℕ, List, ◌++◌, Option, Some, None, ◌==◌, if◌then◌else◌}
 use Rattle.std.specs.Option.{is_none}
-use Rattle.std.specs.List.{flat_map, AllByRecursion}
+use Rattle.std.specs.List.{AllByRecursion}
 use Rattle.byteorder.specs.Endian.{big_bytes}
 use Rattle.address.specs.Ids.{Address, ViewId, same_view_id, IsAddress}
 use Rattle.view.specs.Members.{View}
 use Rattle.view.specs.View.{view_refusal}
 use Rattle.address.specs.declared.limits.TheConstants.{MEMBERS}
 use Rattle.big_endian.specs.Spelled.{address_bytes}
-use Rattle.big_endian.specs.Reading.{Read, ◌>>=◌, number_at, address_at, list_at, read_to_end}
+use Rattle.big_endian.specs.Reading.{Read, ◌>>=◌, number_at, address_at, read_to_end}
 use Rattle.keyed_state.specs.Keys.{IsKey, key_bytes, key_at}
 use Rattle.lock_table.specs.declared.command.Command.{Command}
 use Rattle.lock_table.specs.declared.command.Command.TheVariants.{Acquire, Release, Roll}
 use Rattle.keyed_state.specs.Tokens.{IsViewId}
 use Rattle.lock_table.specs.Locks.{Table, carried_out}
-use Rattle.keyed_state.specs.Spelling.{view_id_bytes, view_id_at}
+use Rattle.keyed_state.specs.Spelling.{view_id_bytes, view_id_at, made_at, both_at, counted_at, counted_bytes}
 
 -- ---- a view: its id, the number of its members in a byte, and they
 
@@ -24,14 +24,12 @@ pub record IsView (v : View) : Type 0 where
   pub sound : view_refusal v.id v.members ≡ None
 
 abbrev pub view_bytes : View → List ℕ
-view_bytes v = view_id_bytes v.id ++ (big_bytes 1 (length v.members) ++ flat_map address_bytes v.members)
+view_bytes v = view_id_bytes v.id ++ counted_bytes 1 address_bytes v.members
 
 unfoldable pub view_at : List ℕ → Read View
 view_at bytes = do
-  id ← view_id_at bytes
-  count ← number_at 1 1 MEMBERS id.1
-  members ← list_at address_at count.0 count.1
-  if is_none (view_refusal id.0 members.0) then Some (record { id = id.0; members = members.0 }, members.1) else None
+  parts ← both_at view_id_at (counted_at 1 1 MEMBERS address_at) bytes
+  if is_none (view_refusal parts.0.0 parts.0.1) then Some (record { id = parts.0.0; members = parts.0.1 }, parts.1) else None
 
 -- ---- a request for a lock or of its release: the id of the view in which it is sent, and the lock's name
 
@@ -41,11 +39,8 @@ IsRequest r = IsViewId r.0 × IsKey r.1
 abbrev pub request_bytes : ViewId × List ℕ → List ℕ
 request_bytes r = view_id_bytes r.0 ++ key_bytes r.1
 
-unfoldable pub request_at : List ℕ → Read (ViewId × List ℕ)
-request_at bytes = do
-  view ← view_id_at bytes
-  name ← key_at view.1
-  Some ((view.0, name.0), name.1)
+abbrev pub request_at : List ℕ → Read (ViewId × List ℕ)
+request_at bytes = both_at view_id_at key_at bytes
 
 -- ---- a command: its kind in a byte, and its parts
 
@@ -54,11 +49,6 @@ command_bytes (Acquire view name) = big_bytes 1 1 ++ request_bytes (view, name)
 command_bytes (Release view name) = big_bytes 1 2 ++ request_bytes (view, name)
 command_bytes (Roll view) = big_bytes 1 3 ++ view_bytes view
 
-unfoldable pub roll_at : List ℕ → Read Command
-roll_at bytes = do
-  view ← view_at bytes
-  Some (Roll view.0, view.1)
-
 -- the command of a kind that is a request
 abbrev pub requested : ℕ → ViewId × List ℕ → Command
 requested kind r = if kind == 1 then Acquire r.0 r.1 else Release r.0 r.1
@@ -66,7 +56,7 @@ requested kind r = if kind == 1 then Acquire r.0 r.1 else Release r.0 r.1
 unfoldable pub command_at : List ℕ → Read Command
 command_at bytes = do
   kind ← number_at 1 1 3 bytes
-  if kind.0 == 3 then roll_at kind.1 else (request_at kind.1 >>= λ r. Some (requested kind.0 r.0, r.1))
+  if kind.0 == 3 then made_at Roll (view_at kind.1) else made_at (requested kind.0) (request_at kind.1)
 
 -- the command that a payload is: nothing follows it
 unfoldable pub command_of : List ℕ → Option Command

@@ -1,13 +1,12 @@
 -- A lock that is held; as bytes, and from bytes.
 use Rattle.std.specs.Prelude.{ℕ, ◌+◌, ◌*◌, ◌≤◌, List, [], ◌∷◌, ◌++◌, length, Some}
-use Rattle.std.specs.List.{AllByRecursion, flat_map}
-use Rattle.byteorder.specs.Endian.{big_bytes}
+use Rattle.std.specs.List.{AllByRecursion}
 use Rattle.address.specs.Ids.{Address, IsAddress}
 use Rattle.big_endian.specs.Spelled.{address_bytes}
-use Rattle.big_endian.specs.Reading.{Read, ◌>>=◌, number_at, address_at, list_at}
+use Rattle.big_endian.specs.Reading.{Read, ◌>>=◌, address_at}
 use Rattle.keyed_state.specs.declared.token.Token.{Token}
 use Rattle.keyed_state.specs.Tokens.{IsToken}
-use Rattle.keyed_state.specs.Spelling.{token_bytes, token_at}
+use Rattle.keyed_state.specs.Spelling.{token_bytes, token_at, both_at, counted_at, counted_bytes}
 use Rattle.keyed_state.specs.States.{Form}
 
 -- a lock that is held: by whom, with which token, and who waits for it, in the order of their requests
@@ -37,12 +36,10 @@ pub record IsShort (l : Lock) : Type 0 where
 -- ---- those who wait: their number in four bytes, and they
 
 abbrev pub waiters_bytes : List Address → List ℕ
-waiters_bytes ps = big_bytes 4 (length ps) ++ flat_map address_bytes ps
+waiters_bytes ps = counted_bytes 4 address_bytes ps
 
-unfoldable pub waiters_at : List ℕ → Read (List Address)
-waiters_at bytes = do
-  count ← number_at 4 0 4294967295 bytes
-  list_at address_at count.0 count.1
+abbrev pub waiters_at : List ℕ → Read (List Address)
+waiters_at bytes = counted_at 4 0 4294967295 address_at bytes
 
 -- ---- a lock: its holder, its token, and who waits
 
@@ -52,9 +49,8 @@ lock_bytes l = address_bytes l.holder ++ (token_bytes l.token ++ waiters_bytes l
 unfoldable pub lock_at : List ℕ → Read Lock
 lock_at bytes = do
   holder ← address_at bytes
-  token ← token_at holder.1
-  waiters ← waiters_at token.1
-  Some (record { holder = holder.0; token = token.0; waiters = waiters.0 }, waiters.1)
+  grant ← both_at token_at waiters_at holder.1
+  Some (record { holder = holder.0; token = grant.0.0; waiters = grant.0.1 }, grant.1)
 
 -- in how many bytes: its holder in 6, its token in 22, the number of those who wait in 4, each of them in 6
 abbrev pub lock_form : Form Lock

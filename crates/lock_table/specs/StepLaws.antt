@@ -1,16 +1,14 @@
 -- Each step of the table leaves it a table.
-use Rattle.std.proofs.Common.{◌≡◌, ℕ, suc, ◌+◌, ◌*◌, ◌≤◌, Bool, true, false, cond, leb, List, [], ◌∷◌, ◌++◌, length, Option, Some, None, refl, ap, subst, ◌∙◌, arith}
+use Rattle.std.proofs.Common.{◌≡◌, ℕ, suc, ◌+◌, ◌≤◌, Bool, true, false, cond, leb, List, [], ◌∷◌, ◌++◌, length, Option, Some, None, refl, ap, subst, ◌∙◌, arith}
 use Rattle.std.specs.List.{AllByRecursion, filter, sum_by}
-use Rattle.std.specs.Ordering.{match_ordering}
-use Rattle.std.specs.declared.cmp.Ordering.{Ordering}
-use Rattle.std.specs.declared.cmp.Ordering.TheVariants.{Less, Equal, Greater}
 use Rattle.std.proofs.lemmas.Bool.{leb-true}
+use Rattle.std.proofs.lemmas.Option.{same_Some}
 use Rattle.std.proofs.lemmas.List.Sums.{sum_by-cons}
 use Rattle.address.specs.Ids.{Address, ViewId, IsAddress}
 use Rattle.view.specs.Members.{stands_in}
 use Rattle.address.specs.declared.limits.TheConstants.{STATE, GREATEST_NUMBER}
 use Rattle.keyed_state.specs.declared.entries.KeyedEntry.{KeyedEntry}
-use Rattle.keyed_state.specs.Entries.{key_cmp, entry_of, value_of, put, Rises}
+use Rattle.keyed_state.specs.Entries.{entry_of, value_of, Rises}
 use Rattle.keyed_state.specs.EntryLaws.{IsBelowAll}
 use Rattle.keyed_state.specs.Keys.{IsKey}
 use Rattle.keyed_state.specs.declared.token.Token.{Token}
@@ -22,10 +20,6 @@ use Rattle.keyed_state.specs.TokenLaws.{up-trans, up-refl, below-is-up, next-abo
 
 -- ---- lists
 
-pub all-by : {X : Type 0} (P Q : X → Type 0) → ((x : X) → P x → Q x) → (xs : List X) → AllByRecursion P xs → AllByRecursion Q xs
-all-by P Q f [] all = tt
-all-by P Q f (x ∷ xs) all = (f x all.0, all-by P Q f xs all.1)
-
 all-filter : {X : Type 0} (P : X → Type 0) (test : X → Bool) (xs : List X) → AllByRecursion P xs → AllByRecursion P (filter test xs)
 all-filter P test [] all = tt
 all-filter P test (x ∷ xs) all = by (test x) (all-filter P test xs all.1) where
@@ -33,7 +27,7 @@ all-filter P test (x ∷ xs) all = by (test x) (all-filter P test xs all.1) wher
   by true rest = (all.0, rest)
   by false rest = rest
 
-all-push : {X : Type 0} (P : X → Type 0) (xs : List X) (x : X) → AllByRecursion P xs → P x → AllByRecursion P (xs ++ x ∷ [])
+pub all-push : {X : Type 0} (P : X → Type 0) (xs : List X) (x : X) → AllByRecursion P xs → P x → AllByRecursion P (xs ++ x ∷ [])
 all-push P [] x all one = (one, tt)
 all-push P (y ∷ xs) x all one = (all.0, all-push P xs x all.1 one)
 
@@ -44,33 +38,18 @@ few-filter test (x ∷ xs) = by (test x) (few-filter test xs) where
   by true rest = omega (arith, rest)
   by false rest = omega (arith, rest)
 
--- what holds of each entry's lock holds of a name's
-pub holds-of : (Q : Lock → Type 0) (name : List ℕ) (es : List (KeyedEntry Lock)) (l : Lock) → AllByRecursion (λ e. Q e.value) es → value_of name es ≡ Some l → Q l
-holds-of Q name [] l all at = absurd cc
-holds-of Q name (e ∷ es) l all at = by (key_cmp name e.key) (holds-of Q name es l all.1) at where
-  by : (o : Ordering) → (value_of name es ≡ Some l → Q l) → match_ordering o None (Some e.value) (value_of name es) ≡ Some l → Q l
-  by Less rest at = absurd cc
-  by Equal rest at = let same : e.value ≡ l = cc in subst Q same all.0
-  by Greater rest at = rest at
+-- what a filter leaves passes it
+pub passes-filter : {X : Type 0} (test : X → Bool) (xs : List X) → AllByRecursion (λ x. test x ≡ true) (filter test xs)
+passes-filter test [] = tt
+passes-filter test (x ∷ xs) = by (test x) refl (passes-filter test xs) where
+  by : (b : Bool) → test x ≡ b → AllByRecursion (λ y. test y ≡ true) (filter test xs) → AllByRecursion (λ y. test y ≡ true) (cond b (x ∷ filter test xs) (filter test xs))
+  by true is rest = (is, rest)
+  by false is rest = rest
 
 -- ---- tokens
 
 pub next-up : (view : ViewId) (last : Token) → is_up_to last (next_token view last) ≡ true
 next-up view last = below-is-up last (next_token view last) (next-above view last)
-
--- ---- sizes
-
-pub size-put : (name : List ℕ) (es : List (KeyedEntry Lock)) (l k : Lock) → value_of name es ≡ Some l → sum_by lock_size (put name k es) + 6 * length l.waiters ≡ sum_by lock_size es + 6 * length k.waiters
-size-put name [] l k at = absurd cc
-size-put name (e ∷ es) l k at = by (key_cmp name e.key) (size-put name es l k) at where
-  by : (o : Ordering) → (value_of name es ≡ Some l → sum_by lock_size (put name k es) + 6 * length l.waiters ≡ sum_by lock_size es + 6 * length k.waiters) → match_ordering o None (Some e.value) (value_of name es) ≡ Some l
-      → sum_by lock_size (match_ordering o (entry_of name k ∷ e ∷ es) (entry_of e.key k ∷ es) (e ∷ put name k es)) + 6 * length l.waiters ≡ sum_by lock_size (e ∷ es) + 6 * length k.waiters
-  by Less rest at = absurd cc
-  by Equal rest at =
-      let same : e.value ≡ l = cc in
-      let many : length e.value.waiters ≡ length l.waiters = ap (λ (x : Lock). length x.waiters) same in
-      omega (arith, many, sum_by-cons lock_size (entry_of e.key k) es, sum_by-cons lock_size e es)
-  by Greater rest at = let less = rest at in omega (arith, less, sum_by-cons lock_size e (put name k es), sum_by-cons lock_size e es)
 
 -- ---- a lock that some leave
 
@@ -103,14 +82,12 @@ left-sound stays view last l is up token id few = by (stays l.holder) where
     token = next-is-token view last id token few;
     up = next-up view last;
     next = omega (arith, next-next view last);
-    lock = λ k e. subst (λ (x : Lock). IsKept l last (record { lock = Some (record { holder = p; token = next_token view last; waiters = ps }); last = next_token view last }) x) (some-is (record { holder = p; token = next_token view last; waiters = ps }) k e) (record {
+    lock = λ k e. subst (λ (x : Lock). IsKept l last (record { lock = Some (record { holder = p; token = next_token view last; waiters = ps }); last = next_token view last }) x) (same_Some (record { holder = p; token = next_token view last; waiters = ps }) k e) (record {
       is = record { holder = all.0; token = next-is-token view last id token few; waiters = all.1 };
       up = up-refl (next_token view last);
       few = omega (arith, less);
     });
-  } where
-    some-is : (x y : Lock) → Some x ≡ Some y → x ≡ y
-    some-is x y e = cc
+  }
 
   by : (b : Bool) → IsSound view l last (cond b (record { lock = Some (record { holder = l.holder; token = l.token; waiters = filter stays l.waiters }); last = last }) (passed_on last (next_token view last) (filter stays l.waiters)))
   by true = unchanged (Some (record { holder = l.holder; token = l.token; waiters = filter stays l.waiters })) (λ k e. held k e) where
@@ -200,21 +177,15 @@ released-by p view name s l is id key at few = by o.lock sound.lock where
   o : Outcome
   o = left_to (others p) view s.last l
 
-  of-lock : IsLock l
-  of-lock = holds-of IsLock name s.entries l (all-by IsEntry (λ e. IsLock e.value) (λ e one. one.value) s.entries is.entries) at
-
-  of-token : is_up_to l.token s.last ≡ true
-  of-token = holds-of (λ x. is_up_to x.token s.last ≡ true) name s.entries l is.tokens at
-
   sound : IsSound view l s.last o
-  sound = left-sound (others p) view s.last l of-lock of-token is.last id few
+  sound = left-sound (others p) view s.last l (states.value-is lock_form name l s is at) (states.token-up lock_form name l s is at) is.last id few
 
   by : (k : Option Lock) → ((x : Lock) → k ≡ Some x → IsKept l s.last o x) → IsTable (table_of o.last (with_lock name k s.entries))
   by None lock = states.without_is_state lock_form name o.last s is sound.token sound.up
   by (Some x) lock =
       let fits : table_size s.entries ≤ STATE = is.fits in
       let kept = lock x refl in
-      states.put_is_state lock_form name x o.last s is key kept.is sound.token sound.up kept.up (omega (arith, fits, kept.few, size-put name s.entries l x at))
+      states.put_is_state lock_form name x o.last s is key kept.is sound.token sound.up kept.up (omega (arith, fits, kept.few, states.size-put lock_form name s.entries l x at))
 
 pub released-is-table : (p : Address) (view : ViewId) (name : List ℕ) (s : Table) → IsTable s → IsViewId view → IsKey name → (next_token view s.last).count ≤ GREATEST_NUMBER → IsTable (released p view name s)
 released-is-table p view name s is id key few = by (value_of name s.entries) refl where
@@ -250,6 +221,6 @@ acquired-is-table p view name s is address id key few = within-is-table s (acqui
       let token = next-is-token view s.last id is.last few in
       states.put_is_state lock_form name (granted p next) next s is key (record { holder = address; token = token; waiters = tt }) token (next-up view s.last) (up-refl next) small
   by (Some l) at small =
-      let lock = joined-is-lock p l address (holds-of IsLock name s.entries l (all-by IsEntry (λ e. IsLock e.value) (λ e one. one.value) s.entries is.entries) at) in
-      let up : is_up_to (joined_by p l).token s.last ≡ true = ap (λ (t : Token). is_up_to t s.last) (joined-token p l) ∙ holds-of (λ x. is_up_to x.token s.last ≡ true) name s.entries l is.tokens at in
+      let lock = joined-is-lock p l address (states.value-is lock_form name l s is at) in
+      let up : is_up_to (joined_by p l).token s.last ≡ true = ap (λ (t : Token). is_up_to t s.last) (joined-token p l) ∙ states.token-up lock_form name l s is at in
       states.put_is_state lock_form name (joined_by p l) s.last s is key lock is.last (up-refl s.last) up small

@@ -2,7 +2,7 @@
 
 ghost use Rattle.std.specs.Prelude.{◌≡◌, ◌+◌, ◌<◌, ◌≤◌, ◌++◌, vec_len, vec_capacity, length, map, OnOk};
 ghost use Rattle.std.specs.List.{filter, flat_map};
-ghost use Rattle.lock_table.specs.Keeping.{late_fate, still_waits, told, back};
+ghost use Rattle.lock_table.specs.Keeping.{still_waits, told, back};
 
 use crate::standing::is_waiting;
 use crate::{LockTable, Standing, Token, standing_of};
@@ -45,17 +45,6 @@ pub struct Queued {
     pub name: Bytes,
 }
 
-// What is told to who waited for a lock; `None` if the member waits on.
-pub(crate) fn late_fate(standing: &Standing) -> Option<Fate>
-    ensures { result ≡ late_fate standing.now }
-{
-    match standing {
-        Standing::Holds(token) => Some(Fate::Granted(*token)),
-        Standing::Waits => None,
-        Standing::Apart => Some(Fate::Gone),
-    }
-}
-
 // Tells who waits what became of it, if that is known.
 fn tell_one(
     own: &Address,
@@ -70,15 +59,17 @@ fn tell_one(
     ensures room { vec_capacity answers.old ≤ vec_capacity answers.new }
     ensures few { vec_len answers.new ≤ vec_len answers.old + 1 }
 {
-    let ticket = queued.ticket;
-    if let Some(fate) = late_fate(&standing_of(own, queued.name.as_slice(), copy)) {
-        answers.push_reserved(Answer {
-            ticket,
-            view,
-            place,
-            fate,
-        });
-    }
+    let fate = match standing_of(own, queued.name.as_slice(), copy) {
+        Standing::Holds(token) => Fate::Granted(token),
+        Standing::Waits => return,
+        Standing::Apart => Fate::Gone,
+    };
+    answers.push_reserved(Answer {
+        ticket: queued.ticket,
+        view,
+        place,
+        fate,
+    });
 }
 
 // Tells who waits what became of it, where that is known; the others wait on.

@@ -1,19 +1,19 @@
-//! Commands and locks from bytes, in one pass.
+//! Commands from bytes, in one pass.
 
 ghost use Rattle.std.specs.Prelude.{◌≡◌, IfOk};
 ghost use Rattle.big_endian.specs.Reading.{IsReadOrNone, list_at, address_at};
-ghost use Rattle.lock_table.specs.Forms.{waiters_at, lock_at};
-ghost use Rattle.lock_table.specs.Commands.{view_at, request_at, roll_at, command_at};
+ghost use Rattle.lock_table.specs.Commands.{view_at, command_at};
 
-use crate::{Command, Lock};
+use crate::Command;
+use address::Address;
 use address::limits::MEMBERS;
-use address::{Address, ViewId};
 use big_endian::Reader;
-use keyed_state::{KeyBytes, key_from, token_from, view_id_from};
+use keyed_state::{key_from, view_id_from};
 use std::alloc::{AllocError, Global};
 use view::{Addresses, View};
 
-fn some_addresses(
+// So many addresses that bytes begin with.
+pub(crate) fn some_addresses(
     alloc: Global,
     count: u32,
     from: &mut Reader<'_>,
@@ -28,33 +28,6 @@ fn some_addresses(
         list.push(address)?;
     }
     Ok(Some(list))
-}
-
-#[tactic(auto, unfolding(crate::specs::Forms::waiters_at))]
-fn waiters_from(alloc: Global, from: &mut Reader<'_>) -> Result<Option<Vec<Address>>, AllocError>
-    ensures { IfOk result (λ list. IsReadOrNone (λ l. (l.items, from.new)) list (waiters_at from.old)) }
-{
-    let Some(count) = from.u32(0, u32::MAX) else {
-        return Ok(None);
-    };
-    some_addresses(alloc, count, from)
-}
-
-// A lock that bytes begin with.
-#[tactic(auto, unfolding(crate::specs::Forms::lock_at))]
-pub(crate) fn lock_from(alloc: Global, from: &mut Reader<'_>) -> Result<Option<Lock>, AllocError>
-    ensures { IfOk result (λ l. IsReadOrNone (λ x. (x, from.new)) l (lock_at from.old)) }
-{
-    let Some(holder) = from.address() else {
-        return Ok(None);
-    };
-    let Some(token) = token_from(from) else {
-        return Ok(None);
-    };
-    let Some(waiters) = waiters_from(alloc, from)? else {
-        return Ok(None);
-    };
-    Ok(Some(Lock::new(holder, token, waiters)))
 }
 
 #[tactic(auto, unfolding(crate::specs::Commands::view_at))]
@@ -73,26 +46,6 @@ fn view_from(alloc: Global, from: &mut Reader<'_>) -> Result<Option<View>, Alloc
     Ok(View::new(id, Addresses::from_vec(members)).ok())
 }
 
-// Of what a request is made: the view in which it is sent, and the lock's name.
-#[tactic(auto, unfolding(crate::specs::Commands::request_at))]
-fn request_from<'a>(from: &mut Reader<'a>) -> Option<(ViewId, KeyBytes<'a>)>
-    ensures { IsReadOrNone (λ x. (x, from.new)) result (request_at from.old) }
-{
-    let view = view_id_from(from)?;
-    let name = key_from(from)?;
-    Some((view, name))
-}
-
-#[tactic(auto, unfolding(crate::specs::Commands::roll_at))]
-fn roll_from<'a>(alloc: Global, from: &mut Reader<'a>) -> Result<Option<Command<'a>>, AllocError>
-    ensures { IfOk result (λ c. IsReadOrNone (λ x. (x, from.new)) c (roll_at from.old)) }
-{
-    let Some(view) = view_from(alloc, from)? else {
-        return Ok(None);
-    };
-    Ok(Some(Command::Roll(view)))
-}
-
 // The command that bytes begin with.
 #[tactic(auto, unfolding(crate::specs::Commands::command_at))]
 pub(crate) fn command_from<'a>(
@@ -105,9 +58,15 @@ pub(crate) fn command_from<'a>(
         return Ok(None);
     };
     if kind == 3 {
-        return roll_from(alloc, from);
+        let Some(view) = view_from(alloc, from)? else {
+            return Ok(None);
+        };
+        return Ok(Some(Command::Roll(view)));
     }
-    let Some((view, name)) = request_from(from) else {
+    let Some(view) = view_id_from(from) else {
+        return Ok(None);
+    };
+    let Some(name) = key_from(from) else {
         return Ok(None);
     };
     if kind == 1 {

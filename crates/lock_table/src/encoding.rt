@@ -1,22 +1,21 @@
-//! Commands and locks as bytes. What grows is grown once, before the first byte is put.
+//! Commands as bytes. What grows is grown once, before the first byte is put.
 
 ghost use Rattle.std.specs.Prelude.{◌≡◌, ◌≤◌, ◌+◌, ◌*◌, ◌++◌, length, vec_len, vec_capacity};
 ghost use Rattle.std.specs.List.{flat_map, AllByRecursion};
 ghost use Rattle.address.specs.Ids.{IsAddress};
 ghost use Rattle.big_endian.specs.Spelled.{address_bytes};
-ghost use Rattle.address.specs.declared.limits.TheConstants.{MEMBERS};
-ghost use Rattle.lock_table.specs.Forms.{waiters_bytes, lock_bytes};
-ghost use Rattle.lock_table.specs.Commands.{IsCommand, IsView, view_bytes, command_bytes};
+ghost use Rattle.lock_table.specs.Commands.{IsCommand, IsView, command_bytes};
 ghost use Rattle.lock_table.specs.declared.TheConstants.{LONGEST_COMMAND};
 ghost use Rattle.lock_table.specs.declared.command.Command.TheVariants.{Roll};
 
-use crate::{Command, Lock};
+use crate::Command;
 use address::Address;
-use big_endian::{put_address, put_u8, put_u32};
-use keyed_state::{put_key, put_token, put_view_id};
+use big_endian::{put_address, put_u8};
+use keyed_state::{put_key, put_view_id};
 use view::View;
 
-fn put_addresses(list: &[Address], out: &mut Vec<u8>)
+// Appends addresses.
+pub(crate) fn put_addresses(list: &[Address], out: &mut Vec<u8>)
     requires { vec_len out.old + 6 * length list.now ≤ vec_capacity out.old }
     ensures items { out.new.items ≡ out.old.items ++ flat_map address_bytes list.now }
     ensures room { vec_capacity out.old ≤ vec_capacity out.new }
@@ -27,47 +26,17 @@ fn put_addresses(list: &[Address], out: &mut Vec<u8>)
     }
 }
 
-fn put_view(view: &View, out: &mut Vec<u8>)
-    requires { vec_len out.old + (15 + 6 * MEMBERS) ≤ vec_capacity out.old }
-    ensures items { out.new.items ≡ out.old.items ++ view_bytes view.now }
-    ensures fits { IsView view.now }
-{
-    let members = view.members().as_slice();
-    put_view_id(view.id(), out);
-    put_u8(members.len() as u8, out);
-    put_addresses(members, out);
-}
-
-fn put_waiters(waiters: &[Address], out: &mut Vec<u8>)
-    requires few { length waiters.now ≤ 4294967295 }
-    requires room { vec_len out.old + (4 + 6 * length waiters.now) ≤ vec_capacity out.old }
-    ensures items { out.new.items ≡ out.old.items ++ waiters_bytes waiters.now }
-    ensures room { vec_capacity out.old ≤ vec_capacity out.new }
-{
-    put_u32(waiters.len() as u32, out);
-    put_addresses(waiters, out);
-}
-
-// Appends a lock: its holder, its token, and who waits.
-pub(crate) fn put_lock(lock: &Lock, out: &mut Vec<u8>)
-    requires few { length lock.now.waiters ≤ 4294967295 }
-    requires room { vec_len out.old + (32 + 6 * length lock.now.waiters) ≤ vec_capacity out.old }
-    ensures items { out.new.items ≡ out.old.items ++ lock_bytes lock.now }
-    ensures room { vec_capacity out.old ≤ vec_capacity out.new }
-{
-    put_address(lock.holder(), out);
-    put_token(lock.token(), out);
-    put_waiters(lock.waiters(), out);
-}
-
 // Appends a roll to a view.
 pub(crate) fn put_roll(view: &View, out: &mut Vec<u8>)
     requires { vec_len out.old + LONGEST_COMMAND ≤ vec_capacity out.old }
     ensures items { out.new.items ≡ out.old.items ++ command_bytes (Roll view.now) }
     ensures fits { IsView view.now }
 {
+    let members = view.members().as_slice();
     put_u8(3, out);
-    put_view(view, out);
+    put_view_id(view.id(), out);
+    put_u8(members.len() as u8, out);
+    put_addresses(members, out);
 }
 
 // Appends a command.

@@ -2,7 +2,6 @@
 
 ghost use Rattle.std.specs.Prelude.{◌≡◌, IfOk};
 ghost use Rattle.lock_table.specs.Commands.{command_bytes};
-ghost use Rattle.lock_table.specs.declared.command.Command.TheVariants.{Roll};
 
 use crate::encoding::put_roll;
 use crate::lines::put_table_line;
@@ -21,15 +20,6 @@ fn spelled(alloc: Global, command: &Command<'_>) -> Result<Bytes, AllocError>
     let mut bytes = Vec::new(alloc);
     command.encode(&mut bytes)?;
     Bytes::from_slice(alloc, bytes.as_slice())
-}
-
-// The spelling of a roll to a view.
-fn spelled_roll(alloc: Global, view: &View) -> Result<Bytes, AllocError>
-    ensures { IfOk result (λ bytes. bytes ≡ command_bytes (Roll view.now)) }
-{
-    let mut bytes = Vec::with_capacity(alloc, LONGEST_COMMAND)?;
-    put_roll(view, &mut bytes);
-    Ok(Bytes::from_vec(bytes))
 }
 
 impl Payloads for LockTable {
@@ -75,8 +65,9 @@ impl Application for LockTable {
 
     /// The roll to this view.
     fn first_message(alloc: Global, view: &View) -> Result<Option<Bytes>, AllocError> {
-        let payload = spelled_roll(alloc, view)?;
-        Ok(Some(payload))
+        let mut bytes = Vec::with_capacity(alloc, LONGEST_COMMAND)?;
+        put_roll(view, &mut bytes);
+        Ok(Some(Bytes::from_vec(bytes)))
     }
 
     /// Yes: without a lost release its lock would be held for ever. A command that is carried out twice does what it does once.

@@ -4,7 +4,7 @@ ghost use Rattle.std.specs.Prelude.{◌≡◌, ◌++◌, ◌∷◌, OnOk};
 ghost use Rattle.vsync_text.specs.TraceText.{GoesOnFrom, field};
 ghost use Rattle.lock_table.specs.Locks.{table_of};
 ghost use Rattle.keyed_state.specs.TokenText.{text_of_token};
-ghost use Rattle.lock_table.specs.TableText.{text_of_queue, text_of_lock, text_of_more, text_of_locks, table_line};
+ghost use Rattle.lock_table.specs.TableText.{text_of_queue, text_of_lock, text_of_locks, table_line};
 
 use crate::{Lock, Token};
 use address::Address;
@@ -34,27 +34,19 @@ fn put_lock(out: &mut Vec<u8>, entry: &KeyedEntry<Lock>) -> Result<(), AllocErro
     put_queue(out, &entry.value)
 }
 
-// Appends locks, each behind a space.
-#[tactic(auto, using(vsync_text::proofs::KeepFront::goes_on, vsync_text::proofs::KeepFront::stays))]
-fn put_more(out: &mut Vec<u8>, entries: &[KeyedEntry<Lock>]) -> Result<(), AllocError>
-    ensures text { OnOk result (out.new.items ≡ out.old.items ++ text_of_more entries.now) }
-    ensures kept { GoesOnFrom out.old.items out.new.items }
-{
-    for lock in entries {
-        put_lock(out, lock)?;
-    }
-    Ok(())
-}
-
 // Appends locks, each behind a space, ` -` for none.
+#[tactic(auto, using(vsync_text::proofs::KeepFront::goes_on, vsync_text::proofs::KeepFront::stays))]
 fn put_locks(out: &mut Vec<u8>, entries: &[KeyedEntry<Lock>]) -> Result<(), AllocError>
     ensures text { OnOk result (out.new.items ≡ out.old.items ++ text_of_locks entries.now) }
     ensures kept { GoesOnFrom out.old.items out.new.items }
 {
-    match entries {
-        [] => put(out, b" -"),
-        [_, ..] => put_more(out, entries),
+    if entries.is_empty() {
+        return put(out, b" -");
     }
+    for lock in entries {
+        put_lock(out, lock)?;
+    }
+    Ok(())
 }
 
 // Appends the line of a member whose table has this last token and these locks.

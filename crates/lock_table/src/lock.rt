@@ -5,11 +5,11 @@ ghost use Rattle.view.specs.Members.{stands_in};
 ghost use Rattle.lock_table.specs.Locks.{IsLeft, queue, granted, joined_by, passed, left_to, in_place, others, members};
 
 use crate::Token;
-use crate::decoding::lock_from;
-use crate::encoding::put_lock;
+use crate::decoding::some_addresses;
+use crate::encoding::put_addresses;
 use address::{Address, ViewId};
-use big_endian::Reader;
-use keyed_state::Kept;
+use big_endian::{Reader, put_address, put_u32};
+use keyed_state::{Kept, put_token, token_from};
 use std::alloc::{AllocError, Global};
 use std::marker::Model;
 use view::View;
@@ -47,18 +47,33 @@ impl Kept for Lock {
     }
 
     fn put(&self, out: &mut Vec<u8>) {
-        put_lock(self, out);
+        let waiters = self.waiters.as_slice();
+        put_address(self.holder, out);
+        put_token(self.token, out);
+        put_u32(waiters.len() as u32, out);
+        put_addresses(waiters, out);
     }
 
+    #[tactic(auto, unfolding(crate::specs::Forms::lock_at))]
     fn read(alloc: Global, from: &mut Reader<'_>) -> Result<Option<Lock>, AllocError> {
-        lock_from(alloc, from)
+        let Some(holder) = from.address() else {
+            return Ok(None);
+        };
+        let Some(token) = token_from(from) else {
+            return Ok(None);
+        };
+        let Some(count) = from.u32(0, u32::MAX) else {
+            return Ok(None);
+        };
+        let Some(waiters) = some_addresses(alloc, count, from)? else {
+            return Ok(None);
+        };
+        Ok(Some(Lock {
+            holder,
+            token,
+            waiters,
+        }))
     }
-}
-
-fn stands_in(address: &Address, list: &[Address]) -> bool
-    ensures { result ≡ stands_in address.now list.now }
-{
-    list.iter().any(|member| *address == *member)
 }
 
 impl Lock {
@@ -98,7 +113,7 @@ impl Lock {
     pub fn has(&self, address: &Address) -> bool
         ensures { result ≡ stands_in address.now (queue self.now) }
     {
-        *address == self.holder || stands_in(address, self.waiters.as_slice())
+        (*address == self.holder) | self.waiters.contains(address)
     }
 
     // Has one wait behind the others, who does not stand there. Where memory is refused, the lock is as before.

@@ -2,9 +2,8 @@
 
 ghost use Rattle.std.specs.Prelude.{◌≡◌, ◌<◌, ◌++◌, vec_len, vec_capacity, IfOk};
 ghost use Rattle.lock_table.specs.Commands.{command_of};
-ghost use Rattle.lock_table.specs.Keeping.{early, early_by, first_verdict, release_fate, verdict, queue_by, told_of};
+ghost use Rattle.lock_table.specs.Keeping.{early, verdict, queue_by, told_of};
 
-use crate::standing::is_waiting;
 use crate::{Answer, Command, Fate, LockTable, Queued, Standing, standing_of};
 use address::{Address, Bytes, ViewId};
 use application::FollowedMember;
@@ -27,50 +26,6 @@ impl Drop for Early {
     }
 }
 
-// What is told to who asks for a lock, by how the member stands there right after the request; `None` if it waits.
-fn first_verdict(standing: &Standing) -> Option<Fate>
-    ensures { result ≡ first_verdict standing.now }
-{
-    match standing {
-        Standing::Holds(token) => Some(Fate::Granted(*token)),
-        Standing::Waits => None,
-        Standing::Apart => Some(Fate::Full),
-    }
-}
-
-// What is told to who releases a lock, by how the member stood there right before.
-fn release_fate(standing: &Standing) -> Fate
-    ensures { result ≡ release_fate standing.now }
-{
-    match standing {
-        Standing::Holds(_) => Fate::Released,
-        Standing::Waits => Fate::Released,
-        Standing::Apart => Fate::NotHeld,
-    }
-}
-
-// What a command comes to.
-fn early_of(
-    alloc: Global,
-    own: &Address,
-    copy: &LockTable,
-    command: &Command<'_>,
-) -> Result<Early, AllocError>
-    ensures { IfOk result (λ e. e ≡ early_by own.now copy.now command.now) }
-{
-    match command {
-        Command::Acquire { view: _, name } => {
-            let name = Bytes::from_slice(alloc, name.as_slice())?;
-            Ok(Early::Asks(name))
-        }
-        Command::Release { view: _, name } => {
-            let stood = standing_of(own, name.as_slice(), copy);
-            Ok(Early::Told(release_fate(&stood)))
-        }
-        Command::Roll(_) => Ok(Early::Told(Fate::NoRequest)),
-    }
-}
-
 // What an own message comes to, as far as the table right before it says so.
 pub(crate) fn early_in(
     alloc: Global,
@@ -80,9 +35,19 @@ pub(crate) fn early_in(
 ) -> Result<Early, AllocError>
     ensures { IfOk result (λ e. e ≡ early own.now copy.now (command_of payload.now)) }
 {
-    match Command::decode(alloc, payload)? {
-        None => Ok(Early::Told(Fate::NoRequest)),
-        Some(command) => early_of(alloc, own, copy, &command),
+    let Some(command) = Command::decode(alloc, payload)? else {
+        return Ok(Early::Told(Fate::NoRequest));
+    };
+    match &command {
+        Command::Acquire { view: _, name } => {
+            let name = Bytes::from_slice(alloc, name.as_slice())?;
+            Ok(Early::Asks(name))
+        }
+        Command::Release { view: _, name } => match standing_of(own, name.as_slice(), copy) {
+            Standing::Holds(_) | Standing::Waits => Ok(Early::Told(Fate::Released)),
+            Standing::Apart => Ok(Early::Told(Fate::NotHeld)),
+        },
+        Command::Roll(_) => Ok(Early::Told(Fate::NoRequest)),
     }
 }
 
@@ -101,28 +66,24 @@ impl Early {
         ensures queued { queued.new.items ≡ queued.old.items ++ queue_by followed.now.own followed.now.copy ticket self }
         ensures answers { answers.new.items ≡ answers.old.items ++ told_of ticket view followed.now.place (verdict followed.now.own followed.now.copy self) }
     {
-        let place = followed.place();
-        match self {
-            Early::Told(fate) => answers.push_reserved(Answer {
-                ticket,
-                view,
-                place,
-                fate,
-            }),
+        let fate = match self {
+            Early::Told(fate) => fate,
             Early::Asks(name) => {
-                let stands = standing_of(&followed.own(), name.as_slice(), followed.copy());
-                if is_waiting(&stands) {
-                    queued.push_reserved(Queued { ticket, name });
-                }
-                if let Some(fate) = first_verdict(&stands) {
-                    answers.push_reserved(Answer {
-                        ticket,
-                        view,
-                        place,
-                        fate,
-                    });
+                match standing_of(&followed.own(), name.as_slice(), followed.copy()) {
+                    Standing::Holds(token) => Fate::Granted(token),
+                    Standing::Apart => Fate::Full,
+                    Standing::Waits => {
+                        queued.push_reserved(Queued { ticket, name });
+                        return;
+                    }
                 }
             }
-        }
+        };
+        answers.push_reserved(Answer {
+            ticket,
+            view,
+            place: followed.place(),
+            fate,
+        });
     }
 }

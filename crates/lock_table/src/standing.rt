@@ -7,7 +7,7 @@ use crate::{LockTable, Token};
 use address::Address;
 
 /// How a member stands at a lock.
-#[derive(Clone, Copy, Debug, PartialEq, Eq)]
+#[derive(Clone, Copy, PartialEq, Eq)]
 pub enum Standing {
     /// It holds the lock, with this token.
     Holds(Token),

@@ -1,13 +1,13 @@
 ghost use Rattle.std.specs.Prelude.{◌≡◌, ◌==◌, ◌≤◌, ◌++◌, true, false, length, slice_get, IfOk, OnOk, OnErr, MatchOption};
-ghost use Rattle.lock_table.specs.Locks.{is_used_up, carried_out, entry_lent, lock_lent, lock_of};
+ghost use Rattle.lock_table.specs.Locks.{carried_out, entry_lent, lock_lent, lock_of};
 ghost use Rattle.lock_table.specs.Encoding.{table_encode, table_decode};
 ghost use Rattle.lock_table.specs.Commands.{table_apply};
 ghost use Rattle.address.specs.declared.limits.TheConstants.{STATE};
 
 use crate::held::Held;
 use crate::{Command, Lock, Token};
+use address::Address;
 use address::limits::GREATEST_NUMBER;
-use address::{Address, ViewId};
 use application::Replica;
 use keyed_state::{KeyedEntry, Place, contents_of, find, put_state, size_of_all};
 use state_transfer::Receiver;
@@ -79,19 +79,13 @@ impl LockTable {
         self.held.entries.as_slice()
     }
 
-    // Whether so few numbers are left that not each lock could be granted once more, and one beside them.
-    fn is_used_up(&self, view: ViewId) -> bool
-        ensures { result ≡ is_used_up view self.now }
-    {
-        self.held.last.next(view).count + self.held.entries.len() as u64 > GREATEST_NUMBER
-    }
-
     // Carries out a command. Where memory is refused, the table is as before.
     fn carry_out(&mut self, from: Address, command: &Command<'_>) -> Result<(), AllocError>
         ensures ok { OnOk result (self.new ≡ carried_out from command.now self.old) }
         ensures err { OnErr result (self.new ≡ self.old) }
     {
-        if self.is_used_up(command.view()) {
+        let next = self.held.last.next(command.view());
+        if next.count + self.held.entries.len() as u64 > GREATEST_NUMBER {
             return Ok(());
         }
         match command {

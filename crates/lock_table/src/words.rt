@@ -3,10 +3,8 @@
 ghost use Rattle.std.specs.Prelude.{◌≡◌, Ok, Err, MatchResult};
 ghost use Rattle.std.specs.Option.{option_copied};
 ghost use Rattle.vsync_text.specs.Texts.{IsReadUnlessRefused};
-ghost use Rattle.vsync_text.specs.Fields.{made, last};
-ghost use Rattle.keyed_state.specs.Words.{key_field};
-ghost use Rattle.lock_table.specs.declared.command.Command.TheVariants.{Acquire, Release};
-ghost use Rattle.lock_table.specs.Words.{view_id_field, named, members_field, acquire_said, release_said, roll_said, command_said, command_said_in};
+ghost use Rattle.vsync_text.specs.Fields.{last};
+ghost use Rattle.lock_table.specs.Words.{view_id_field, named, members_field, roll_said, command_said, command_said_in};
 
 use crate::Command;
 use address::ViewId;
@@ -63,46 +61,6 @@ fn last_members(alloc: Global, id: ViewId, rest: Option<&[u8]>) -> Result<View, 
     Ok(view)
 }
 
-// The command `acquire VIEW NAME`.
-fn acquire_said(rest: Option<&[u8]>) -> Result<Command<'_>, Unheard>
-    ensures { IsReadUnlessRefused (λ x. x) result (acquire_said (option_copied rest.entry)) }
-{
-    match named(rest) {
-        Err(fault) => Err(Unheard::Fault(fault)),
-        Ok((view, name)) => Ok(Command::Acquire { view, name }),
-    }
-}
-
-// The command `release VIEW NAME`.
-fn release_said(rest: Option<&[u8]>) -> Result<Command<'_>, Unheard>
-    ensures { IsReadUnlessRefused (λ x. x) result (release_said (option_copied rest.entry)) }
-{
-    match named(rest) {
-        Err(fault) => Err(Unheard::Fault(fault)),
-        Ok((view, name)) => Ok(Command::Release { view, name }),
-    }
-}
-
-// The command `acquire NAME`, sent in the view of an id.
-fn acquired_in(view: ViewId, rest: Option<&[u8]>) -> Result<Command<'_>, Unheard>
-    ensures { IsReadUnlessRefused (λ x. x) result (made (Acquire view) (last (key_field (option_copied rest.entry)))) }
-{
-    match last_key(rest) {
-        Err(fault) => Err(Unheard::Fault(fault)),
-        Ok(name) => Ok(Command::Acquire { view, name }),
-    }
-}
-
-// The command `release NAME`, sent in the view of an id.
-fn released_in(view: ViewId, rest: Option<&[u8]>) -> Result<Command<'_>, Unheard>
-    ensures { IsReadUnlessRefused (λ x. x) result (made (Release view) (last (key_field (option_copied rest.entry)))) }
-{
-    match last_key(rest) {
-        Err(fault) => Err(Unheard::Fault(fault)),
-        Ok(name) => Ok(Command::Release { view, name }),
-    }
-}
-
 // The command `roll VIEW MEMBERS`.
 fn roll_said<'a>(alloc: Global, rest: Option<&'a [u8]>) -> Result<Command<'a>, Unheard>
     ensures { IsReadUnlessRefused (λ x. x) result (roll_said (option_copied rest.entry)) }
@@ -121,10 +79,18 @@ pub(crate) fn command_said(alloc: Global, text: &[u8]) -> Result<Command<'_>, Un
     ensures { IsReadUnlessRefused (λ x. x) result (command_said text.now) }
 {
     let (word, rest) = first_field(text);
-    if is_word(word, b"acquire") {
-        acquire_said(rest)
-    } else if is_word(word, b"release") {
-        release_said(rest)
+    let acquires = is_word(word, b"acquire");
+    if acquires | is_word(word, b"release") {
+        match named(rest) {
+            Err(fault) => Err(Unheard::Fault(fault)),
+            Ok((view, name)) => {
+                if acquires {
+                    Ok(Command::Acquire { view, name })
+                } else {
+                    Ok(Command::Release { view, name })
+                }
+            }
+        }
     } else if is_word(word, b"roll") {
         roll_said(alloc, rest)
     } else {
@@ -137,11 +103,18 @@ pub(crate) fn command_said_in(view: ViewId, text: &[u8]) -> Result<Command<'_>, 
     ensures { IsReadUnlessRefused (λ x. x) result (command_said_in view text.now) }
 {
     let (word, rest) = first_field(text);
-    if is_word(word, b"acquire") {
-        acquired_in(view, rest)
-    } else if is_word(word, b"release") {
-        released_in(view, rest)
-    } else {
-        Err(Unheard::Fault(Fault::BadNumber))
+    let acquires = is_word(word, b"acquire");
+    if !(acquires | is_word(word, b"release")) {
+        return Err(Unheard::Fault(Fault::BadNumber));
+    }
+    match last_key(rest) {
+        Err(fault) => Err(Unheard::Fault(fault)),
+        Ok(name) => {
+            if acquires {
+                Ok(Command::Acquire { view, name })
+            } else {
+                Ok(Command::Release { view, name })
+            }
+        }
     }
 }

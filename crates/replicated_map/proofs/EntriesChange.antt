@@ -7,8 +7,7 @@ use Rattle.std.specs.declared.cmp.Ordering.TheVariants.{Less, Equal, Greater}
 use Rattle.std.proofs.lemmas.Option.{get_or_from_slice_get, none-some, same_Some}
 use Rattle.std.proofs.lemmas.Bool.{leb-true, and_parts}
 use Rattle.std.proofs.lemmas.List.Sums.{sum_by-cons, sum_by-remove}
-use Rattle.std.proofs.lemmas.Map.Text.{is_eq-slice_cmp}
-use Rattle.std.proofs.lemmas.Slice.Eq.{bytes_eq-Decides}
+use Rattle.keyed_state.proofs.LookUpsFind.{equal-is-same}
 use Rattle.address.specs.Ids.{ViewId}
 use Rattle.address.specs.declared.limits.TheConstants.{STATE, GREATEST_NUMBER}
 use Rattle.keyed_state.specs.declared.entries.KeyedEntry.{KeyedEntry}
@@ -18,6 +17,7 @@ use Rattle.keyed_state.specs.declared.token.Token.{Token}
 use Rattle.keyed_state.specs.Tokens.{next_token, IsViewId}
 use Rattle.replicated_map.specs.declared.entries.Held.{Held}
 use Rattle.keyed_state.specs.States.{entry_size as size_in}
+use Rattle.keyed_state.specs.StateLaws.{size-new, size-put}
 use Rattle.replicated_map.specs.Values.{held_form}
 use Rattle.replicated_map.specs.Entries.{MapState, state_of, held, map_size, IsValue, IsMap, given, is_within, put_within}
 use Rattle.replicated_map.specs.MapLaws.{given_is_map, removed_is_map}
@@ -42,26 +42,6 @@ put-stays view k v s e = ap (λ (b : Bool). cond b (given view k v s) s) e
 
 -- ---- sizes
 
-size-new : (k : List ℕ) (h : Held) (s : Entries) → value_of k s ≡ None → sum_by entry_size (put k h s) ≡ sum_by entry_size s + entry_size (entry_of k h)
-size-new k h [] at = omega (arith, sum_by-cons entry_size (entry_of k h) [])
-size-new k h (x ∷ xs) at = by (key_cmp k x.key) (size-new k h xs) at where
-  by : (o : Ordering) → (value_of k xs ≡ None → sum_by entry_size (put k h xs) ≡ sum_by entry_size xs + entry_size (entry_of k h)) → match_ordering o None (Some x.value) (value_of k xs) ≡ None
-      → sum_by entry_size (match_ordering o (entry_of k h ∷ x ∷ xs) (entry_of x.key h ∷ xs) (x ∷ put k h xs)) ≡ sum_by entry_size (x ∷ xs) + entry_size (entry_of k h)
-  by Less rest at = omega (arith, sum_by-cons entry_size (entry_of k h) (x ∷ xs))
-  by Equal rest at = absurd cc
-  by Greater rest at = let more = rest at in omega (arith, more, sum_by-cons entry_size x (put k h xs), sum_by-cons entry_size x xs)
-
-size-held : (k : List ℕ) (h old : Held) (s : Entries) → value_of k s ≡ Some old → sum_by entry_size (put k h s) + length old.value ≡ sum_by entry_size s + length h.value
-size-held k h old [] at = absurd (none-some old at)
-size-held k h old (x ∷ xs) at = by (key_cmp k x.key) (size-held k h old xs) at where
-  by : (o : Ordering) → (value_of k xs ≡ Some old → sum_by entry_size (put k h xs) + length old.value ≡ sum_by entry_size xs + length h.value) → match_ordering o None (Some x.value) (value_of k xs) ≡ Some old
-      → sum_by entry_size (match_ordering o (entry_of k h ∷ x ∷ xs) (entry_of x.key h ∷ xs) (x ∷ put k h xs)) + length old.value ≡ sum_by entry_size (x ∷ xs) + length h.value
-  by Less rest at = absurd (none-some old at)
-  by Equal rest at =
-      let same = ap (λ (y : Held). length y.value) (same_Some x.value old at) in
-      omega (arith, same, sum_by-cons entry_size (entry_of x.key h) xs, sum_by-cons entry_size x xs)
-  by Greater rest at = let more = rest at in omega (arith, more, sum_by-cons entry_size x (put k h xs), sum_by-cons entry_size x xs)
-
 size-without : (k : List ℕ) (old : Held) (s : Entries) → value_of k s ≡ Some old → sum_by entry_size (without k s) + 25 + length k + length old.value ≡ sum_by entry_size s
 size-without k old [] at = absurd (none-some old at)
 size-without k old (x ∷ xs) at = by (key_cmp k x.key) refl (size-without k old xs) at where
@@ -70,15 +50,15 @@ size-without k old (x ∷ xs) at = by (key_cmp k x.key) refl (size-without k old
   by Less is rest at = absurd (none-some old at)
   by Equal is rest at =
       let value = ap (λ (y : Held). length y.value) (same_Some x.value old at) in
-      let key = ap length ((bytes_eq-Decides k x.key).0 (sym (is_eq-slice_cmp k x.key) ∙ ap is_eq is)) in
+      let key = ap length (equal-is-same k x.key (ap is_eq is)) in
       omega (arith, value, key, sum_by-cons entry_size x xs)
   by Greater is rest at = let more = rest at in omega (arith, more, sum_by-cons entry_size x (without k xs), sum_by-cons entry_size x xs)
 
 pub new-key : (s : Entries) (k : List ℕ) (h : Held) → value_of k s ≡ None → map_size (put k h s) ≡ map_size s + 25 + length k + length h.value
-new-key s k h free = let size = size-new k h s free in omega (arith, size)
+new-key s k h free = let size = size-new held_form k h s free in omega (arith, size)
 
 pub new-value : (s : Entries) (k : List ℕ) (h old : Held) → value_of k s ≡ Some old → map_size (put k h s) + length old.value ≡ map_size s + length h.value
-new-value s k h old at = let size = size-held k h old s at in omega (arith, size)
+new-value s k h old at = let size = size-put held_form k s old h at in omega (arith, size)
 
 pub removal-size : (s : Entries) (k : List ℕ) (old : Held) → value_of k s ≡ Some old → map_size (without k s) + 25 + length k + length old.value ≡ map_size s
 removal-size s k old at = let size = size-without k old s at in omega (arith, size)

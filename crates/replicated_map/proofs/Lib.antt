@@ -2,7 +2,6 @@ pub mod EntriesChange
 pub mod ReplacementsChange
 pub mod OutcomesSay
 pub mod VersionsOnlyRise
-pub mod PartsAppend
 pub mod StampsSpellViews
 pub mod AnswersSayWhat
 pub mod TicketsAreKept

@@ -1,11 +1,10 @@
 -- What a replacement makes of a map, and which puts stay within the limits of its state.
 use Rattle.std.proofs.Common.{◌≡◌, ℕ, Bool, true, false, List, cond, Option, Some, None, refl, sym, ap, subst, ◌∙◌}
 use Rattle.std.proofs.lemmas.Option.{none-some, same_Some}
-use Rattle.std.proofs.lemmas.Map.Text.{is_eq-slice_cmp}
 use Rattle.std.proofs.lemmas.Slice.Eq.{bytes_eq-Decides}
 use Rattle.address.specs.Ids.{ViewId}
 use Rattle.keyed_state.specs.Entries.{value_of, put}
-use Rattle.keyed_state.proofs.LookUpsFind.{found-put}
+use Rattle.keyed_state.proofs.LookUpsFind.{found-there}
 use Rattle.keyed_state.specs.declared.token.Token.{Token}
 use Rattle.keyed_state.specs.Tokens.{next_token}
 use Rattle.keyed_state.specs.TokenLaws.{token-is, is-token}
@@ -78,9 +77,6 @@ pub not-replaced : KeptIfNotExpected
 not-replaced s from payload view expected k v e other =
     ap (after_command s) e
     ∙ kept-at s (put_within view k v s) (is_expected (value_in (held_of k s)) expected) (λ test. other (expected-is (value_in (held_of k s)) expected test))
-
-pub found-there : (k : List ℕ) (h : Held) (s : Entries) → value_of k (put k h s) ≡ Some h
-found-there k h s = found-put k h s k ∙ ap (λ (b : Bool). cond b (Some h) (value_of k s)) (is_eq-slice_cmp k k ∙ (bytes_eq-Decides k k).1 refl)
 
 -- what a key has that was given a value
 pub given-there : (view : ViewId) (k v : List ℕ) (s : MapState) → held_of k (given view k v s) ≡ Some (held (next_token view s.last) v)

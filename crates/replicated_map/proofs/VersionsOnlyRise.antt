@@ -16,25 +16,17 @@ use Rattle.keyed_state.specs.TokenLaws.{up-refl, up-trans, up-below, below-is-up
 use Rattle.replicated_map.specs.declared.command.Command.{Command}
 use Rattle.replicated_map.specs.declared.command.Command.TheVariants.{Put, Remove, Replace, Clear, ReplaceAt, RemoveAt}
 use Rattle.replicated_map.specs.declared.entries.Held.{Held}
+use Rattle.keyed_state.specs.StateLaws.{token-up}
+use Rattle.replicated_map.specs.Values.{held_form}
 use Rattle.replicated_map.specs.Entries.{MapState, held, held_of, value_in, version_in, IsMap, given, is_within, put_within, removed}
 use Rattle.replicated_map.specs.Commands.{is_expected, has_version, command_of, carried_out, after_command}
 use Rattle.replicated_map.specs.CommandLaws.{command_is_spelled, carried_out_is_map}
 use Rattle.replicated_map.specs.Outcomes.{Asks, AsksPut, AsksReplace, AsksReplaceAt}
 use Rattle.replicated_map.specs.Versions.{after, after_all, Gives, AboveAllBefore, AboveLowerViews, VersionsRise, NamesOneValue, GoneIsGone}
 
--- ---- what holds of each value that a key has
-
-holds-of : (Q : Held → Type 0) (k : List ℕ) (es : List (KeyedEntry Held)) (h : Held) → AllByRecursion (λ e. Q e.value) es → value_of k es ≡ Some h → Q h
-holds-of Q k [] h all at = absurd cc
-holds-of Q k (e ∷ es) h all at = by (key_cmp k e.key) (holds-of Q k es h all.1) at where
-  by : (o : Ordering) → (value_of k es ≡ Some h → Q h) → match_ordering o None (Some e.value) (value_of k es) ≡ Some h → Q h
-  by Less rest at = absurd cc
-  by Equal rest at = let same : e.value ≡ h = cc in subst Q same all.0
-  by Greater rest at = rest at
-
 -- no version is above the last
 up-to-last : (s : MapState) (k : List ℕ) (h : Held) → IsMap s → held_of k s ≡ Some h → is_up_to h.version s.last ≡ true
-up-to-last s k h is at = holds-of (λ x. is_up_to x.version s.last ≡ true) k s.entries h is.tokens at
+up-to-last s k h is at = token-up held_form k h s is at
 
 -- ---- from one state to a later one
 

@@ -7,7 +7,7 @@ use Rattle.big_endian.specs.Reading.{Read, ◌>>=◌, number_at, read_to_end}
 use Rattle.keyed_state.specs.Keys.{IsKey, key_bytes, key_at}
 use Rattle.keyed_state.specs.declared.token.Token.{Token}
 use Rattle.keyed_state.specs.Tokens.{is_token, IsViewId, IsToken}
-use Rattle.keyed_state.specs.Spelling.{view_id_bytes, view_id_at, token_bytes, token_at}
+use Rattle.keyed_state.specs.Spelling.{view_id_bytes, view_id_at, token_bytes, token_at, made_at, both_at}
 use Rattle.replicated_map.specs.declared.command.Command.{Command}
 use Rattle.replicated_map.specs.declared.command.Command.TheVariants.{Put, Remove, Replace, Clear, ReplaceAt, RemoveAt}
 use Rattle.replicated_map.specs.declared.entries.Held.{Held}
@@ -68,50 +68,28 @@ command_bytes (RemoveAt version k) = big_bytes 1 6 ++ (token_bytes version ++ ke
 unfoldable pub expected_at : List ℕ → Read (Option (List ℕ))
 expected_at bytes = do
   flag ← number_at 1 0 1 bytes
-  if flag.0 == 0 then Some (None, flag.1) else (value_at flag.1 >>= λ w. Some (Some w.0, w.1))
+  if flag.0 == 0 then Some (None, flag.1) else made_at Some (value_at flag.1)
 
-unfoldable pub pair_at : List ℕ → Read (List ℕ × List ℕ)
-pair_at bytes = do
-  key ← key_at bytes
-  value ← value_at key.1
-  Some ((key.0, value.0), value.1)
+abbrev pub pair_at : List ℕ → Read (List ℕ × List ℕ)
+pair_at bytes = both_at key_at value_at bytes
 
 unfoldable pub put_at : List ℕ → Read Command
-put_at bytes = do
-  view ← view_id_at bytes
-  pair ← pair_at view.1
-  Some (Put view.0 pair.0.0 pair.0.1, pair.1)
-
-unfoldable pub remove_at : List ℕ → Read Command
-remove_at bytes = do
-  key ← key_at bytes
-  Some (Remove key.0, key.1)
+put_at bytes = made_at (λ p. Put p.0 p.1.0 p.1.1) (both_at view_id_at pair_at bytes)
 
 unfoldable pub replace_at : List ℕ → Read Command
-replace_at bytes = do
-  view ← view_id_at bytes
-  expected ← expected_at view.1
-  pair ← pair_at expected.1
-  Some (Replace view.0 expected.0 pair.0.0 pair.0.1, pair.1)
+replace_at bytes = made_at (λ p. Replace p.0 p.1.0 p.1.1.0 p.1.1.1) (both_at view_id_at (both_at expected_at pair_at) bytes)
 
 unfoldable pub replace_version_at : List ℕ → Read Command
-replace_version_at bytes = do
-  view ← view_id_at bytes
-  version ← token_at view.1
-  pair ← pair_at version.1
-  Some (ReplaceAt view.0 version.0 pair.0.0 pair.0.1, pair.1)
+replace_version_at bytes = made_at (λ p. ReplaceAt p.0 p.1.0 p.1.1.0 p.1.1.1) (both_at view_id_at (both_at token_at pair_at) bytes)
 
 unfoldable pub remove_version_at : List ℕ → Read Command
-remove_version_at bytes = do
-  version ← token_at bytes
-  key ← key_at version.1
-  Some (RemoveAt version.0 key.0, key.1)
+remove_version_at bytes = made_at (λ p. RemoveAt p.0 p.1) (both_at token_at key_at bytes)
 
 -- the command of a kind
 abbrev pub command_by : ℕ → List ℕ → Read Command
 command_by kind bytes =
     if kind == 1 then put_at bytes
-    else if kind == 2 then remove_at bytes
+    else if kind == 2 then made_at Remove (key_at bytes)
     else if kind == 3 then replace_at bytes
     else if kind == 4 then Some (Clear, bytes)
     else if kind == 5 then replace_version_at bytes

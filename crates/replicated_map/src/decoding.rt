@@ -3,7 +3,7 @@
 ghost use Rattle.big_endian.specs.Reading.{IsReadOrNone};
 ghost use Rattle.keyed_state.specs.Spelling.{token_at};
 ghost use Rattle.replicated_map.specs.Values.{value_at};
-ghost use Rattle.replicated_map.specs.Commands.{expected_at, pair_at, put_at, remove_at, replace_at, replace_version_at, remove_version_at, command_at};
+ghost use Rattle.replicated_map.specs.Commands.{expected_at, pair_at, put_at, replace_at, replace_version_at, remove_version_at, command_at};
 
 use crate::{Command, VALUE, ValueBytes, Version};
 use big_endian::Reader;
@@ -41,7 +41,6 @@ fn version_from(from: &mut Reader<'_>) -> Option<Version>
 }
 
 // A key and its new value.
-#[tactic(auto, unfolding(crate::specs::Commands::pair_at))]
 fn pair_from<'a>(from: &mut Reader<'a>) -> Option<(KeyBytes<'a>, ValueBytes<'a>)>
     ensures { IsReadOrNone (λ x. (x, from.new)) result (pair_at from.old) }
 {
@@ -57,14 +56,6 @@ fn put_from<'a>(from: &mut Reader<'a>) -> Option<Command<'a>>
     let view = view_id_from(from)?;
     let (key, value) = pair_from(from)?;
     Some(Command::Put { view, key, value })
-}
-
-#[tactic(auto, unfolding(crate::specs::Commands::remove_at))]
-fn remove_from<'a>(from: &mut Reader<'a>) -> Option<Command<'a>>
-    ensures { IsReadOrNone (λ x. (x, from.new)) result (remove_at from.old) }
-{
-    let key = key_from(from)?;
-    Some(Command::Remove(key))
 }
 
 #[tactic(auto, unfolding(crate::specs::Commands::replace_at))]
@@ -116,7 +107,8 @@ pub(crate) fn command_from<'a>(from: &mut Reader<'a>) -> Option<Command<'a>>
         return put_from(from);
     }
     if kind == 2 {
-        return remove_from(from);
+        let key = key_from(from)?;
+        return Some(Command::Remove(key));
     }
     if kind == 3 {
         return replace_from(from);

@@ -1,7 +1,7 @@
 use Rattle.byteorder.specs.Endian.{big_bytes}
 use Rattle.keyed_state.specs.Keys.{key_bytes}
 use Rattle.keyed_state.specs.Spelling.{view_id_bytes}
-use Rattle.lock_table.proofs.PartsAppend.{three-parts}
+use Rattle.keyed_state.proofs.PartsAppend.{three-parts}
 use Rattle.lock_table.proofs.encoding.put_command.Goals as goal
 
 pub returns-in-Acquire-clause-items : goal.returns-in-Acquire-clause-items

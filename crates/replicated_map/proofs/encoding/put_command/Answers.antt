@@ -2,7 +2,7 @@ use Rattle.byteorder.specs.Endian.{big_bytes}
 use Rattle.keyed_state.specs.Keys.{key_bytes}
 use Rattle.keyed_state.specs.Spelling.{view_id_bytes, token_bytes}
 use Rattle.replicated_map.specs.Commands.{expected_bytes, pair_bytes}
-use Rattle.replicated_map.proofs.PartsAppend.{three-parts, four-parts}
+use Rattle.keyed_state.proofs.PartsAppend.{three-parts, four-parts}
 use Rattle.replicated_map.proofs.encoding.put_command.Goals as goal
 
 pub returns-in-Put-clause-items : goal.returns-in-Put-clause-items

@@ -3,7 +3,7 @@ use Rattle.std.proofs.lemmas.Grind.{common_steps}
 use Rattle.lock_table.specs.TableText.{text_of_lock}
 use Rattle.vsync_text.specs.TraceText.{field}
 use Rattle.vsync_text.proofs.KeepFront.{puts_next, goes_on}
-use Rattle.lock_table.proofs.lines.put_more.Goals as goal
+use Rattle.lock_table.proofs.lines.put_locks.Goals as goal
 
 pub loop-lock-preserved : goal.loop-lock-preserved
 loop-lock-preserved c = puts_next (λ e. field (text_of_lock e)) _ _ _ _ _ _ _ c.lock-item.is c.loop-lock-test.true c.loop-lock.invariant c.in_ok-put_lock.ensures.text c.in_ok-put_lock.ensures.kept

@@ -1,7 +1,7 @@
 use Rattle.std.proofs.Common.{◌≡◌, ◌++◌, take}
 use Rattle.lock_table.specs.TableText.{text_of_more}
 use Rattle.vsync_text.specs.TraceText.{GoesOnFrom}
-use Rattle.lock_table.proofs.lines.put_more.Given as goal
+use Rattle.lock_table.proofs.lines.put_locks.Given as goal
 
 -- the locks before the index are printed
 abbrev pub invariant-loop-lock : goal.invariant-loop-lock

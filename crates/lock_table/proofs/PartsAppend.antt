@@ -1,8 +1,0 @@
--- What is put behind a text, part by part.
-use Rattle.std.proofs.Common.{◌≡◌, ℕ, List, ◌++◌, ap, ◌∙◌, append_assoc}
-
-pub two-parts : (o a b m n : List ℕ) → m ≡ o ++ a → n ≡ m ++ b → n ≡ o ++ (a ++ b)
-two-parts o a b m n p q = q ∙ ap (λ (t : List ℕ). t ++ b) p ∙ append_assoc o a b
-
-pub three-parts : (o a b c l m n : List ℕ) → l ≡ o ++ a → m ≡ l ++ b → n ≡ m ++ c → n ≡ o ++ (a ++ (b ++ c))
-three-parts o a b c l m n p q r = two-parts o a (b ++ c) l n p (two-parts l b c m n q r)
