@@ -40,12 +40,11 @@ fn key_order(key: &[u8], other: &[u8]) -> Ordering
             return Ordering::Greater;
         };
         match first.cmp(other_first) {
-            Ordering::Less => return Ordering::Less,
-            Ordering::Greater => return Ordering::Greater,
             Ordering::Equal => {
                 key = rest;
                 other = other_rest;
             }
+            order => return order,
         }
     }
     if other.is_empty() {

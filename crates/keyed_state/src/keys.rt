@@ -29,7 +29,7 @@ impl<'a> KeyBytes<'a> {
     pub fn new(bytes: &'a [u8]) -> Option<KeyBytes<'a>>
         ensures { SomeIff result (IsKey bytes.now) bytes.now }
     {
-        if bytes.is_empty() || bytes.len() > KEY {
+        if bytes.is_empty() | (bytes.len() > KEY) {
             return None;
         }
         Some(KeyBytes { key: bytes })

@@ -7,14 +7,15 @@ use Rattle.address.specs.Ids.{ViewId}
 use Rattle.byteorder.specs.Endian.{big_bytes}
 use Rattle.big_endian.proofs.Bytes.{wide1}
 use Rattle.big_endian.specs.Reading.{number_at}
-use Rattle.big_endian.proofs.PartLaws.{IsWithin, number_part}
+use Rattle.big_endian.proofs.PartLaws.{IsPart, IsWithin, number_part}
 use Rattle.vsync_text.specs.declared.fault.Fault.{Fault}
 use Rattle.vsync_text.specs.declared.fault.Fault.TheVariants.{BadNumber}
 use Rattle.vsync_text.specs.Lines.{field_of, behind_field}
 use Rattle.vsync_text.specs.Fields.{made, last, end_at, ◌>>=◌}
 use Rattle.keyed_state.specs.Words.{key_field}
 use Rattle.keyed_state.specs.Tokens.{IsViewId}
-use Rattle.keyed_state.specs.Spelling.{view_id_bytes, view_id_at}
+use Rattle.keyed_state.specs.PartLaws.{same_parts}
+use Rattle.keyed_state.specs.Spelling.{view_id_bytes}
 use Rattle.keyed_state.specs.SpellingLaws.{view_id_part}
 use Rattle.replicated_map.specs.declared.command.Command.{Command}
 use Rattle.replicated_map.specs.declared.command.Command.TheVariants.{Put, Remove, Replace, Clear, ReplaceAt, RemoveAt}
@@ -33,26 +34,17 @@ stamped-spells view (RemoveAt t k) is fits = (fits, refl)
 
 -- ---- two commands that are spelled by the same bytes
 
--- two spellings that are the same have the same kind, and the same behind it
-same-kind : (n m : ℕ) (r s : List ℕ) → IsWithin 1 6 n → IsWithin 1 6 m → big_bytes 1 n ++ r ≡ big_bytes 1 m ++ s → (n ≡ m) × (r ≡ s)
-same-kind n m r s fits fits' same =
-    let kind = number_part 1 1 6 wide1 (omega arith) in
-    let both = same_Some (n, r) (m, s) (sym (kind.again n r fits) ∙ ap (number_at 1 1 6) same ∙ kind.again m s fits') in
-    (ap (λ (x : ℕ × List ℕ). x.0) both, ap (λ (x : ℕ × List ℕ). x.1) both)
-
--- and the same view id at their beginning
-same-id : (u v : ViewId) (r s : List ℕ) → IsViewId u → IsViewId v → view_id_bytes u ++ r ≡ view_id_bytes v ++ s → u ≡ v
-same-id u v r s fits fits' same =
-    ap (λ (x : ViewId × List ℕ). x.0) (same_Some (u, r) (v, s) (sym (view_id_part.again u r fits) ∙ ap view_id_at same ∙ view_id_part.again v s fits'))
+abbrev kind : IsPart (number_at 1 1 6) (big_bytes 1) (IsWithin 1 6)
+kind = number_part 1 1 6 wide1 (omega arith)
 
 -- behind the same kind, the view that is spelled is the one of the other command
 same-view : (n : ℕ) (view v u : ViewId) (r s : List ℕ) → IsWithin 1 6 n → IsViewId v → IsViewId view → view ≡ u → big_bytes 1 n ++ (view_id_bytes v ++ r) ≡ big_bytes 1 n ++ (view_id_bytes u ++ s) → view ≡ v
 same-view n view v u r s within fits is at same =
-    at ∙ sym (same-id v u r s fits (subst IsViewId at is) (same-kind n n (view_id_bytes v ++ r) (view_id_bytes u ++ s) within within same).1)
+    at ∙ sym (same_parts view_id_part v u r s fits (subst IsViewId at is) (same_parts kind n n (view_id_bytes v ++ r) (view_id_bytes u ++ s) within within same).1).0
 
 -- other kinds are not
 other-kind : {X : Type 0} (n m : ℕ) (r s : List ℕ) → IsWithin 1 6 n → IsWithin 1 6 m → n ≢ m → big_bytes 1 n ++ r ≡ big_bytes 1 m ++ s → X
-other-kind n m r s fits fits' other same = absurd (other (same-kind n m r s fits fits' same).0)
+other-kind n m r s fits fits' other same = absurd (other (same_parts kind n m r s fits fits' same).0)
 
 -- a command that is spelled as one that spells a view spells it
 spells-too : (view : ViewId) (c d : Command) → IsViewId view → IsCommand c → Spells view d → command_bytes c ≡ command_bytes d → Spells view c

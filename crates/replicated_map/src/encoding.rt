@@ -1,15 +1,12 @@
 //! Commands as bytes. What grows is grown once, before the first byte is put.
 
 ghost use Rattle.std.specs.Prelude.{◌≡◌, ◌≤◌, ◌+◌, ◌++◌, length, vec_len, vec_capacity};
-ghost use Rattle.keyed_state.specs.Tokens.{IsToken};
-ghost use Rattle.keyed_state.specs.Spelling.{token_bytes};
 ghost use Rattle.replicated_map.specs.Values.{IsValue, value_bytes};
 ghost use Rattle.replicated_map.specs.Commands.{IsCommand, IsExpected, IsPair, expected_bytes, pair_bytes, command_bytes};
 ghost use Rattle.replicated_map.specs.declared.TheConstants.{VALUE, LONGEST_COMMAND};
 ghost use Rattle.keyed_state.specs.declared.entries.TheConstants.{KEY};
-ghost use Rattle.keyed_state.specs.declared.TheConstants.{TOKEN_BYTES};
 
-use crate::{Command, ValueBytes, Version};
+use crate::{Command, ValueBytes};
 use big_endian::{put, put_u8, put_u16};
 use keyed_state::{KeyBytes, put_key, put_token, put_view_id};
 
@@ -38,15 +35,6 @@ fn put_expected(expected: &Option<ValueBytes<'_>>, out: &mut Vec<u8>)
             put_value(value.as_slice(), out);
         }
     }
-}
-
-fn put_version(version: &Version, out: &mut Vec<u8>)
-    requires { vec_len out.old + TOKEN_BYTES ≤ vec_capacity out.old }
-    ensures items { out.new.items ≡ out.old.items ++ token_bytes version.now }
-    ensures room { vec_capacity out.old ≤ vec_capacity out.new }
-    ensures fits { IsToken version.now }
-{
-    put_token(version.token(), out);
 }
 
 // Appends a key and its new value.
@@ -95,12 +83,12 @@ pub(crate) fn put_command(command: &Command<'_>, out: &mut Vec<u8>)
         } => {
             put_u8(5, out);
             put_view_id(*view, out);
-            put_version(version, out);
+            put_token(version.token(), out);
             put_pair(key, value, out);
         }
         Command::RemoveAt { version, key } => {
             put_u8(6, out);
-            put_version(version, out);
+            put_token(version.token(), out);
             put_key(key.as_slice(), out);
         }
     }

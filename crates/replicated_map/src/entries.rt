@@ -1,15 +1,15 @@
-//! The entries of a map: what a key has, copies and look-ups.
+//! The entries of a map: what a key has, and copies.
 
 ghost use Rattle.std.specs.Prelude.{◌≡◌, IfOk};
-ghost use Rattle.keyed_state.specs.Entries.{Rises, entry_of, value_of};
-ghost use Rattle.replicated_map.specs.Entries.{held, held_lent};
+ghost use Rattle.keyed_state.specs.Entries.{entry_of};
+ghost use Rattle.replicated_map.specs.Entries.{held};
 
 use crate::ValueBytes;
 use crate::decoding::value_from;
 use crate::encoding::put_value;
 use address::Bytes;
 use big_endian::Reader;
-use keyed_state::{Kept, KeyBytes, KeyedEntry, Place, Token, find, put_token, token_from};
+use keyed_state::{Kept, KeyBytes, KeyedEntry, Token, put_token, token_from};
 use std::alloc::{AllocError, Global};
 
 /// What a key has: a value, and the version that it was given with.
@@ -71,15 +71,4 @@ pub(crate) fn copied(
         value,
     };
     Ok(KeyedEntry { key, value })
-}
-
-// What a key has.
-pub(crate) fn found_at<'a>(entries: &'a [KeyedEntry<Held>], key: &[u8]) -> Option<&'a Held>
-    requires { Rises entries.now }
-    ensures { held_lent result ≡ value_of key.now entries.now }
-{
-    match find(entries, key) {
-        Place::Held(i) => Some(&entries[i].value),
-        Place::Free(_) => None,
-    }
 }

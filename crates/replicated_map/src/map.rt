@@ -7,7 +7,6 @@ ghost use Rattle.replicated_map.specs.Commands.{is_expected, has_version, carrie
 ghost use Rattle.address.specs.declared.limits.TheConstants.{STATE};
 
 use crate::changing::{has_room, put_at, size_with};
-use crate::entries::found_at;
 use crate::{Command, Held, ValueBytes, Version};
 use address::{Address, ViewId};
 use application::Replica;
@@ -89,7 +88,10 @@ impl ReplicatedMap {
     pub fn get(&self, key: &[u8]) -> Option<&Held>
         ensures { held_lent result ≡ held_of key.now self.now }
     {
-        found_at(self.entries.as_slice(), key)
+        match find(self.entries.as_slice(), key) {
+            Place::Held(i) => Some(&self.entries[i].value),
+            Place::Free(_) => None,
+        }
     }
 
     /// The last version that was given; where none was, the least token, which none is given: `1@1.1` with the count 0.

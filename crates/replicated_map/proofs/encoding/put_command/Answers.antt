@@ -20,11 +20,11 @@ returns-in-Replace-clause-items c =
 pub returns-in-ReplaceAt-clause-items : goal.returns-in-ReplaceAt-clause-items
 returns-in-ReplaceAt-clause-items c =
     rw c.in-ReplaceAt.is
-    (four-parts c.args.out.now.items (big_bytes 1 5) (view_id_bytes c.in-ReplaceAt.view) (token_bytes c.in-ReplaceAt.version) (pair_bytes c.in-ReplaceAt.key c.in-ReplaceAt.value) c.put_u8-in-ReplaceAt.new.out.items c.put_view_id-in-ReplaceAt.new.out.items c.put_version.new.out.items c.put_pair-in-ReplaceAt.new.out.items
-    c.put_u8-in-ReplaceAt.ensures.items c.put_view_id-in-ReplaceAt.ensures.items c.put_version.ensures.items c.put_pair-in-ReplaceAt.ensures.items)
+    (four-parts c.args.out.now.items (big_bytes 1 5) (view_id_bytes c.in-ReplaceAt.view) (token_bytes c.in-ReplaceAt.version) (pair_bytes c.in-ReplaceAt.key c.in-ReplaceAt.value) c.put_u8-in-ReplaceAt.new.out.items c.put_view_id-in-ReplaceAt.new.out.items c.put_token.new.out.items c.put_pair-in-ReplaceAt.new.out.items
+    c.put_u8-in-ReplaceAt.ensures.items c.put_view_id-in-ReplaceAt.ensures.items (rw c.token.ensures.token at c.put_token.ensures.items) c.put_pair-in-ReplaceAt.ensures.items)
 
 pub returns-in-RemoveAt-clause-items : goal.returns-in-RemoveAt-clause-items
 returns-in-RemoveAt-clause-items c =
     rw c.in-RemoveAt.is
-    (three-parts c.args.out.now.items (big_bytes 1 6) (token_bytes c.in-RemoveAt.version) (key_bytes c.in-RemoveAt.key) c.put_u8-in-RemoveAt.new.out.items c.put_version-in-RemoveAt.new.out.items c.put_key-in-RemoveAt.new.out.items
-    c.put_u8-in-RemoveAt.ensures.items c.put_version-in-RemoveAt.ensures.items (rw c.as_slice-in-RemoveAt.ensures.bytes at c.put_key-in-RemoveAt.ensures.items))
+    (three-parts c.args.out.now.items (big_bytes 1 6) (token_bytes c.in-RemoveAt.version) (key_bytes c.in-RemoveAt.key) c.put_u8-in-RemoveAt.new.out.items c.put_token-in-RemoveAt.new.out.items c.put_key-in-RemoveAt.new.out.items
+    c.put_u8-in-RemoveAt.ensures.items (rw c.token-in-RemoveAt.ensures.token at c.put_token-in-RemoveAt.ensures.items) (rw c.as_slice-in-RemoveAt.ensures.bytes at c.put_key-in-RemoveAt.ensures.items))
