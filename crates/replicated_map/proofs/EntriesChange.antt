@@ -12,7 +12,7 @@ use Rattle.address.specs.Ids.{ViewId}
 use Rattle.address.specs.declared.limits.TheConstants.{STATE, GREATEST_NUMBER}
 use Rattle.keyed_state.specs.declared.entries.KeyedEntry.{KeyedEntry}
 use Rattle.keyed_state.specs.Keys.{IsKey}
-use Rattle.keyed_state.specs.Entries.{key_cmp, entry_of, value_of, put, without, IsHeldAt}
+use Rattle.keyed_state.specs.Entries.{key_cmp, value_of, put, without, IsHeldAt}
 use Rattle.keyed_state.specs.declared.token.Token.{Token}
 use Rattle.keyed_state.specs.Tokens.{next_token, IsViewId}
 use Rattle.replicated_map.specs.declared.entries.Held.{Held}

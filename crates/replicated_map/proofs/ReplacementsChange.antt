@@ -3,7 +3,6 @@ use Rattle.std.proofs.Common.{◌≡◌, ℕ, Bool, true, false, List, cond, Opt
 use Rattle.std.proofs.lemmas.Option.{none-some, same_Some}
 use Rattle.std.proofs.lemmas.Slice.Eq.{bytes_eq-Decides}
 use Rattle.address.specs.Ids.{ViewId}
-use Rattle.keyed_state.specs.Entries.{value_of, put}
 use Rattle.keyed_state.proofs.LookUpsFind.{found-there}
 use Rattle.keyed_state.specs.declared.token.Token.{Token}
 use Rattle.keyed_state.specs.Tokens.{next_token}
@@ -12,7 +11,7 @@ use Rattle.replicated_map.specs.declared.entries.Held.{Held}
 use Rattle.replicated_map.specs.Entries.{MapState, held, held_of, value_in, version_in, given, put_within, removed}
 use Rattle.replicated_map.specs.Commands.{is_expected, has_version, map_apply, after_command}
 use Rattle.replicated_map.specs.Changes.{ReplacedIfExpected, KeptIfNotExpected, ReplacedOnce, ReplacedAtItsVersion, KeptAtAnotherVersion, RemovedAtItsVersion, NotRemovedAtAnother, PutIfItFits, PutIsKeptOut, ReplaceIsKeptOut, VersionIsKeptOut, NewKeyTakes, NewValueTakes, RemovalGives}
-use Rattle.replicated_map.proofs.EntriesChange.{Entries, put-goes, put-stays, new-key, new-value, removal-size}
+use Rattle.replicated_map.proofs.EntriesChange.{put-goes, put-stays, new-key, new-value, removal-size}
 
 -- ---- expected values and versions
 

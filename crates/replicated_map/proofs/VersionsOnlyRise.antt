@@ -1,14 +1,10 @@
 -- Versions rise along the messages, and none comes back.
 use Rattle.std.proofs.Common.{◌≡◌, ◌≢◌, ◌⊎◌, inl, inr, ℕ, Bool, true, false, List, [], ◌∷◌, cond, Option, Some, None, refl, sym, ap, subst, ◌∙◌}
-use Rattle.std.specs.List.{AllByRecursion}
-use Rattle.std.specs.Ordering.{match_ordering, is_eq}
-use Rattle.std.specs.declared.cmp.Ordering.{Ordering}
-use Rattle.std.specs.declared.cmp.Ordering.TheVariants.{Less, Equal, Greater}
+use Rattle.std.specs.Ordering.{is_eq}
 use Rattle.std.proofs.lemmas.Option.{none-some, same_Some}
 use Rattle.address.specs.Ids.{ViewId}
 use Rattle.trace_props.specs.declared.event.Message.{Message}
-use Rattle.keyed_state.specs.declared.entries.KeyedEntry.{KeyedEntry}
-use Rattle.keyed_state.specs.Entries.{key_cmp, value_of}
+use Rattle.keyed_state.specs.Entries.{key_cmp}
 use Rattle.keyed_state.proofs.LookUpsFind.{found-put, found-without}
 use Rattle.keyed_state.specs.declared.token.Token.{Token}
 use Rattle.keyed_state.specs.Tokens.{IsBelow, is_up_to, next_token}

@@ -3,13 +3,12 @@ use Rattle.std.proofs.Common.{◌≡◌, ℕ, ◌≤◌, Bool, true, false, cond
 use Rattle.std.proofs.lemmas.Bool.{eqb-true, eqb-false}
 use Rattle.byteorder.specs.Endian.{big_bytes}
 use Rattle.big_endian.proofs.Bytes.{wide1}
-use Rattle.address.specs.Ids.{Address, ViewId, IsAddress}
+use Rattle.address.specs.Ids.{Address, IsAddress}
 use Rattle.address.specs.declared.limits.TheConstants.{PAYLOAD}
 use Rattle.big_endian.specs.Reading.{number_at}
 use Rattle.big_endian.proofs.PartLaws.{bind_some, some_is, IsPart, IsWithin, number_part, to_end_takes, to_end_again}
 use Rattle.keyed_state.specs.Keys.{IsKey, key_bytes, key_at}
 use Rattle.keyed_state.specs.KeyLaws.{key_part}
-use Rattle.keyed_state.specs.declared.token.Token.{Token}
 use Rattle.keyed_state.specs.Tokens.{IsViewId, IsToken}
 use Rattle.keyed_state.specs.PartLaws.{both_part, kind_takes}
 use Rattle.keyed_state.specs.Spelling.{view_id_bytes, view_id_at, token_bytes, token_at, made_at, both_at}
