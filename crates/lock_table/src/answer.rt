@@ -1,6 +1,6 @@
 //! Who waits for a lock, and what each is told.
 
-ghost use Rattle.std.specs.Prelude.{◌≡◌, ◌+◌, ◌<◌, ◌≤◌, ◌++◌, vec_len, vec_capacity, length, map, OnOk};
+ghost use Rattle.std.specs.Prelude.{◌≡◌, ◌+◌, ◌≤◌, ◌++◌, vec_len, vec_capacity, length, map};
 ghost use Rattle.std.specs.List.{filter, flat_map};
 ghost use Rattle.lock_table.specs.Keeping.{still_waits, told, back};
 
@@ -8,7 +8,6 @@ use crate::standing::is_waiting;
 use crate::{LockTable, Standing, Token, standing_of};
 use address::{Address, Bytes, ViewId};
 use application::{FollowedMember, Waiting};
-use std::alloc::{AllocError, Global};
 
 /// What became of a request for a lock.
 #[derive(Clone, Copy, Debug, Drop)]
@@ -92,20 +91,6 @@ pub(crate) fn tell_late(
         tell_one(&own, copy, view, place, waits, answers);
     }
     queued.retain(|waits| is_waiting(&standing_of(&own, waits.name.as_slice(), copy)));
-}
-
-// Makes room for one who waits more, and for an answer to each who waits then.
-pub(crate) fn make_room(
-    queued: &mut Vec<Queued>,
-    answers: &mut Vec<Answer>,
-) -> Result<(), AllocError>
-    ensures queued { queued.new.items ≡ queued.old.items }
-    ensures answers { answers.new.items ≡ answers.old.items }
-    ensures room { OnOk result ((vec_len queued.new < vec_capacity queued.new) × (vec_len answers.new + vec_len queued.new < vec_capacity answers.new)) }
-{
-    queued.reserve(1)?;
-    let room = queued.len().saturating_add(1);
-    answers.reserve(room)
 }
 
 // Answers all that wait for a message that it is handed back.

@@ -1,6 +1,7 @@
 //! The table of locks in the program: its commands have words, and its locks are printed.
 
-ghost use Rattle.std.specs.Prelude.{◌≡◌, IfOk};
+ghost use Rattle.std.specs.Prelude.{Ok};
+ghost use Rattle.vsync_text.specs.Texts.{IsReadUnlessRefused};
 ghost use Rattle.lock_table.specs.Commands.{command_bytes};
 
 use crate::encoding::put_roll;
@@ -14,12 +15,12 @@ use view::View;
 use vsync_text::{Payloads, Unheard};
 
 // The spelling of a command.
-fn spelled(alloc: Global, command: &Command<'_>) -> Result<Bytes, AllocError>
-    ensures { IfOk result (λ bytes. bytes ≡ command_bytes command.now) }
+fn spelled(alloc: Global, command: &Command<'_>) -> Result<Bytes, Unheard>
+    ensures { IsReadUnlessRefused (λ x. x) result (Ok (command_bytes command.now)) }
 {
     let mut bytes = Vec::new(alloc);
     command.encode(&mut bytes)?;
-    Bytes::from_slice(alloc, bytes.as_slice())
+    Ok(Bytes::from_slice(alloc, bytes.as_slice())?)
 }
 
 impl Payloads for LockTable {
@@ -31,7 +32,7 @@ impl Payloads for LockTable {
     fn payload(alloc: Global, text: &[u8]) -> Result<Bytes, Unheard> {
         match command_said(alloc, text) {
             Err(unheard) => Err(unheard),
-            Ok(command) => Ok(spelled(alloc, &command)?),
+            Ok(command) => spelled(alloc, &command),
         }
     }
 }
@@ -59,7 +60,7 @@ impl Application for LockTable {
     fn payload_in_view(alloc: Global, view: ViewId, text: &[u8]) -> Result<Bytes, Unheard> {
         match command_said_in(view, text) {
             Err(unheard) => Err(unheard),
-            Ok(command) => Ok(spelled(alloc, &command)?),
+            Ok(command) => spelled(alloc, &command),
         }
     }
 

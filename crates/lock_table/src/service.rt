@@ -2,7 +2,7 @@ ghost use Rattle.std.specs.Prelude.{◌≡◌, ◌==◌, [], not, length, IfOk, 
 ghost use Rattle.std.specs.List.{list_any};
 ghost use Rattle.lock_table.specs.Keeping.{delivered, heard, installed, kept_of, noted, nothing_heard};
 
-use crate::answer::{hand_back, make_room, tell_late};
+use crate::answer::{hand_back, tell_late};
 use crate::own_message::early_in;
 use crate::{Answer, LockTable, Queued};
 use address::{Address, ViewId};
@@ -154,7 +154,9 @@ impl LockService {
         let own = self.followed.own();
         let payload = delivery.message.payload.as_slice();
         let early = early_in(self.alloc, &own, self.followed.copy(), payload)?;
-        make_room(&mut self.queued, &mut self.answers)?;
+        self.queued.reserve(1)?;
+        let room = self.queued.len().saturating_add(1);
+        self.answers.reserve(room)?;
         let ticket = self.followed.deliver(delivery)?;
         tell_late(
             &self.followed,
