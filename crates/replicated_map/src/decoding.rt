@@ -34,10 +34,7 @@ fn version_from(from: &mut Reader<'_>) -> Option<Version>
     ensures { IsReadOrNone (λ x. (x, from.new)) result (token_at from.old) }
 {
     let token = token_from(from)?;
-    match Version::new(token) {
-        Some(version) => Some(version),
-        None => unreachable!(),
-    }
+    Version::new(token)
 }
 
 // A key and its new value.

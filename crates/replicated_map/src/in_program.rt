@@ -1,26 +1,14 @@
 //! The map in the program: its commands have words, and its entries are printed.
 
-ghost use Rattle.std.specs.Prelude.{◌≡◌, IfOk};
-ghost use Rattle.replicated_map.specs.Commands.{command_bytes};
-
+use crate::ReplicatedMap;
 use crate::lines::put_map_line;
 use crate::words::command_said;
-use crate::{Command, ReplicatedMap};
 use address::{Address, Bytes, ViewId};
 use application::Application;
 use keyed_state::Token;
 use std::alloc::{AllocError, Global};
 use view::View;
 use vsync_text::{Payloads, Unheard};
-
-// The spelling of a command.
-fn spelled(alloc: Global, command: &Command<'_>) -> Result<Bytes, AllocError>
-    ensures { IfOk result (λ bytes. bytes ≡ command_bytes command.now) }
-{
-    let mut bytes = Vec::new(alloc);
-    command.encode(&mut bytes)?;
-    Bytes::from_slice(alloc, bytes.as_slice())
-}
 
 impl Payloads for ReplicatedMap {
     ghost use Rattle.replicated_map.specs.Words.{map_payload};
@@ -54,7 +42,11 @@ impl Application for ReplicatedMap {
     fn payload_in_view(alloc: Global, view: ViewId, text: &[u8]) -> Result<Bytes, Unheard> {
         match command_said(view, text) {
             Err(fault) => Err(Unheard::Fault(fault)),
-            Ok(command) => Ok(spelled(alloc, &command)?),
+            Ok(command) => {
+                let mut bytes = Vec::new(alloc);
+                command.encode(&mut bytes)?;
+                Ok(Bytes::from_slice(alloc, bytes.as_slice())?)
+            }
         }
     }
 
