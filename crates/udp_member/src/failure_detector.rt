@@ -196,7 +196,12 @@ fn count_all(counts: &mut [Count], source: Address)
 fn count_of<'a>(counts: &'a [Count], address: &Address) -> Option<&'a Count>
     ensures { option_copied result ≡ count_of address.now counts.now }
 {
-    counts.iter().find(|count| count.address == *address)
+    for count in counts {
+        if count.address == *address {
+            return Some(count);
+        }
+    }
+    None
 }
 
 impl FailureDetector {

@@ -65,7 +65,12 @@ fn hear_all(peers: &mut [Peer], source: Address)
 fn has_node(members: &[Address], node: Node) -> bool
     ensures { result ≡ has_node node members.now }
 {
-    members.iter().any(|member| member.node() == node)
+    for member in members {
+        if member.node() == node {
+            return true;
+        }
+    }
+    false
 }
 
 // Whether a member was heard at a node, and none of the node is in a view.
@@ -80,23 +85,6 @@ fn first_outside(peers: &[Peer], view: &View) -> Option<usize>
     ensures within { IfSome result (λ place. place < length peers.now) }
 {
     peers.iter().position(|peer| is_outside(peer, view))
-}
-
-fn heard_in(peers: &[Peer], place: usize) -> Option<Address>
-    ensures { result ≡ option_and_then heard_at (slice_get peers.now place) }
-{
-    peers.get(place)?.heard
-}
-
-// Whom to seek outside of a view, if anybody; then it is the turn of the nodes behind.
-fn serve(peers: &mut [Peer], view: &View) -> Option<Address>
-    ensures answer { result ≡ first_heard (is_outside view.now) peers.old }
-    ensures after { peers.new ≡ served (is_outside view.now) peers.old }
-{
-    let place = first_outside(peers, view)?;
-    let sought = heard_in(peers, place);
-    peers.rotate_left(place + 1);
-    sought
 }
 
 impl Peers {
@@ -130,7 +118,11 @@ impl Peers {
         ensures answer { result ≡ first_heard (is_outside view.now) self.old }
         ensures after { self.new ≡ served (is_outside view.now) self.old }
     {
-        serve(self.peers.as_mut_slice(), view)
+        let peers = self.peers.as_mut_slice();
+        let place = first_outside(peers, view)?;
+        let sought = peers[place].heard;
+        peers.rotate_left(place + 1);
+        sought
     }
 }
 
