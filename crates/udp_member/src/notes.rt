@@ -1,24 +1,26 @@
-ghost use Rattle.std.specs.Prelude.{◌≡◌, IfOk, OnOk, IfErr};
-ghost use Rattle.udp_member.specs.Peers.{first_heard, is_outside, met, served};
+ghost use Rattle.std.specs.Prelude.{◌≡◌, IfOk};
 ghost use Rattle.udp_member.specs.RunnerNotes.{RunnerNotes, noted, nothing_noted};
-ghost use Rattle.udp_member.specs.Detectors.{after_round, begun_anew, is_silent};
+ghost use Rattle.udp_member.specs.Detectors.{begun_anew, is_silent};
 
-use crate::failure_detector::{FailureDetector, Standing};
+use crate::failure_detector::FailureDetector;
 use crate::peers::Peers;
 use address::{Address, Node};
 use channel::{Error, Heard};
 use std::alloc::{AllocError, Global};
 use std::marker::Model;
-use view::View;
 
 /// What a runner notes of the datagrams that came: who was heard at the nodes where members may be sought, how many were of no use, and whom it
 /// has not heard for how long.
 pub(crate) struct RunnerNotes {
-    alloc: Global,
-    peers: Peers,
-    garbled: u64,
-    foreign: u64,
-    detector: FailureDetector,
+    pub(crate) alloc: Global,
+    /// Who was heard at the nodes where members may be sought.
+    pub(crate) peers: Peers,
+    /// How many datagrams spelled no packet, at most 2^64 - 1.
+    pub(crate) garbled: u64,
+    /// How many packets were not for the channel, at most 2^64 - 1.
+    pub(crate) foreign: u64,
+    /// Whom it has not heard for how long.
+    pub(crate) detector: FailureDetector,
 }
 
 impl Drop for RunnerNotes {
@@ -70,25 +72,6 @@ impl RunnerNotes {
         }
     }
 
-    // These are in its view: each may be sought, once it is outside of one. Takes no memory.
-    pub(crate) fn meet(&mut self, members: &[Address])
-        ensures { self.new ≡ record self.old { peers = met members.now self.old.peers } }
-    {
-        self.peers.meet(members);
-    }
-
-    // A round is over, where the member stands so, with these addresses watched. An error for want of memory changes nothing.
-    pub(crate) fn pass(
-        &mut self,
-        standing: &Standing,
-        watched: &[Address],
-    ) -> Result<(), AllocError>
-        ensures passed { OnOk result (self.new ≡ record self.old { detector = after_round standing.now watched.now self.old.detector }) }
-        ensures memory { IfErr result (λ e. self.new ≡ self.old) }
-    {
-        self.detector.pass(self.alloc, standing, watched)
-    }
-
     // Whether an address was silent for too long when the round was over.
     pub(crate) fn is_silent(&self, address: &Address) -> bool
         ensures { result ≡ is_silent self.now.detector address.now }
@@ -101,27 +84,5 @@ impl RunnerNotes {
         ensures { self.new ≡ record self.old { detector = begun_anew self.old.detector } }
     {
         self.detector.begin_anew();
-    }
-
-    // Whom to seek outside of a view, if anybody. Takes no memory.
-    pub(crate) fn next_outside(&mut self, view: &View) -> Option<Address>
-        ensures answer { result ≡ first_heard (is_outside view.now) self.old.peers }
-        ensures after { self.new ≡ record self.old { peers = served (is_outside view.now) self.old.peers } }
-    {
-        self.peers.next_outside(view)
-    }
-
-    // How many datagrams spelled no packet, at most 2^64 - 1.
-    pub(crate) fn garbled(&self) -> u64
-        ensures { result ≡ self.now.garbled }
-    {
-        self.garbled
-    }
-
-    // How many packets were not for the channel, at most 2^64 - 1.
-    pub(crate) fn foreign(&self) -> u64
-        ensures { result ≡ self.now.foreign }
-    {
-        self.foreign
     }
 }

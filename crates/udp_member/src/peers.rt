@@ -1,6 +1,5 @@
-ghost use Rattle.std.specs.Prelude.{◌≡◌, ◌<◌, length, map, position, slice_get, IfOk, IfSome};
-ghost use Rattle.std.specs.Option.{option_and_then};
-ghost use Rattle.udp_member.specs.Peers.{first_heard, has_node, hearing, heard_at, is_known, is_outside, met, served, unheard};
+ghost use Rattle.std.specs.Prelude.{◌≡◌, ◌<◌, length, map, position, IfOk, IfSome};
+ghost use Rattle.udp_member.specs.Peers.{first_heard, has_node, hearing, is_known, is_outside, met, served, unheard};
 
 use address::{Address, Node};
 use std::alloc::{AllocError, Global};

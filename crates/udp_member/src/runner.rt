@@ -174,7 +174,7 @@ impl<N: Net, R: Receiver> Runner<N, R> {
     {
         match self.channel.view() {
             Some(view) => {
-                self.notes.meet(view.members().as_slice());
+                self.notes.peers.meet(view.members().as_slice());
                 self.net.pass(Some(view.id()), view.members().as_slice());
             }
             None => self.net.pass(None, &[]),
@@ -207,14 +207,14 @@ impl<N: Net, R: Receiver> Runner<N, R> {
     pub fn garbled(&self) -> u64
         ensures { result ≡ self.now.notes.garbled }
     {
-        self.notes.garbled()
+        self.notes.garbled
     }
 
     /// How many packets came that were not for its channel, at most 2^64 - 1: of another group, to another address, as of an earlier incarnation, or from its own.
     pub fn foreign(&self) -> u64
         ensures { result ≡ self.now.notes.foreign }
     {
-        self.notes.foreign()
+        self.notes.foreign
     }
 
     /// Its channel.
@@ -292,8 +292,9 @@ impl<N: Net, R: Receiver> Runner<N, R> {
             return Ok(());
         };
         let standing = standing_of(&self.channel);
-        match self.notes.pass(&standing, watched.as_slice()) {
-            Ok(()) => self.suspect_all(watched.as_slice()),
+        let (alloc, watched) = (self.notes.alloc, watched.as_slice());
+        match self.notes.detector.pass(alloc, &standing, watched) {
+            Ok(()) => self.suspect_all(watched),
             Err(_) => Ok(()),
         }
     }
@@ -342,7 +343,7 @@ impl<N: Net, R: Receiver> Runner<N, R> {
     {
         match self.channel.view() {
             Some(view) if view.id().creator() == self.channel.address() => {
-                self.notes.next_outside(view)
+                self.notes.peers.next_outside(view)
             }
             _ => None,
         }
