@@ -44,11 +44,12 @@ pub(crate) fn all_follow<R: Receiver>(
 ) -> bool
     ensures { result ≡ list_all (λ q. would_follow proposal.now q (node_states_in (get nat_cmp node_states.now) q.node)) proposal.now.members }
 {
-    proposal
-        .members()
-        .as_slice()
-        .iter()
-        .all(|address| follows(node_states, proposal, *address))
+    for address in proposal.members().as_slice() {
+        if !follows(node_states, proposal, *address) {
+            return false;
+        }
+    }
+    true
 }
 
 /// Whether the change of view can complete that the member at a node has begun: the member has a flush of its own, which awaits somebody, and each of its list

@@ -57,7 +57,10 @@ fn is_open_in<R: Receiver>(node_state: &NodeState<R>, address: Address, view: Vi
         NodeState::Vacant | NodeState::Ended(_) => false,
         NodeState::Running(member) => {
             member.address() == address
-                && open_view(node_state).is_some_and(|open| open.id() == view)
+                && match open_view(node_state) {
+                    None => false,
+                    Some(open) => open.id() == view,
+                }
         }
     }
 }

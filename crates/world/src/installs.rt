@@ -78,9 +78,14 @@ fn all_are_near<R: Receiver>(
 ) -> bool
     ensures { result ≡ list_all (λ q. is_inside view.now q (node_states_in (get nat_cmp node_states.now) q.node) || awaits_install (node_states_in (get nat_cmp node_states.now)) node view.now q) view.now.members }
 {
-    view.members().as_slice().iter().all(|address| {
-        is_inside(node_states, view, *address) || awaits_install(node_states, node, view, *address)
-    })
+    for address in view.members().as_slice() {
+        if !is_inside(node_states, view, *address)
+            && !awaits_install(node_states, node, view, *address)
+        {
+            return false;
+        }
+    }
+    true
 }
 
 /// Whether one of a view awaits its INSTALL.
@@ -91,12 +96,12 @@ fn one_awaits<R: Receiver>(
 ) -> bool
     ensures { result ≡ list_any (awaits_install (node_states_in (get nat_cmp node_states.now)) node view.now) view.now.members }
 {
-    view.members().as_slice().iter().any(|address| awaits_install(
-        node_states,
-        node,
-        view,
-        *address,
-    ))
+    for address in view.members().as_slice() {
+        if awaits_install(node_states, node, view, *address) {
+            return true;
+        }
+    }
+    false
 }
 
 /// The view of the member that runs at a node, as packets carry it; `None` without one.
