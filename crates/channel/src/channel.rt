@@ -164,14 +164,21 @@ impl<R: Receiver> Channel<R> {
     pub fn watched(&self) -> Result<Vec<Address>, Error>
         ensures { Watches self.now.stage result }
     {
-        self.stage.watched()
+        match &self.stage {
+            Stage::Apart(_) => Err(Error::Refused(Refusal::NotConnected)),
+            Stage::Connected(member) => Ok(member.watched()?),
+            Stage::Ended => Err(Error::Refused(Refusal::Closed)),
+        }
     }
 
     /// Its view; `None` where it has none yet, and after its end (docs/PROTOCOL.md, "What a member keeps").
     pub fn view(&self) -> Option<&View>
         ensures { option_copied result ≡ view_in self.now.stage }
     {
-        self.stage.view()
+        match &self.stage {
+            Stage::Connected(member) => member.view(),
+            Stage::Apart(_) | Stage::Ended => None,
+        }
     }
 
     /// Whether it is in a view and has promised a later one: it may send nothing until that is installed (docs/PROTOCOL.md, "What a member keeps"). Not before a
@@ -179,7 +186,10 @@ impl<R: Receiver> Channel<R> {
     pub fn is_blocked(&self) -> bool
         ensures { result ≡ is_blocked self.now.stage }
     {
-        self.stage.is_blocked()
+        match &self.stage {
+            Stage::Connected(member) => member.is_blocked(),
+            Stage::Apart(_) | Stage::Ended => false,
+        }
     }
 
     /// The id of the view that it promised last (docs/PROTOCOL.md, "Promise"): that of its own view unless it is blocked. `None` before the first, before a connect and after
@@ -187,7 +197,10 @@ impl<R: Receiver> Channel<R> {
     pub fn promised(&self) -> Option<ViewId>
         ensures { result ≡ promised_in self.now.stage }
     {
-        self.stage.promised()
+        match &self.stage {
+            Stage::Connected(member) => member.promised(),
+            Stage::Apart(_) | Stage::Ended => None,
+        }
     }
 
     /// How many messages of its view it knows to be stable: each member of the view has delivered them, the first of its order, so they are in the state of each that goes on from this view
@@ -195,14 +208,21 @@ impl<R: Receiver> Channel<R> {
     pub fn stable(&self) -> u64
         ensures { result ≡ stable_in self.now.stage }
     {
-        self.stage.stable()
+        match &self.stage {
+            Stage::Connected(member) => member.stable(),
+            Stage::Apart(_) | Stage::Ended => 0,
+        }
     }
 
     /// Its receiver, as the steps left it; `None` after its end (docs/GUARANTEES.md, "The receiver's laws").
     pub fn receiver(&self) -> Option<&R>
         ensures { option_copied result ≡ receiver_in self.now.stage }
     {
-        self.stage.receiver()
+        match &self.stage {
+            Stage::Apart(receiver) => Some(receiver),
+            Stage::Connected(member) => member.receiver(),
+            Stage::Ended => None,
+        }
     }
 
     /// Its address.

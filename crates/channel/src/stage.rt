@@ -1,22 +1,20 @@
 //! How far a channel has come.
 
 ghost use Rattle.std.specs.Prelude.{◌≡◌, not, is_some, IfOk};
-ghost use Rattle.std.specs.Option.{option_copied, option_and_then};
-ghost use Rattle.channel.specs.Channels.{member_in, view_in, is_blocked, promised_in, receiver_in, stable_in, is_in};
+ghost use Rattle.std.specs.Option.{option_and_then};
+ghost use Rattle.channel.specs.Channels.{member_in, is_in};
 ghost use Rattle.member.specs.declared.input.Input.TheVariants as input;
 ghost use Rattle.member.specs.Handling.{Handled};
 ghost use Rattle.member.specs.Sources.{heard_of, output_of};
-ghost use Rattle.channel.specs.Calls.{Watches};
 ghost use Rattle.channel.specs.Stages.{Begins, Hands};
 
+use address::Address;
 use address::limits::Refusal;
-use address::{Address, ViewId};
 use member::{Error, Input, Member, Taken};
 use state_transfer::Receiver;
 use std::alloc::Global;
 use std::mem;
 use step_output::Output;
-use view::View;
 use wire_values::GroupName;
 
 // One step of a member.
@@ -57,57 +55,6 @@ pub enum Stage<R: Receiver> {
 }
 
 impl<R: Receiver> Stage<R> {
-    // The view of its member.
-    pub(crate) fn view(&self) -> Option<&View>
-        ensures { option_copied result ≡ view_in self.now }
-    {
-        match self {
-            Stage::Connected(member) => member.view(),
-            Stage::Apart(_) | Stage::Ended => None,
-        }
-    }
-
-    // Whether its member is blocked.
-    pub(crate) fn is_blocked(&self) -> bool
-        ensures { result ≡ is_blocked self.now }
-    {
-        match self {
-            Stage::Connected(member) => member.is_blocked(),
-            Stage::Apart(_) | Stage::Ended => false,
-        }
-    }
-
-    // The id of the view that its member promised last.
-    pub(crate) fn promised(&self) -> Option<ViewId>
-        ensures { result ≡ promised_in self.now }
-    {
-        match self {
-            Stage::Connected(member) => member.promised(),
-            Stage::Apart(_) | Stage::Ended => None,
-        }
-    }
-
-    // How many messages of its view its member knows to be stable.
-    pub(crate) fn stable(&self) -> u64
-        ensures { result ≡ stable_in self.now }
-    {
-        match self {
-            Stage::Connected(member) => member.stable(),
-            Stage::Apart(_) | Stage::Ended => 0,
-        }
-    }
-
-    // The receiver, unless it has ended.
-    pub(crate) fn receiver(&self) -> Option<&R>
-        ensures { option_copied result ≡ receiver_in self.now }
-    {
-        match self {
-            Stage::Apart(receiver) => Some(receiver),
-            Stage::Connected(member) => member.receiver(),
-            Stage::Ended => None,
-        }
-    }
-
     // Whether its member is in the group of this name.
     pub(crate) fn is_in(&self, name: &[u8]) -> bool
         ensures { result ≡ is_in name.now self.now }
@@ -115,17 +62,6 @@ impl<R: Receiver> Stage<R> {
         match self {
             Stage::Connected(member) => name == member.group().as_slice(),
             Stage::Apart(_) | Stage::Ended => false,
-        }
-    }
-
-    // Whom its member watches.
-    pub(crate) fn watched(&self) -> Result<Vec<Address>, Error>
-        ensures { Watches self.now result }
-    {
-        match self {
-            Stage::Apart(_) => Err(Error::Refused(Refusal::NotConnected)),
-            Stage::Connected(member) => Ok(member.watched()?),
-            Stage::Ended => Err(Error::Refused(Refusal::Closed)),
         }
     }
 
