@@ -1,22 +1,18 @@
-ghost use Rattle.std.specs.Prelude.{◌≡◌, ◌≤◌, ◌<◌, ◌+◌, ◌^◌, ◌∷◌, ℕ, List, [], length, min, vec_len, vec_capacity, OnOk, IfOk, IfSome};
+ghost use Rattle.std.specs.Prelude.{◌≡◌, ◌≤◌, ◌<◌, ◌+◌, ◌*◌, ◌^◌, ◌∷◌, ℕ, List, [], length, min, vec_len, vec_capacity, OnOk, IfOk, IfSome};
 ghost use Rattle.std.specs.List.{AllByRecursion};
 ghost use Rattle.frames.specs.Arrivals.{StandsIn};
 ghost use Rattle.frames.specs.Sendings.{Adds, AreSameWays, IsFrameOf, IsLongOn, KeepLongs, Sends, WaitOf};
 ghost use Rattle.frames.specs.Nets.{GivesArrived, Grows, HasFlushed, HasReceived, HasSent, IsAnswer, IsFresh, IsOver, IsSameNode};
 ghost use Rattle.frames.specs.Carried.{Carries};
-ghost use Rattle.frames.specs.Frames.{packed};
-ghost use Rattle.frames.specs.Gathered.{Gathers, Takes, offering_each, several_frame as frame_of};
-ghost use Rattle.frames.specs.Parts.{rows_of};
+ghost use Rattle.frames.specs.Gathered.{Gathers, offering_each};
 ghost use Rattle.frames.specs.declared.outlet.Seal.{Seal as SealValue};
 ghost use Rattle.udp_net.specs.Logs.{failures_after, offering, Lists};
 
 use crate::content::shared_front;
-use crate::head::put_head;
 use crate::hmac::Key;
 use crate::opener::Opener;
 use crate::outlet::{Outlet, Seal};
-use crate::seal::seal;
-use crate::several::{Variant, put_several};
+use crate::several::Variant;
 use crate::{BOOT, CONTENT, FRAME, MOST_ROWS, OPENED, ROW};
 use address::Node;
 use std::alloc::{AllocError, Global};
@@ -91,26 +87,29 @@ fn place_in(content: &[u8], outlets: &[Outlet]) -> Option<usize>
     place_in(content, rest)
 }
 
-// Takes what waits on a way, if that is as a content but for six bytes at a place.
-fn take_variant(content: &[u8], place: usize, outlet: &mut Outlet, variants: &mut Vec<Variant>)
-    ensures { Takes place content.now variants.old.items outlet.old variants.new.items outlet.new }
+// The same, if one frame has room for the content and a row for each of these ways.
+fn place_for(content: &[u8], outlets: &[Outlet]) -> Option<usize>
+    ensures near { IfSome result (λ place. place ≤ 255) }
+    ensures count { IfSome result (λ _. length outlets.now ≤ 255) }
+    ensures room { IfSome result (λ _. length content.now + 2 + 8 * length outlets.now ≤ 1356) }
 {
-    let Some(variant) = outlet.variant(content, place) else {
-        return;
-    };
-    if variants.push(variant).is_ok() {
-        outlet.clear();
+    if content.is_empty()
+        || outlets.len() > MOST_ROWS
+        || content.len() + 2 + ROW * outlets.len() > CONTENT
+    {
+        return None;
     }
+    place_in(content, outlets)
 }
 
-// Takes it from each of some ways.
+// Takes what waits on each of some ways, if that is as a content but for six bytes at a place.
 fn gather(content: &[u8], place: usize, outlets: &mut [Outlet], variants: &mut Vec<Variant>)
     ensures { Gathers place content.now variants.old.items outlets.old variants.new.items outlets.new }
 {
     let Some((first, rest)) = outlets.split_first_mut() else {
         return;
     };
-    take_variant(content, place, first, variants);
+    first.take_variant(content, place, variants);
     gather(content, place, rest, variants)
 }
 
@@ -127,43 +126,6 @@ fn send_each<N: Net>(net: &mut N, variants: &[Variant], frame: &[u8])
     };
     net.send(first.node, frame);
     send_each(net, rest, frame)
-}
-
-// The frame of what waits on a way, for its node and for those that have a variant of it, in an empty vector.
-fn several_frame(
-    sealing: &Seal,
-    counter: u64,
-    outlet: &Outlet,
-    place: usize,
-    variants: &[Variant],
-    empty: Vec<u8>,
-) -> Vec<u8>
-    requires near { place ≤ 255 }
-    requires count { length variants.now ≤ 255 }
-    requires empty { empty.items ≡ [] }
-    requires room { 46 + length (rows_of variants.now) + length (packed outlet.now.waiting) ≤ vec_capacity empty }
-    ensures fits { outlet.now.node < 2 ^ 16 }
-    ensures is { result.items ≡ frame_of sealing.now counter place variants.now outlet.now }
-{
-    let mut frame = empty;
-    put_head(&outlet.head_of_several(sealing, counter), &mut frame);
-    put_several(place, variants, outlet.content(), &mut frame);
-    seal(&sealing.key, &mut frame);
-    frame
-}
-
-// Offers a frame of what waits on a way to its node and to those of some variants.
-fn send_several<N: Net>(net: &mut N, outlet: &mut Outlet, variants: &[Variant], frame: &[u8])
-    ensures lists { Lists (N.log net.old) (λ l. offering_each variants.now frame.now (offering outlet.old.node frame.now l)) (N.log net.new) }
-    ensures outlet { outlet.new ≡ record outlet.old { waiting = [] } }
-    ensures failed { N.failed net.new ≡ N.failed net.old }
-    ensures unsent { N.unsent net.old ≤ N.unsent net.new }
-    ensures grows { Grows (N.log net.old) (N.log net.new) }
-    ensures adds { (s : SealValue) (long : ℕ → ℕ → List ℕ) (sent : List (List ℕ)) → Carries s.key s.boot long (StandsIn sent) frame.now → Adds (IsFrameOf s long sent) (N.log net.old) (N.log net.new) }
-{
-    outlet.clear();
-    net.send(outlet.node(), frame);
-    send_each(net, variants, frame)
 }
 
 // Offers what waits on a way: also to nodes of others, if what waits there is the same but for six bytes.
@@ -184,13 +146,7 @@ fn flush_first<N: Net>(
     ensures goes { OnOk result (first.new.waiting ≡ []) }
 {
     let content = first.content();
-    if content.is_empty()
-        || rest.len() > MOST_ROWS
-        || content.len() + 2 + ROW * rest.len() > CONTENT
-    {
-        return first.flush(alloc, seal, net);
-    }
-    let Some(place) = place_in(content, rest) else {
+    let Some(place) = place_for(content, rest) else {
         return first.flush(alloc, seal, net);
     };
     let empty = Vec::with_capacity(alloc, FRAME)?;
@@ -200,9 +156,12 @@ fn flush_first<N: Net>(
     if variants.is_empty() {
         return first.flush(alloc, seal, net);
     }
-    let frame = several_frame(seal, *counter, first, place, variants, empty);
+    let frame = first.several_frame(seal, *counter, place, variants, empty);
     *counter = counter.saturating_add(1);
-    send_several(net, first, variants, frame.as_slice());
+    let frame = frame.as_slice();
+    first.clear();
+    net.send(first.node(), frame);
+    send_each(net, variants, frame);
     Ok(())
 }
 
@@ -313,7 +272,7 @@ impl<N: Net> FramedNet<N> {
         ensures outlets { self.new.outlets ≡ self.old.outlets }
         ensures same { IsSameNode self.old self.new }
     {
-        self.opener.give(buffer)
+        self.opener.opened.give(buffer)
     }
 
     // Takes the next frame; answers whether there was one.
@@ -330,11 +289,10 @@ impl<N: Net> FramedNet<N> {
             return Ok(false);
         };
         let (frame, _) = buffer.split_at(count);
-        match self.opener.open(&self.seal.key, frame) {
-            Ok(true) => (),
-            Ok(false) => self.refused = self.refused.saturating_add(1),
-            Err(_) => self.lost = self.lost.saturating_add(1),
-        }
+        let opened = self.opener.open(&self.seal.key, frame);
+        self.lost = self.lost.saturating_add(u64::from(opened.is_err()));
+        let is_taken = opened.unwrap_or(true);
+        self.refused = self.refused.saturating_add(u64::from(!is_taken));
         Ok(true)
     }
 }
@@ -408,7 +366,7 @@ impl<N: Net> Net for FramedNet<N> {
         ensures sends { HasFlushed N.log self.old self.new }
     {
         self.flush();
-        if self.opener.is_empty() {
+        if self.opener.opened.is_empty() {
             self.inner.wait(limit);
         }
     }

@@ -12,7 +12,7 @@ use byteorder::{BigEndian, ByteOrder};
 const FIRST: u8 = 0x46;
 
 /// What a frame carries.
-#[derive(Clone, Copy, PartialEq, Eq)]
+#[derive(Clone, Copy)]
 pub(crate) enum Kind {
     /// Whole packets.
     Packets,

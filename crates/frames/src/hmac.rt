@@ -65,23 +65,10 @@ fn xor_all(block: &[u8; BLOCK], byte: u8) -> [u8; BLOCK]
     ensures { result ≡ xor_all byte block.now }
 {
     let mut pad = *block;
-    xor_each(&mut pad, byte);
-    pad
-}
-
-// Combines each byte with one.
-fn xor_each(bytes: &mut [u8], byte: u8)
-    ensures { bytes.new ≡ xor_all byte bytes.old }
-{
-    for place in bytes.iter_mut() {
-        *place = xor(*place, byte);
+    for place in pad.iter_mut() {
+        *place ^= byte;
     }
-}
-
-fn xor(one: u8, other: u8) -> u8
-    ensures { result ≡ bit_xor one other }
-{
-    one ^ other
+    pad
 }
 
 // The digest of what a hasher holds with a message behind it.

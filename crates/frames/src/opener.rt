@@ -5,7 +5,6 @@ ghost use Rattle.udp_net.specs.Logs.{Log};
 ghost use Rattle.frames.specs.Arrivals.{GivenIn};
 ghost use Rattle.frames.specs.Frames.{IsSealed, Opens};
 ghost use Rattle.frames.specs.Openers.{OpensOnce, OpensTo, Stands};
-ghost use Rattle.frames.specs.Rows.{Gives};
 ghost use Rattle.frames.specs.Taken.{StayTaken};
 ghost use Rattle.frames.specs.declared.head.Head.{Head as HeadValue};
 ghost use Rattle.frames.specs.declared.head.Kind.TheVariants.{Piece, Several};
@@ -30,7 +29,7 @@ pub(crate) struct Opener {
     // The same of frames for several nodes, which have counters of their own.
     several: Peers,
     partials: Partials,
-    opened: Row,
+    pub(crate) opened: Row,
     // The last packet that was read of a content.
     last: Vec<u8>,
 }
@@ -152,24 +151,9 @@ impl Opener {
         let Some((head, content)) = open(key, frame) else {
             return Ok(false);
         };
-        if head.kind == Kind::Several {
-            self.open_several(&head, content)
-        } else {
-            self.open_one(&head, content)
+        match head.kind {
+            Kind::Several => self.open_several(&head, content),
+            Kind::Packets | Kind::Piece => self.open_one(&head, content),
         }
-    }
-
-    /// Whether nothing was opened that was not given.
-    pub(crate) fn is_empty(&self) -> bool {
-        self.opened.is_empty()
-    }
-
-    /// Gives the first packet that was opened, where the buffer has room for it; one that is longer is lost.
-    pub(crate) fn give(&mut self, buffer: &mut [u8]) -> Option<usize>
-        ensures within { IfSome result (λ n. n ≤ length buffer.new) }
-        ensures gives { Gives self.old.opened result buffer.new self.new.opened }
-        ensures others { self.new ≡ record self.old { opened = self.new.opened } }
-    {
-        self.opened.give(buffer)
     }
 }

@@ -11,7 +11,8 @@ ghost use Rattle.frames.specs.Nets.{Grows, IsFresh};
 ghost use Rattle.frames.specs.Sendings.{Adds, AreLongs, AreOf, IsFrameOf, IsLongAt};
 ghost use Rattle.frames.specs.Longs.{IsNumbered, number_for};
 ghost use Rattle.std.specs.List.{AllByRecursion};
-ghost use Rattle.frames.specs.Gathered.{IsVariant};
+ghost use Rattle.frames.specs.Gathered.{Takes, several_frame};
+ghost use Rattle.frames.specs.Parts.{rows_of};
 ghost use Rattle.frames.specs.Outlets.{counter_behind, head_for, has_place, flushing, opening_for, waiting_after};
 
 use crate::content::{put_packet, shared_front};
@@ -21,7 +22,7 @@ use crate::longs::Longs;
 use crate::partial::put_piece;
 use crate::row::Row;
 use crate::seal::seal;
-use crate::several::{Variant, variant_of};
+use crate::several::{Variant, put_several, variant_of};
 use crate::{BOOT, CONTENT, FRAME, PIECE, WHOLE};
 use address::Node;
 use address::limits::DATAGRAM;
@@ -131,18 +132,34 @@ impl Outlet {
         }
     }
 
-    // The head of a frame for several nodes, of which this one is the first.
-    pub(crate) fn head_of_several(&self, seal: &Seal, counter: u64) -> Head
-        ensures is { result ≡ record { kind = Several; to = self.now.node; boot = seal.now.boot; counter = counter } }
-        ensures to { result.to < 2 ^ 16 }
+    // The frame of what waits, for this node and for those that have a variant of it, in an empty vector.
+    pub(crate) fn several_frame(
+        &self,
+        sealing: &Seal,
+        counter: u64,
+        place: usize,
+        variants: &[Variant],
+        empty: Vec<u8>,
+    ) -> Vec<u8>
+        requires near { place ≤ 255 }
+        requires count { length variants.now ≤ 255 }
+        requires empty { empty.items ≡ [] }
+        requires room { 46 + length (rows_of variants.now) + length (packed self.now.waiting) ≤ vec_capacity empty }
+        ensures fits { self.now.node < 2 ^ 16 }
+        ensures is { result.items ≡ several_frame sealing.now counter place variants.now self.now }
     {
         let _node = self.node.number();
-        Head {
+        let head = Head {
             kind: Kind::Several,
             to: self.node,
-            boot: seal.boot,
+            boot: sealing.boot,
             counter,
-        }
+        };
+        let mut frame = empty;
+        put_head(&head, &mut frame);
+        put_several(place, variants, self.content.as_slice(), &mut frame);
+        seal(&sealing.key, &mut frame);
+        frame
     }
 
     // Seals a frame's body and offers it.
@@ -161,17 +178,6 @@ impl Outlet {
         seal(&sealing.key, &mut frame);
         self.frames = self.frames.saturating_add(1);
         net.send(self.node, frame.as_slice());
-    }
-
-    // The body of the frame of the packets that wait.
-    fn body(&self, alloc: Global, seal: &Seal) -> Result<Vec<u8>, AllocError>
-        ensures items { IfOk result (λ b. b.items ≡ head_bytes (head_for Packets self.now seal.now) ++ packed self.now.waiting) }
-        ensures room { IfOk result (λ b. vec_len b + 16 ≤ vec_capacity b) }
-    {
-        let mut body = Vec::with_capacity(alloc, FRAME)?;
-        put_head(&self.head(Kind::Packets, seal), &mut body);
-        put(self.content.as_slice(), &mut body);
-        Ok(body)
     }
 
     // Offers the packets that wait, in one frame.
@@ -196,7 +202,9 @@ impl Outlet {
             return Ok(());
         }
         let _node = self.node.number();
-        let body = self.body(alloc, seal)?;
+        let mut body = Vec::with_capacity(alloc, FRAME)?;
+        put_head(&self.head(Kind::Packets, seal), &mut body);
+        put(self.content.as_slice(), &mut body);
         self.waiting.clear();
         self.content.clear();
         self.offer(seal, net, body);
@@ -220,15 +228,21 @@ impl Outlet {
         self.content.clear();
     }
 
-    // What is in place of the six bytes that a content has at a place, if what waits is the same but for these.
-    pub(crate) fn variant(&self, content: &[u8], place: usize) -> Option<Variant>
-        ensures { IfSome result (IsVariant place content.now self.now) }
+    // Takes what waits, if that is as a content but for six bytes at a place.
+    pub(crate) fn take_variant(&mut self, content: &[u8], place: usize, variants: &mut Vec<Variant>)
+        ensures { Takes place content.now variants.old.items self.old variants.new.items self.new }
     {
-        let bytes = variant_of(content, self.content.as_slice(), place)?;
-        Some(Variant {
+        let Some(bytes) = variant_of(content, self.content.as_slice(), place) else {
+            return;
+        };
+        let variant = Variant {
             node: self.node,
             bytes,
-        })
+        };
+        if variants.push(variant).is_ok() {
+            self.waiting.clear();
+            self.content.clear();
+        }
     }
 
     // Whether a packet has a place in the next frame, beside those that wait.
@@ -285,57 +299,6 @@ impl Outlet {
         self.wait(packet)
     }
 
-    // The body of the frame of a piece.
-    fn piece_body(
-        &self,
-        alloc: Global,
-        seal: &Seal,
-        number: u64,
-        index: u16,
-        count: u16,
-        bytes: &[u8],
-    ) -> Result<Vec<u8>, AllocError>
-        requires { length bytes.now ≤ 1344 }
-        ensures items { IfOk result (λ b. b.items ≡ head_bytes (head_for PieceKind self.now seal.now) ++ piece_bytes (record { number = number; index = index; count = count; bytes = bytes.now })) }
-        ensures room { IfOk result (λ b. vec_len b + 16 ≤ vec_capacity b) }
-    {
-        let mut body = Vec::with_capacity(alloc, FRAME)?;
-        put_head(&self.head(Kind::Piece, seal), &mut body);
-        put_piece(number, index, count, bytes, &mut body);
-        Ok(body)
-    }
-
-    // Offers the piece of a packet that has an index.
-    fn send_piece<N: Net>(
-        &mut self,
-        alloc: Global,
-        seal: &Seal,
-        net: &mut N,
-        number: u64,
-        index: u16,
-        count: u16,
-        packet: &[u8],
-    ) -> Result<(), AllocError>
-        requires within { 1344 * index ≤ length packet.now }
-        requires count { count ≡ count_of packet.now }
-        ensures piece { OnOk result (Lists (N.log net.old) (offering self.old.node (piece_frame seal.now self.old.node self.old.frames (piece_of number index packet.now))) (N.log net.new)) }
-        ensures frames { OnOk result (self.new.frames ≡ min (self.old.frames + 1) 18446744073709551615) }
-        ensures failed { N.failed net.new ≡ N.failed net.old }
-        ensures unsent { N.unsent net.old ≤ N.unsent net.new }
-        ensures node { self.new.node ≡ self.old.node }
-        ensures waiting { self.new.waiting ≡ self.old.waiting }
-        ensures longs { self.new.longs ≡ self.old.longs }
-        ensures grows { Grows (N.log net.old) (N.log net.new) }
-        ensures sends { (long : ℕ → ℕ → List ℕ) (sent : List (List ℕ)) → StandsIn sent packet.now → long self.old.node number ≡ packet.now
-            → Adds (IsFrameOf seal.now long sent) (N.log net.old) (N.log net.new) }
-    {
-        let bytes = piece_at(packet, index);
-        let _node = self.node.number();
-        let body = self.piece_body(alloc, seal, number, index, count, bytes)?;
-        self.offer(seal, net, body);
-        Ok(())
-    }
-
     // Offers the pieces of a packet from an index on.
     fn send_pieces<N: Net>(
         &mut self,
@@ -361,7 +324,12 @@ impl Outlet {
         if index >= count {
             return Ok(());
         }
-        self.send_piece(alloc, seal, net, number, index, count, packet)?;
+        let bytes = piece_at(packet, index);
+        let _node = self.node.number();
+        let mut body = Vec::with_capacity(alloc, FRAME)?;
+        put_head(&self.head(Kind::Piece, seal), &mut body);
+        put_piece(number, index, count, bytes, &mut body);
+        self.offer(seal, net, body);
         self.send_pieces(alloc, seal, net, number, index + 1, count, packet)
     }
 

@@ -12,7 +12,6 @@ use address::Bytes;
 use big_endian::{put, put_u16, put_u64};
 use byteorder::{BigEndian, ByteOrder};
 use std::alloc::{AllocError, Global};
-use std::collections::VecDeque;
 use std::marker::Model;
 
 /// A piece: the number of its packet, which one of how many it is, and its bytes.
@@ -44,7 +43,7 @@ pub(crate) struct Partial {
 #[derive(Drop)]
 pub(crate) struct Partials {
     alloc: Global,
-    partials: VecDeque<Partial>,
+    partials: Vec<Partial>,
 }
 
 impl Model for Partials {
@@ -180,20 +179,8 @@ impl Partials {
     {
         Partials {
             alloc,
-            partials: VecDeque::new(alloc),
+            partials: Vec::new(alloc),
         }
-    }
-
-    // Takes out the packet of which a piece is one, if some of it came.
-    fn take_out(&mut self, boot: &[u8; BOOT], piece: &Piece<'_>) -> Option<Partial>
-        ensures parts { (l : Log) (key : List ℕ) (node : ℕ) → AreParts l key node self.old → AreParts l key node self.new × IfSome result (IsPartOf l key node) }
-        ensures its { IfSome result (IsPartialOf boot.now piece.now) }
-    {
-        let place = self
-            .partials
-            .iter()
-            .position(|partial| partial.is_of(boot, piece))?;
-        self.partials.remove(place)
     }
 
     // Puts a packet back, as the last one.
@@ -201,9 +188,9 @@ impl Partials {
         ensures { (l : Log) (key : List ℕ) (node : ℕ) → AreParts l key node self.old → IsPartOf l key node partial → AreParts l key node self.new }
     {
         if self.partials.len() >= MOST_PARTIALS {
-            self.partials.pop_front();
+            self.partials.remove(0);
         }
-        self.partials.push_back(partial)?;
+        self.partials.push(partial)?;
         Ok(())
     }
 
@@ -212,8 +199,10 @@ impl Partials {
         ensures parts { (l : Log) (key : List ℕ) (node : ℕ) → AreParts l key node self.old → AreParts l key node self.new × IfOk result (IsPartOf l key node) }
         ensures its { IfOk result (IsPartialOf boot.now piece.now) }
     {
-        if let Some(partial) = self.take_out(boot, piece) {
-            return Ok(partial);
+        for place in 0..self.partials.len() {
+            if self.partials[place].is_of(boot, piece) {
+                return Ok(self.partials.remove(place));
+            }
         }
         Partial::new(self.alloc, boot, piece)
     }

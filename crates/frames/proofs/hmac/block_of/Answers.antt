@@ -1,4 +1,4 @@
-use Rattle.frames.proofs.Blocks.{short-block, long-block}
+use Rattle.frames.proofs.Blocks.{short-block}
 use Rattle.frames.proofs.hmac.block_of.Goals as goal
 
 pub returns-then-key-le-BLOCK : goal.returns-then-key-le-BLOCK

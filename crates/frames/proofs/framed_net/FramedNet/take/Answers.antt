@@ -14,20 +14,10 @@ invariant_of-self-in_default g c =
     keeps-on (g.N.Net.log c.self.inside.inner) (g.N.Net.log c.receive.new.self) c.self.inside.seal.key c.self.inside.opener
     (grows-listing (g.N.Net.log c.self.inside.inner) (g.N.Net.log c.receive.new.self) _ c.receive.ensures.lists) c.self.invariant
 
-pub invariant_of-self-then-open : goal.invariant_of-self-then-open
-invariant_of-self-then-open g c =
-    keeps-receiving (g.N.Net.log c.self.inside.inner) (g.N.Net.log c.receive.new.self) c.self.inside.seal.key c.self.inside.opener c.open.new.self c.in_ok-count.field-0 c.in-Some.count
-    c.receive.new.buffer c.split_at.result.0.now c.in-Some.is c.split_at.ensures.front c.in_ok-count.ensures.lists c.open.ensures.stands c.self.invariant
-
-pub invariant_of-self-in-Ok-false : goal.invariant_of-self-in-Ok-false
-invariant_of-self-in-Ok-false g c =
-    keeps-receiving (g.N.Net.log c.self.inside.inner) (g.N.Net.log c.receive.new.self) c.self.inside.seal.key c.self.inside.opener c.open.new.self c.in_ok-count.field-0 c.in-Some.count
-    c.receive.new.buffer c.split_at.result.0.now c.in-Some.is c.split_at.ensures.front c.in_ok-count.ensures.lists c.open.ensures.stands c.self.invariant
-
-pub invariant_of-self-in-Err : goal.invariant_of-self-in-Err
-invariant_of-self-in-Err g c =
-    keeps-receiving (g.N.Net.log c.self.inside.inner) (g.N.Net.log c.receive.new.self) c.self.inside.seal.key c.self.inside.opener c.open.new.self c.in_ok-count.field-0 c.in-Some.count
-    c.receive.new.buffer c.split_at.result.0.now c.in-Some.is c.split_at.ensures.front c.in_ok-count.ensures.lists c.open.ensures.stands c.self.invariant
+pub invariant_of-self-2 : goal.invariant_of-self-2
+invariant_of-self-2 g c =
+    keeps-receiving (g.N.Net.log c.self.inside.inner) (g.N.Net.log c.receive.new.self) c.self.inside.seal.key c.self.inside.opener c.open-opened.new.self c.in_ok-count.field-0 c.in-Some.count
+    c.receive.new.buffer c.split_at.result.0.now c.in-Some.is c.split_at.ensures.front c.in_ok-count.ensures.lists c.open-opened.ensures.stands c.self.invariant
 
 pub returns-in_err-count : goal.returns-in_err-count
 returns-in_err-count g c = rw (← c.self.view_is) (record {
@@ -49,32 +39,12 @@ returns-in_default g c = rw (← c.self.view_is) (record {
   same = record { node = refl; seal = refl };
 })
 
-pub returns-in-Ok-true : goal.returns-in-Ok-true
-returns-in-Ok-true g c = rw (← c.self.view_is) (record {
+pub returns : goal.returns
+returns g c = rw (← c.self.view_is) (record {
   failed = c.in_ok-count.ensures.failed;
   unsent = c.receive.ensures.unsent;
-  lost = stays c.self.inside.lost;
+  lost = omega (arith, c.saturating_add-self-inside.ensures);
   answers = adds-answer (g.N.Net.log c.self.inside.inner) (g.N.Net.log c.receive.new.self) _ c.receive.ensures.lists;
   outlets = refl;
-  same = record { node = c.open.ensures.node; seal = refl };
-})
-
-pub returns-in-Ok-false : goal.returns-in-Ok-false
-returns-in-Ok-false g c = rw (← c.self.view_is) (record {
-  failed = c.in_ok-count.ensures.failed;
-  unsent = c.receive.ensures.unsent;
-  lost = stays c.self.inside.lost;
-  answers = adds-answer (g.N.Net.log c.self.inside.inner) (g.N.Net.log c.receive.new.self) _ c.receive.ensures.lists;
-  outlets = refl;
-  same = record { node = c.open.ensures.node; seal = refl };
-})
-
-pub returns-in-Err : goal.returns-in-Err
-returns-in-Err g c = rw (← c.self.view_is) (record {
-  failed = c.in_ok-count.ensures.failed;
-  unsent = c.receive.ensures.unsent;
-  lost = omega (arith, c.saturating_add-self-inside-in-Err.ensures);
-  answers = adds-answer (g.N.Net.log c.self.inside.inner) (g.N.Net.log c.receive.new.self) _ c.receive.ensures.lists;
-  outlets = refl;
-  same = record { node = c.open.ensures.node; seal = refl };
+  same = record { node = c.open-opened.ensures.node; seal = refl };
 })

@@ -1,4 +1,4 @@
-use Rattle.std.proofs.Common.{◌≡◌, ◌++◌, ◌∙◌, ap, arith, refl, subst, sym}
+use Rattle.std.proofs.Common.{◌≡◌, ◌++◌, ◌∙◌, ap, arith, refl, rules, subst, sym}
 use Rattle.std.proofs.lemmas.Result.{IfOk-from_err}
 use Rattle.frames.specs.Frames.{head_bytes, packed}
 use Rattle.frames.specs.declared.head.Kind.TheVariants.{Packets}
@@ -11,9 +11,9 @@ use Rattle.frames.proofs.outlet.Outlet.flush.Goals as goal
 pub returns-clause-sends : goal.returns-clause-sends
 returns-clause-sends g c = λ long sent of.
     let o : OutletModel = record { node = c.self.inside.node; frames = c.self.inside.frames; longs = c.self.inside.longs; waiting = c.self.inside.waiting } in
-    let is : o ≡ c.args.self.now = c.self.view_is in (
-      flush-adds c.args.seal.now long sent o (g.N.Net.log c.args.net.now) (g.N.Net.log c.offer.new.net) c.in_ok-body.body.items
-          (subst (λ (x : OutletModel). c.in_ok-body.body.items ≡ head_bytes (head_for Packets x c.args.seal.now) ++ packed x.waiting) (sym is) c.in_ok-body.ensures.items)
+    let is : o ≡ c.args.self.now = c.self.view_is in
+    let items : c.put.new.out.items ≡ head_bytes (head_for Packets o c.args.seal.now) ++ packed o.waiting = search rules in (
+      flush-adds c.args.seal.now long sent o (g.N.Net.log c.args.net.now) (g.N.Net.log c.offer.new.net) c.put.new.out.items items
           (omega (arith, c.number-node.ensures.value, c.number-node.type_inv)) c.self.invariant.0 (subst (λ (x : OutletModel). AreOf sent x.waiting) (sym is) of) c.offer.ensures.lists,
       subst (AreOf sent) (sym (c.offer.ensures.waiting ∙ c.clear.ensures)) tt,
     )
@@ -26,9 +26,6 @@ returns-clause-node g c = c.offer.ensures.node ∙ ap (λ (x : OutletModel). x.n
 
 pub returns-clause-frames : goal.returns-clause-frames
 returns-clause-frames g c = rw (← c.self.view_is, ← c.if-is_empty.ensures) c.offer.ensures.frames
-
-pub offer-requires : goal.offer-requires
-offer-requires g c = c.in_ok-body.ensures.room
 
 pub returns-then-is_empty-clause-sends : goal.returns-then-is_empty-clause-sends
 returns-then-is_empty-clause-sends g c = λ long sent of. (adds-none (IsFrameOf c.args.seal.now long sent) (g.N.Net.log c.args.net.now), of)
