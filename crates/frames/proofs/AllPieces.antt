@@ -1,17 +1,12 @@
 -- All pieces of a long packet go, one after another.
-use Rattle.std.proofs.Common.{◌≡◌, ◌<◌, ◌+◌, ℕ, suc, List, subst, sym, Option}
-use Rattle.std.specs.Prelude.{min, Result, Ok, Err, OnOk}
+use Rattle.std.proofs.Common.{◌≡◌, ◌<◌, ◌+◌, ℕ, suc, List, Option}
+use Rattle.std.specs.Prelude.{min}
 use Rattle.udp_net.specs.Logs.{Log, Lists, offering}
-use Rattle.frames.specs.declared.longs.Longs.{Longs}
 use Rattle.frames.specs.declared.outlet.Seal.{Seal}
 use Rattle.frames.specs.Carried.{count_of, offering_long, offering_pieces, piece_at, piece_frame}
 use Rattle.frames.specs.Longs.{number_for}
 use Rattle.frames.specs.Outlets.{OutletModel, counter_behind, flushing}
 use Rattle.frames.proofs.Logs.{lists-none, lists-on}
-
-pub on-ok : {A E : Type 0} (r : Result A E) (One Other : Type 0) → (One → Other) → OnOk r One → OnOk r Other
-on-ok (Ok x) One Other also one = also one
-on-ok (Err e) One Other also one = tt
 
 -- no piece is left
 pub no-pieces : (s : Seal) (node counter number index left : ℕ) (packet : List ℕ) (log : Option Log) → left ≡ 0
@@ -24,17 +19,12 @@ pub pieces-on : (s : Seal) (node counter number index left : ℕ) (packet : List
     → m ≡ node → c ≡ min (counter + 1) 18446744073709551615 → k ≡ suc index → left ≡ suc n → Lists one (offering_pieces s node counter number index left packet) three
 pieces-on s node counter number index left packet one two three m c k n rest first e f g h =
     let next : ℕ = min (counter + 1) 18446744073709551615 in
-    let others =
-    subst (λ (x : ℕ). Lists two (offering_pieces s node next number x n packet) three) g
-    (subst (λ (x : ℕ). Lists two (offering_pieces s node x number k n packet) three) f (subst (λ (x : ℕ). Lists two (offering_pieces s x c number k n packet) three) e rest)) in
-    subst (λ (x : ℕ). Lists one (offering_pieces s node counter number index x packet) three) (sym h)
-    (lists-on one two three (offering node (piece_frame s node counter (piece_at number index packet))) (offering_pieces s node next number (suc index) n packet) first others)
+    rw h
+    (lists-on one two three (offering node (piece_frame s node counter (piece_at number index packet))) (offering_pieces s node next number (suc index) n packet) first (rw (e, f, g) at rest))
 
 pub all-pieces : (s : Seal) (node counter n number m : ℕ) (packet : List ℕ) (one two : Option Log) → Lists one (offering_pieces s node counter n 0 m packet) two → n ≡ number → m ≡ count_of packet
     → Lists one (offering_long s node counter number packet) two
-all-pieces s node counter n number m packet one two pieces e f =
-    subst (λ (x : ℕ). Lists one (offering_pieces s node counter number 0 x packet) two) f
-    (subst (λ (x : ℕ). Lists one (offering_pieces s node counter x 0 m packet) two) e pieces)
+all-pieces s node counter n number m packet one two pieces e f = rw (e, f) at pieces
 
 -- behind those that waited
 pub long-behind : (s : Seal) (packet : List ℕ) (o m : OutletModel) (next : ℕ) (one two three : Option Log) → m.node ≡ o.node → m.frames ≡ counter_behind o → m.longs ≡ o.longs
@@ -42,10 +32,5 @@ pub long-behind : (s : Seal) (packet : List ℕ) (o m : OutletModel) (next : ℕ
     → number_for packet o.longs < next
     → Lists one (λ l. offering_long s o.node (counter_behind o) (number_for packet o.longs) packet (flushing s o l)) three
 long-behind s packet o m next one two three e f g pieces flushed lt =
-    let at = pieces (subst (λ (l : Longs). number_for packet l < next) (sym g) lt) in
-    let n : ℕ = number_for packet o.longs in
-    let others =
-    subst (λ (x : ℕ). Lists two (offering_long s x (counter_behind o) n packet) three) e
-    (subst (λ (x : ℕ). Lists two (offering_long s m.node x n packet) three) f
-    (subst (λ (l : Longs). Lists two (offering_long s m.node m.frames (number_for packet l) packet) three) g at)) in
-    lists-on one two three (flushing s o) (offering_long s o.node (counter_behind o) n packet) flushed others
+    let others = pieces (rw g lt) in
+    lists-on one two three (flushing s o) (offering_long s o.node (counter_behind o) (number_for packet o.longs) packet) flushed (rw (e, f, g) at others)

@@ -1,5 +1,5 @@
 -- What waits for several nodes is of a list, also what is taken of it for one frame.
-use Rattle.std.proofs.Common.{◌≡◌, ◌≢◌, ◌≤◌, ◌<◌, ◌+◌, ◌*◌, ◌^◌, ℕ, List, [], ◌∷◌, length, refl, sym, ap, ◌∙◌, subst, inl, inr, arith}
+use Rattle.std.proofs.Common.{◌≡◌, ◌≤◌, ◌<◌, ◌+◌, ◌*◌, ◌^◌, ℕ, List, [], ◌∷◌, length, refl, sym, ap, ◌∙◌, subst, inl, inr, arith}
 use Rattle.std.specs.List.{AllByRecursion}
 use Rattle.std.proofs.lemmas.List.{length-append}
 use Rattle.frames.specs.declared.head.Kind.TheVariants.{Piece, Several}
@@ -11,22 +11,17 @@ use Rattle.frames.specs.Arrivals.{StandsIn}
 use Rattle.frames.specs.Carried.{ArePacked, Carries}
 use Rattle.frames.specs.Gathered.{AreVariantsOf, Gathers, Takes, several_frame}
 use Rattle.frames.specs.Outlets.{OutletModel}
-use Rattle.frames.specs.Sendings.{AreLongs, AreOf, AreSameWays, KeepLongs, WaitOf}
+use Rattle.frames.specs.Sendings.{AreOf, AreSameWays, WaitOf}
 use Rattle.frames.proofs.PartsRead.{HasSix, length-rows, part-is}
 use Rattle.frames.proofs.PiecesCome.{all-push}
 
 module _ (place : ℕ) (content : List ℕ) where
   -- ---- one way
 
-  wait-taken : (sent : List (List ℕ)) (before : List Variant) (o : OutletModel) (after : List Variant) (n : OutletModel) → Takes place content before o after n → AreOf sent o.waiting
-      → AreOf sent n.waiting
-  wait-taken sent before o after n (inl t) of = subst (λ (x : OutletModel). AreOf sent x.waiting) (sym t.1) of
-  wait-taken sent before o after n (inr t) of = subst (λ (x : OutletModel). AreOf sent x.waiting) (sym t.3) tt
-
-  longs-taken : (long : ℕ → ℕ → List ℕ) (before : List Variant) (o : OutletModel) (after : List Variant) (n : OutletModel) → Takes place content before o after n → AreLongs long o
-      → AreLongs long n
-  longs-taken long before o after n (inl t) known = subst (AreLongs long) (sym t.1) known
-  longs-taken long before o after n (inr t) known = subst (AreLongs long) (sym t.3) known
+  all-taken : (Holds : OutletModel → Type 0) → ((o : OutletModel) → Holds o → Holds (record o { waiting = [] }))
+      → (before : List Variant) (o : OutletModel) (after : List Variant) (n : OutletModel) → Takes place content before o after n → Holds o → Holds n
+  all-taken Holds cleared before o after n (inl t) holds = subst Holds (sym t.1) holds
+  all-taken Holds cleared before o after n (inr t) holds = subst Holds (sym t.3) (cleared o holds)
 
   node-taken : (before : List Variant) (o : OutletModel) (after : List Variant) (n : OutletModel) → Takes place content before o after n → n.node ≡ o.node
   node-taken before o after n (inl t) = ap (λ (x : OutletModel). x.node) t.1
@@ -53,19 +48,15 @@ module _ (place : ℕ) (content : List ℕ) where
 
   -- ---- each of some
 
-  pub wait-gathered : (sent : List (List ℕ)) (before : List Variant) (old : List OutletModel) (after : List Variant) (new : List OutletModel) → Gathers place content before old after new
-      → WaitOf sent old → WaitOf sent new
-  wait-gathered sent before [] after [] g of = tt
-  wait-gathered sent before [] after (n ∷ new) g of = absurd g
-  wait-gathered sent before (o ∷ old) after [] g of = absurd g
-  wait-gathered sent before (o ∷ old) after (n ∷ new) g of = (wait-taken sent before o g.0 n g.1 of.0, wait-gathered sent g.0 old after new g.2 of.1)
-
-  pub longs-gathered : (long : ℕ → ℕ → List ℕ) (before : List Variant) (old : List OutletModel) (after : List Variant) (new : List OutletModel) → Gathers place content before old after new
-      → KeepLongs long old → KeepLongs long new
-  longs-gathered long before [] after [] g known = tt
-  longs-gathered long before [] after (n ∷ new) g known = absurd g
-  longs-gathered long before (o ∷ old) after [] g known = absurd g
-  longs-gathered long before (o ∷ old) after (n ∷ new) g known = (longs-taken long before o g.0 n g.1 known.0, longs-gathered long g.0 old after new g.2 known.1)
+  -- what holds of each way, and also once nothing waits there
+  pub all-gathered : (Holds : OutletModel → Type 0) → ((o : OutletModel) → Holds o → Holds (record o { waiting = [] }))
+      → (before : List Variant) (old : List OutletModel) (after : List Variant) (new : List OutletModel) → Gathers place content before old after new
+      → AllByRecursion Holds old → AllByRecursion Holds new
+  all-gathered Holds cleared before [] after [] g all = tt
+  all-gathered Holds cleared before [] after (n ∷ new) g all = absurd g
+  all-gathered Holds cleared before (o ∷ old) after [] g all = absurd g
+  all-gathered Holds cleared before (o ∷ old) after (n ∷ new) g all =
+      (all-taken Holds cleared before o g.0 n g.1 all.0, all-gathered Holds cleared g.0 old after new g.2 all.1)
 
   pub ways-gathered : (before : List Variant) (old : List OutletModel) (after : List Variant) (new : List OutletModel) → Gathers place content before old after new → AreSameWays old new
   ways-gathered before [] after new g = tt
@@ -116,9 +107,6 @@ ways-on (o ∷ one) [] three x y = absurd x
 ways-on (o ∷ one) (p ∷ two) [] x y = absurd y
 ways-on (o ∷ one) (p ∷ two) (q ∷ three) x y = (y.0 ∙ x.0, omega (arith, x.1, y.1), ways-on one two three x.2 y.2)
 
-several-no-piece : Several ≢ Piece
-several-no-piece e = cc
-
 -- the frame for several nodes carries what waits
 pub several-carries : (s : Seal) (long : ℕ → ℕ → List ℕ) (sent : List (List ℕ)) (counter place : ℕ) (variants : List Variant) (o : OutletModel) → o.node < 2 ^ 16 → place ≤ 255
     → length variants ≤ 255 → AllByRecursion IsShort o.waiting → AreOf sent o.waiting → AreVariantsOf sent place (packed o.waiting) variants
@@ -127,7 +115,7 @@ several-carries s long sent counter place variants o fits place_fits count_fits 
   head = _;
   content = _;
   frame_is = refl;
-  kind = several-no-piece;
+  kind = λ (e : Several ≡ Piece). cc;
   boot_is = refl;
   to_fits = fits;
   parts = λ node part is.

@@ -1,5 +1,5 @@
 -- How the list of a net grows.
-use Rattle.std.proofs.Common.{◌≡◌, ◌≤◌, ℕ, arith, List, [], ◌∷◌, ◌++◌, take, length, refl, ap, ◌∙◌, Option, Some, None}
+use Rattle.std.proofs.Common.{◌≡◌, ◌≤◌, ℕ, arith, List, [], ◌∷◌, take, length, refl, ap, ◌∙◌, Option, Some, None}
 use Rattle.std.specs.Prelude.{slice_get}
 use Rattle.std.specs.Prelude.{Result, Ok, Err}
 use Rattle.std.specs.Result.{IsErr}
@@ -11,13 +11,10 @@ use Rattle.frames.specs.Nets.{Grows}
 use Rattle.frames.specs.Arrivals.{GivenIn}
 use Rattle.trace_props.proofs.RulesAlongLists.{slice_get-take, slice_get-last}
 
-take-more : (o more : Log) → take (length o) (o ++ more) ≡ o
-take-more o more = take-append_seam o more
-
 pub grows-listing : (old new : Option Log) (e : NetEvent) → Lists old (listing e) new → Grows old new
 grows-listing old None e x = tt
 grows-listing None (Some l) e x = x
-grows-listing (Some o) (Some l) e x = rw x (take-more o (e ∷ []))
+grows-listing (Some o) (Some l) e x = rw x (take-append_seam o (e ∷ []))
 
 pub grows-none : (log : Option Log) → Grows log log
 grows-none None = tt

@@ -1,21 +1,21 @@
 -- What is for a node in a frame for several is packets of the list.
 use Rattle.std.proofs.Common.{◌≡◌, ◌≤◌, ◌+◌, ◌*◌, ◌%◌, ℕ, suc, Bool, true, false, List, [], ◌∷◌, ◌++◌, length, take, drop, refl, sym, ap, ◌∙◌, subst, append_assoc, Option, Some, None, arith}
-use Rattle.std.specs.Prelude.{get_or, nat_eq, if◌then◌else◌, IfSome}
+use Rattle.std.specs.Prelude.{get_or, nat_eq, if◌then◌else◌}
 use Rattle.std.specs.List.{AllByRecursion}
-use Rattle.std.proofs.Math.Seq.{drop-append_seam, take-append_seam}
+use Rattle.std.proofs.Math.Seq.{drop-append_seam, drop-drop}
 use Rattle.std.proofs.lemmas.List.{length-append, take-append-drop}
 use Rattle.std.proofs.lemmas.Option.{none-some, same_Some}
 use Rattle.byteorder.specs.Endian.{big_number}
 use Rattle.frames.specs.declared.several.Variant.{Variant}
 use Rattle.frames.specs.Parts.{bytes_for, first_part, part_of, rows_of, several_bytes, varied, varied_by}
-use Rattle.frames.proofs.ReadAsCarried.{drop-on}
+use Rattle.frames.proofs.ReadAsCarried.{front-of}
 
 -- a content with the six bytes of another one that is the same but for these
 pub varied-is : (place : ℕ) (content other : List ℕ) → take place content ≡ take place other → drop 6 (drop place content) ≡ drop 6 (drop place other)
     → varied place (take 6 (drop place other)) content ≡ other
 varied-is place content other front back =
     ap (λ (f : List ℕ). f ++ take 6 (drop place other) ++ drop (place + 6) content) front
-    ∙ ap (λ (b : List ℕ). take place other ++ take 6 (drop place other) ++ b) (sym (drop-on ℕ place 6 content) ∙ back)
+    ∙ ap (λ (b : List ℕ). take place other ++ take 6 (drop place other) ++ b) (sym (drop-drop 6 place content) ∙ back)
     ∙ append_assoc (take place other) (take 6 (drop place other)) (drop 6 (drop place other))
     ∙ ap (λ (r : List ℕ). take place other ++ r) (take-append-drop 6 (drop place other)) ∙ take-append-drop place other
 
@@ -35,9 +35,6 @@ length-rows (v ∷ variants) six =
 small : (n : ℕ) → n ≤ 255 → n % 256 ≡ n
 small n fits = omega arith
 
-front-six : (b c r : List ℕ) → length b ≡ 6 → take 6 ((b ++ c) ++ r) ≡ b
-front-six b c r l = ap (λ (n : ℕ). take n ((b ++ c) ++ r)) (sym l) ∙ ap (take (length b)) (append_assoc b c r) ∙ take-append_seam b (c ++ r)
-
 behind-six : (b c r : List ℕ) → length b ≡ 6 → drop 6 ((b ++ c) ++ r) ≡ c ++ r
 behind-six b c r l = ap (λ (n : ℕ). drop n ((b ++ c) ++ r)) (sym l) ∙ ap (drop (length b)) (append_assoc b c r) ∙ drop-append_seam b (c ++ r)
 
@@ -45,10 +42,6 @@ behind-six b c r l = ap (λ (n : ℕ). drop n ((b ++ c) ++ r)) (sym l) ∙ ap (d
 pub bytes-behind : (node count n : ℕ) (rest rows : List ℕ) → count ≡ suc n → rest ≡ drop 8 rows → nat_eq (big_number 2 rows) node ≡ false → bytes_for node count rows ≡ bytes_for node n rest
 bytes-behind node count n rest rows e f other =
     ap (λ (m : ℕ). bytes_for node m rows) e ∙ ap (λ (b : Bool). if b then Some (take 6 (drop 2 rows)) else bytes_for node n (drop 8 rows)) other ∙ ap (bytes_for node n) (sym f)
-
-pub if-some : {A : Type 0} (r : Option A) (One Other : A → Type 0) → ((x : A) → One x → Other x) → IfSome r One → IfSome r Other
-if-some None One Other also x = tt
-if-some (Some a) One Other also x = also a x
 
 -- ---- what holds of each variant of a content holds of what a node is sent
 
@@ -65,7 +58,7 @@ module _ (Good : List ℕ → Type 0) (place : ℕ) (content : List ℕ) where
         → (if b then Some (take 6 (drop 2 (rows_of (v ∷ variants) ++ rest))) else bytes_for node (length variants) (drop 8 (rows_of (v ∷ variants) ++ rest))) ≡ Some bytes
         → (bytes_for node (length variants) (rows_of variants ++ rest) ≡ Some bytes → Good (varied place bytes content)) → Good (varied place bytes content)
     found-by v variants rest bytes true good e others =
-        subst (λ (b : List ℕ). Good (varied place b content)) (sym (front-six v.bytes (rows_of variants) rest good.0) ∙ same_Some _ bytes e) good.1
+        subst (λ (b : List ℕ). Good (varied place b content)) (sym (front-of 6 v.bytes (rows_of variants) rest good.0) ∙ same_Some _ bytes e) good.1
     found-by v variants rest bytes false good e others =
         others (ap (bytes_for node (length variants)) (sym (behind-six v.bytes (rows_of variants) rest good.0)) ∙ e)
 

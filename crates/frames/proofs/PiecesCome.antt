@@ -36,11 +36,7 @@ module _ (l : Log) (key : List ℕ) (node : ℕ) where
 
   piece-of : (boot other : List ℕ) (number : ℕ) (count place : ℕ) (piece : PieceModel) → other ≡ boot → number ≡ piece.number → count ≡ piece.count → place ≡ piece.index
       → ComesIn l key node boot piece → ArrivedPiece (GivenIn l) key node other number count place piece.bytes
-  piece-of boot other number count place piece b n c i x =
-      subst (λ (y : List ℕ). ArrivedPiece (GivenIn l) key node y number count place piece.bytes) (sym b)
-      (subst (λ (y : ℕ). ArrivedPiece (GivenIn l) key node boot y count place piece.bytes) (sym n)
-      (subst (λ (y : ℕ). ArrivedPiece (GivenIn l) key node boot piece.number y place piece.bytes) (sym c)
-      (subst (λ (y : ℕ). ArrivedPiece (GivenIn l) key node boot piece.number piece.count y piece.bytes) (sym i) x)))
+  piece-of boot other number count place piece b n c i x = rw (b, n, c, i) x
 
   pub one-in : (boot other : List ℕ) (number : ℕ) (pieces : List (Option (List ℕ))) (piece : PieceModel) (place : ℕ) (bytes : List ℕ) → place ≡ piece.index → bytes ≡ piece.bytes
       → other ≡ boot → number ≡ piece.number → length pieces ≡ piece.count → ComesIn l key node boot piece → PiecesCame (GivenIn l) key node other number (length pieces) 0 pieces

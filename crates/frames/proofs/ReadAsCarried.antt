@@ -1,7 +1,7 @@
 -- What is read of a frame is what it carries.
-use Rattle.std.proofs.Common.{◌≡◌, ◌≢◌, ◌<◌, ◌+◌, ◌*◌, ◌%◌, ◌^◌, ℕ, zero, suc, true, false, List, [], ◌∷◌, ◌++◌, length, take, drop, refl, sym, ap, ◌∙◌, subst, append_assoc, Option, Some, None, arith}
+use Rattle.std.proofs.Common.{◌≡◌, ◌≢◌, ◌<◌, ◌+◌, ◌*◌, ◌%◌, ◌^◌, ℕ, suc, true, false, List, [], ◌∷◌, ◌++◌, length, take, drop, refl, sym, ap, ◌∙◌, subst, append_assoc, Option, Some, None, arith}
 use Rattle.std.specs.Prelude.{get_or}
-use Rattle.std.proofs.Math.Seq.{drop-append_seam, take-append_seam, take-add}
+use Rattle.std.proofs.Math.Seq.{drop-append_seam, drop-drop, take-append_seam, take-add}
 use Rattle.std.proofs.lemmas.List.{take_all}
 use Rattle.byteorder.specs.Endian.{big_bytes, big_number}
 use Rattle.byteorder.specs.Numbers.{big_number-reads_back}
@@ -28,16 +28,16 @@ same-kind Several Packets e = absurd (omega (arith, e))
 same-kind Several Piece e = absurd (omega (arith, e))
 same-kind Several Several e = refl
 
-boot-front : (b c r : List ℕ) → length b ≡ 16 → take 16 ((b ++ c) ++ r) ≡ b
-boot-front b c r l =
-    ap (λ (n : ℕ). take n ((b ++ c) ++ r)) (sym l) ∙ ap (take (length b)) (append_assoc b c r) ∙ take-append_seam b (c ++ r)
+pub front-of : (n : ℕ) (b c r : List ℕ) → length b ≡ n → take n ((b ++ c) ++ r) ≡ b
+front-of n b c r l =
+    ap (λ (m : ℕ). take m ((b ++ c) ++ r)) (sym l) ∙ ap (take (length b)) (append_assoc b c r) ∙ take-append_seam b (c ++ r)
 
 module _ (body : List ℕ) (put read : Head) (rest : List ℕ) (e : body ≡ head_bytes put ++ rest) (x : IsHeadOf body read) where
   pub kind-read : read.kind ≡ put.kind
   kind-read = same-kind put.kind read.kind (ap (λ (b : List ℕ). get_or b 1 0) (sym e) ∙ x.kind)
 
   pub boot-read : length put.boot ≡ 16 → read.boot ≡ put.boot
-  boot-read l = x.boot ∙ ap (λ (b : List ℕ). take 16 (drop 4 b)) e ∙ boot-front put.boot (big_bytes 8 put.counter) rest l
+  boot-read l = x.boot ∙ ap (λ (b : List ℕ). take 16 (drop 4 b)) e ∙ front-of 16 put.boot (big_bytes 8 put.counter) rest l
 
   pub to-read : put.to < 2 ^ 16 → read.to ≡ put.to
   to-read fits = x.to ∙ ap (λ (b : List ℕ). big_number 2 (drop 2 b)) e ∙ big_number-reads_back 2 put.to ((put.boot ++ big_bytes 8 put.counter) ++ rest) fits
@@ -129,24 +129,6 @@ AreCut packet index [] = Unit {0}
 AreCut packet index (None ∷ pieces) = AreCut packet (suc index) pieces
 AreCut packet index (Some bytes ∷ pieces) = (bytes ≡ take 1344 (drop (1344 * index) packet)) × AreCut packet (suc index) pieces
 
-drop-none : (A : Type 0) (n : ℕ) → drop {A = A} n [] ≡ []
-drop-none A zero = refl
-drop-none A (suc n) = refl
-
-next : (a b : ℕ) → suc (a + b) ≡ suc a + b
-next a b = omega arith
-
-pub drop-on : (A : Type 0) (a b : ℕ) (xs : List A) → drop b (drop a xs) ≡ drop (a + b) xs
-drop-on A zero b xs = ap (λ (n : ℕ). drop n xs) (omega arith)
-drop-on A (suc a) b [] = drop-none A b ∙ sym (drop-none A (suc a + b))
-drop-on A (suc a) b (x ∷ xs) = drop-on A a b xs ∙ ap (λ (n : ℕ). drop n (x ∷ xs)) (next a b)
-
-one-on : (index : ℕ) → 1344 * suc index ≡ 1344 * index + 1344
-one-on index = omega arith
-
-one-before : (n : ℕ) → 1344 + 1344 * n ≡ 1344 * suc n
-one-before n = omega arith
-
 joined-from : (packet : List ℕ) (index : ℕ) (pieces : List (Option (List ℕ))) → AreCut packet index pieces → is_whole pieces ≡ true
     → joined pieces ≡ take (1344 * length pieces) (drop (1344 * index) packet)
 joined-from packet index [] x w = refl
@@ -155,9 +137,11 @@ joined-from packet index (Some bytes ∷ pieces) x w =
     let left : List ℕ = drop (1344 * index) packet in
     let n : ℕ = length pieces in
     let rest : joined pieces ≡ take (1344 * n) (drop (1344 * suc index) packet) = joined-from packet (suc index) pieces x.1 w in
-    let shift : drop (1344 * suc index) packet ≡ drop 1344 left = ap (λ (m : ℕ). drop m packet) (one-on index) ∙ sym (drop-on ℕ (1344 * index) 1344 packet) in
+    let one_on : 1344 * suc index ≡ 1344 * index + 1344 = omega arith in
+    let all : 1344 + 1344 * n ≡ 1344 * suc n = omega arith in
+    let shift : drop (1344 * suc index) packet ≡ drop 1344 left = ap (λ (m : ℕ). drop m packet) one_on ∙ sym (drop-drop 1344 (1344 * index) packet) in
     ap (λ (b : List ℕ). b ++ joined pieces) x.0 ∙ ap (λ (r : List ℕ). take 1344 left ++ r) (rest ∙ ap (take (1344 * n)) shift) ∙ sym (take-add 1344 (1344 * n) left)
-    ∙ ap (λ (m : ℕ). take m left) (one-before n)
+    ∙ ap (λ (m : ℕ). take m left) all
 
 -- and all of them, joined, are the packet
 pub pieces-join : (packet : List ℕ) (pieces : List (Option (List ℕ))) → AreCut packet 0 pieces → is_whole pieces ≡ true → length pieces ≡ count_of packet → joined pieces ≡ packet

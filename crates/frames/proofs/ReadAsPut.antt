@@ -1,5 +1,5 @@
 -- What is read of a frame is what was put into it.
-use Rattle.std.proofs.Common.{◌≡◌, ◌<◌, ◌≤◌, ◌-◌, ◌/◌, ◌%◌, ◌^◌, ℕ, List, [], ◌∷◌, ◌++◌, length, take, drop, get_or, refl, sym, ap, ◌∙◌, arith}
+use Rattle.std.proofs.Common.{◌≡◌, ◌-◌, ◌/◌, ◌%◌, ℕ, List, [], ◌∷◌, ◌++◌, length, take, drop, get_or, refl, sym, ap, ◌∙◌, arith}
 use Rattle.std.specs.List.{AllByRecursion}
 use Rattle.std.proofs.Math.Seq.{drop-append_seam, take-append_seam}
 use Rattle.std.proofs.lemmas.List.{take-append-drop, length-append, length-drop, length-take}
@@ -9,10 +9,6 @@ use Rattle.sha2.specs.Sha256.{sha256}
 use Rattle.frames.specs.declared.head.Head.{Head}
 use Rattle.frames.specs.Frames.{packed, packed_behind, shared_front, IsShort, sealed, tag_of, head_bytes}
 use Rattle.frames.proofs.Shared.{shared-most, shared-same}
-
--- two bytes spell a length
-same_length : (n m : ℕ) → n < 2 ^ 16 → m < 2 ^ 16 → n / 256 % 256 ≡ m / 256 % 256 → n % 256 ≡ m % 256 → n ≡ m
-same_length n m n_fits m_fits high low = omega arith
 
 -- joined lists whose fronts have one length
 same_front : (p q u v : List ℕ) → length p ≡ length q → p ++ u ≡ q ++ v → p ≡ q
@@ -24,9 +20,6 @@ same_back p q u v l e = sym (drop-append_seam p u) ∙ ap (drop (length p)) e �
 -- what a packet shares with the one before it, and the rest, are the packet
 whole : (last p : List ℕ) → p ≡ take (shared_front last p) last ++ drop (shared_front last p) p
 whole last p = sym (take-append-drop (shared_front last p) p) ∙ ap (λ (l : List ℕ). l ++ drop (shared_front last p) p) (shared-same 255 last p)
-
-same_byte : (n m : ℕ) → n ≤ 255 → m ≤ 255 → n % 256 ≡ m % 256 → n ≡ m
-same_byte n m n_fits m_fits e = omega arith
 
 -- packets behind the same one are the same if their bytes are
 same_packet : (last p q : List ℕ) → shared_front last p ≡ shared_front last q → drop (shared_front last p) p ≡ drop (shared_front last q) q → p ≡ q
@@ -45,8 +38,8 @@ packed_behind_once last (p ∷ ps) (q ∷ qs) p_short q_short e =
     let high : n / 256 % 256 ≡ m / 256 % 256 = ap (λ (l : List ℕ). get_or l 1 0) e in
     let low : n % 256 ≡ m % 256 = ap (λ (l : List ℕ). get_or l 2 0) e in
     let behind : drop (shared_front last p) p ++ packed_behind p ps ≡ drop (shared_front last q) q ++ packed_behind q qs = ap (drop 3) e in
-    let shared = same_byte (shared_front last p) (shared_front last q) (shared-most 255 last p) (shared-most 255 last q) byte in
-    let same : n ≡ m = same_length n m (omega (arith, p_short.0)) (omega (arith, q_short.0)) high low in
+    let shared : shared_front last p ≡ shared_front last q = omega (arith, shared-most 255 last p, shared-most 255 last q, byte) in
+    let same : n ≡ m = omega (arith, p_short.0, q_short.0, high, low) in
     let same' = length-drop (shared_front last p) p ∙ same ∙ sym (length-drop (shared_front last q) q) in
     let first = same_packet last p q shared (same_front (drop (shared_front last p) p) (drop (shared_front last q) q) (packed_behind p ps) (packed_behind q qs) same' behind) in
     let back = same_back (drop (shared_front last p) p) (drop (shared_front last q) q) (packed_behind p ps) (packed_behind q qs) same' behind in

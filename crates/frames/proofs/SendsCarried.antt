@@ -1,9 +1,8 @@
 -- What is offered to the net below carries what was sent.
-use Rattle.std.proofs.Common.{◌≡◌, ◌≢◌, ◌≤◌, ◌<◌, ◌^◌, ℕ, List, [], ◌∷◌, ◌++◌, length, take, drop, refl, sym, ap, ◌∙◌, subst, append_assoc, inl, inr, Option, Some, None, arith}
+use Rattle.std.proofs.Common.{◌≡◌, ◌≤◌, ◌<◌, ◌^◌, ℕ, List, [], ◌∷◌, ◌++◌, length, take, drop, refl, sym, ap, ◌∙◌, subst, append_assoc, inl, inr, Option, Some, None, arith}
 use Rattle.std.specs.List.{AllByRecursion}
 use Rattle.std.proofs.lemmas.List.{append-nil, take_all}
-use Rattle.udp_net.specs.declared.net.Received.{Received}
-use Rattle.udp_net.specs.Logs.{Log, NetEvent, Lists, Answered, Offered, offering, receiving}
+use Rattle.udp_net.specs.Logs.{Log, NetEvent, Lists, Offered, listing, offering}
 use Rattle.frames.specs.declared.head.Kind.TheVariants.{Packets, Piece}
 use Rattle.frames.specs.declared.outlet.Seal.{Seal}
 use Rattle.frames.specs.Frames.{head_bytes, packed, sealed, IsShort}
@@ -33,21 +32,16 @@ module _ (Holds : NetEvent → Type 0) where
   adds-on (Some j) (Some k) (Some l) x y =
       (x.0 ++ y.0, y.1 ∙ ap (λ (m : Log). m ++ y.0) x.1 ∙ append_assoc j x.0 y.0, all-both NetEvent Holds x.0 y.0 x.2 y.2)
 
-  pub adds-one : (old new : Option Log) (node : ℕ) (bytes : List ℕ) → Lists old (offering node bytes) new → Holds (Offered (record { node = node; bytes = bytes })) → Adds Holds old new
-  adds-one old None node bytes ls h = tt
-  adds-one None (Some l) node bytes ls h = absurd ls
-  adds-one (Some o) (Some l) node bytes ls h = (Offered (record { node = node; bytes = bytes }) ∷ [], ls, (h, tt))
+  pub adds-one : (old new : Option Log) (e : NetEvent) → Lists old (listing e) new → Holds e → Adds Holds old new
+  adds-one old None e ls h = tt
+  adds-one None (Some l) e ls h = absurd ls
+  adds-one (Some o) (Some l) e ls h = (e ∷ [], ls, (h, tt))
 
--- it lists no more, or an answer
+-- it lists no more
 pub adds-same : (Holds : NetEvent → Type 0) (old new : Option Log) → Lists old (λ l. l) new → Adds Holds old new
 adds-same Holds old None x = tt
 adds-same Holds None (Some l) x = absurd x
 adds-same Holds (Some o) (Some l) x = ([], x ∙ sym (append-nil o), tt)
-
-pub adds-answer : (old new : Option Log) (answer : Received) → Lists old (receiving answer) new → Adds IsAnswer old new
-adds-answer old None answer x = tt
-adds-answer None (Some l) answer x = absurd x
-adds-answer (Some o) (Some l) answer x = (Answered answer ∷ [], x, (tt, tt))
 
 -- what was received by now, and then a packet is given and a frame is taken
 pub received-on : {N : Type 0} (log : N → Option Log) (old mid given new : FramedModel N) → HasReceived log old mid
@@ -90,21 +84,18 @@ waited log old mid new f lists outlets node seal = record {
   same = record { node = node ∙ f.same.node; seal = seal ∙ f.same.seal };
 }
 
-packets-no-piece : Packets ≢ Piece
-packets-no-piece e = cc
-
 module _ (s : Seal) (long : ℕ → ℕ → List ℕ) (sent : List (List ℕ)) where
   -- the packets that wait, in one frame
   pub flush-adds : (o : OutletModel) (old new : Option Log) (body : List ℕ) → body ≡ head_bytes (head_for Packets o s) ++ packed o.waiting → o.node < 2 ^ 16 → AllByRecursion IsShort o.waiting
       → AreOf sent o.waiting
       → Lists old (offering o.node (sealed s.key body)) new → Adds (IsFrameOf s long sent) old new
   flush-adds o old new body e fits short of ls =
-      adds-one (IsFrameOf s long sent) old new o.node (sealed s.key body) ls
+      adds-one (IsFrameOf s long sent) old new (Offered (record { node = o.node; bytes = sealed s.key body })) ls
       (inl (record {
         head = head_for Packets o s;
         content = packed o.waiting;
         frame_is = ap (sealed s.key) e;
-        kind = packets-no-piece;
+        kind = λ e. cc;
         boot_is = refl;
         to_fits = fits;
         parts = λ node part is. record { packets = o.waiting; content_is = is.0; short = short; sent = of };
@@ -115,7 +106,7 @@ module _ (s : Seal) (long : ℕ → ℕ → List ℕ) (sent : List (List ℕ)) w
       → o.node < 2 ^ 16 → number < 2 ^ 64 → index < 2 ^ 16 → count_of packet < 2 ^ 16 → long o.node number ≡ packet → StandsIn sent packet
       → Lists old (offering o.node (sealed s.key body)) new → Adds (IsFrameOf s long sent) old new
   piece-adds o old new body packet number index e node_fits number_fits index_fits count_fits same of ls =
-      adds-one (IsFrameOf s long sent) old new o.node (sealed s.key body) ls
+      adds-one (IsFrameOf s long sent) old new (Offered (record { node = o.node; bytes = sealed s.key body })) ls
       (inr (record {
         head = head_for Piece o s;
         number = number;

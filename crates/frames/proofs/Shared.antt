@@ -1,6 +1,5 @@
 -- What packets share that stand one behind another.
-use Rattle.std.proofs.Common.{◌≡◌, ◌<◌, ◌≤◌, ◌+◌, ◌-◌, ◌⊎◌, ℕ, zero, suc, Bool, true, false, cond, not, ◌%◌, min, nat_eq, nat_le, nat_lt, eqb-true, List, [], ◌∷◌, ◌++◌, length, take, drop, get_or, slice_get, None, Some, refl, sym, ap, ◌∙◌, inl, inr, arith}
-use Rattle.std.specs.Prelude.{Result, Ok, Err, IfOk}
+use Rattle.std.proofs.Common.{◌≡◌, ◌<◌, ◌≤◌, ◌+◌, ◌-◌, ◌⊎◌, ℕ, zero, suc, Bool, true, false, cond, not, ◌%◌, min, nat_eq, nat_lt, eqb-true, List, [], ◌∷◌, ◌++◌, length, take, drop, get_or, slice_get, None, Some, refl, sym, ap, ◌∙◌, inl, inr, arith}
 use Rattle.std.proofs.lemmas.Bool.{cases_lt}
 use Rattle.std.proofs.lemmas.Bool.Decides.{nat_tests}
 use Rattle.std.proofs.Math.ListN.{drop_of_length-le}
@@ -131,12 +130,6 @@ differs zero x y one other is = refl
 differs (suc n) x y one other is = ap (λ (b : Bool). cond b (suc (shared_within n one other)) 0) is
 
 -- no more: one has no more, or the other, or they differ there
-pub first-ends : (k n : ℕ) (one other : List ℕ) → length one ≤ k → shared_within n (drop k one) (drop k other) ≡ 0
-first-ends k n one other le = ap (λ (l : List ℕ). shared_within n l (drop k other)) (drop_of_length-le one le) ∙ shared-nothing n (drop k other)
-
-pub second-ends : (k n : ℕ) (one other : List ℕ) → length other ≤ k → shared_within n (drop k one) (drop k other) ≡ 0
-second-ends k n one other le = ap (λ (l : List ℕ). shared_within n (drop k one) l) (drop_of_length-le other le) ∙ shared-with-nothing n (drop k one)
-
 pub they-differ : (k n : ℕ) (one other : List ℕ) → k < length one → k < length other → nat_eq (get_or one k 0) (get_or other k 0) ≡ false
     → shared_within n (drop k one) (drop k other) ≡ 0
 they-differ k n one other first second is =
@@ -149,8 +142,8 @@ pub shares-at-most : (k n : ℕ) (one other : List ℕ) → (n ≤ k) ⊎ ((leng
 shares-at-most k n one other (inl le) =
     let none : n - k ≡ 0 = omega arith in
     ap (λ (m : ℕ). shared_within m (drop k one) (drop k other)) none
-shares-at-most k n one other (inr (inl le)) = first-ends k (n - k) one other le
-shares-at-most k n one other (inr (inr le)) = second-ends k (n - k) one other le
+shares-at-most k n one other (inr (inl le)) = ap (λ (l : List ℕ). shared_within (n - k) l (drop k other)) (drop_of_length-le one le) ∙ shared-nothing (n - k) (drop k other)
+shares-at-most k n one other (inr (inr le)) = ap (λ (l : List ℕ). shared_within (n - k) (drop k one) l) (drop_of_length-le other le) ∙ shared-with-nothing (n - k) (drop k one)
 
 pub reached : (k one other : ℕ) → min (min 255 one) other ≤ k → (255 ≤ k) ⊎ ((one ≤ k) ⊎ (other ≤ k))
 reached k one other le =
@@ -180,9 +173,6 @@ pub length-packed-more : (packets : List (List ℕ)) (packet : List ℕ)
 length-packed-more packets packet =
     ap length (packed-more [] packets packet) ∙ length-append (packed packets) (entry_bytes (last_behind [] packets) packet)
     ∙ ap (λ (n : ℕ). length (packed packets) + n) (length-entry (last_behind [] packets) packet)
-
-pub le-true : (a b : ℕ) → nat_le a b ≡ true → a ≤ b
-le-true a b e = grind (arith, nat_tests)
 
 pub apart : (a b : ℕ) → (a ≡ b → ⊥) → nat_eq a b ≡ false
 apart a b differ = by (nat_eq a b) refl
@@ -249,11 +239,6 @@ at-any (x ∷ l) (suc k) d e within = at-any l k d e (lt-suc k (length l) within
   where
     lt-suc : (a b : ℕ) → true ≡ nat_lt (suc a) (suc b) → true ≡ nat_lt a b
     lt-suc a b h = grind (arith, nat_tests)
-
--- what a good answer says
-pub on-good : {E : Type 0} (r : Result Bool E) (P Q : Type 0) → (P → Q) → IfOk r (λ good. good ≡ true → P) → IfOk r (λ good. good ≡ true → Q)
-on-good (Ok x) P Q so h = λ good. so (h good)
-on-good (Err e) P Q so h = tt
 
 -- ---- texts that are the same
 

@@ -1,6 +1,6 @@
 //! Long packets of which some pieces came.
 
-ghost use Rattle.std.specs.Prelude.{◌≡◌, ◌≤◌, ◌+◌, ◌++◌, ℕ, List, [], None, length, replicate, vec_len, vec_capacity, IfOk, IfSome, IsTrue, OnOk};
+ghost use Rattle.std.specs.Prelude.{◌≡◌, ◌≤◌, ◌+◌, ◌++◌, ℕ, List, [], length, vec_len, vec_capacity, IfOk, IfSome, IsTrue, OnOk};
 ghost use Rattle.byteorder.specs.Endian.{big_bytes};
 ghost use Rattle.udp_net.specs.Logs.{Log};
 ghost use Rattle.frames.specs.Arrivals.{ArrivedInPieces, GivenIn, is_whole, joined};
@@ -114,27 +114,21 @@ fn join(pieces: &[Option<Bytes>], out: &mut Vec<u8>) -> Result<(), AllocError>
     join(rest, out)
 }
 
-// So many places, at which there is nothing.
-fn places(alloc: Global, count: usize) -> Result<Vec<Option<Bytes>>, AllocError>
-    ensures { IfOk result (λ p. p.items ≡ replicate count None) }
-{
-    let mut pieces = Vec::with_capacity(alloc, count)?;
-    for _ in 0..count {
-        pieces.push(None)?;
-    }
-    Ok(pieces)
-}
-
 impl Partial {
     // A packet of the start with this boot id, of which no piece came.
     fn new(alloc: Global, boot: &[u8; BOOT], piece: &Piece<'_>) -> Result<Partial, AllocError>
         ensures part { IfOk result (λ p. (l : Log) (key : List ℕ) (node : ℕ) → IsPartOf l key node p) }
         ensures its { IfOk result (IsPartialOf boot.now piece.now) }
     {
+        let count = usize::from(piece.count);
+        let mut pieces = Vec::with_capacity(alloc, count)?;
+        for _ in 0..count {
+            pieces.push(None)?;
+        }
         Ok(Partial {
             boot: *boot,
             number: piece.number,
-            pieces: places(alloc, usize::from(piece.count))?,
+            pieces,
         })
     }
 

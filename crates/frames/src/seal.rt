@@ -17,9 +17,9 @@ pub(crate) fn seal(key: &Key, body: &mut Vec<u8>)
     put(&tag[..TAG], body);
 }
 
-// The body of a frame, where its tag is right.
-fn body_of<'a>(key: &Key, frame: &'a [u8]) -> Option<&'a [u8]>
-    ensures { IfSome result (λ body. frame.now ≡ sealed key.now body.now) }
+// The head of a frame whose tag is right, and its content.
+pub(crate) fn open<'a>(key: &Key, frame: &'a [u8]) -> Option<(Head, &'a [u8])>
+    ensures { IfSome result (λ x. IsSealed key.now frame.now x.0 x.1.now) }
 {
     if frame.len() < TAG {
         return None;
@@ -28,14 +28,6 @@ fn body_of<'a>(key: &Key, frame: &'a [u8]) -> Option<&'a [u8]>
     if !key.verifies(body, tag) {
         return None;
     }
-    Some(body)
-}
-
-// The head of a frame whose tag is right, and its content.
-pub(crate) fn open<'a>(key: &Key, frame: &'a [u8]) -> Option<(Head, &'a [u8])>
-    ensures { IfSome result (λ x. IsSealed key.now frame.now x.0 x.1.now) }
-{
-    let body = body_of(key, frame)?;
     let head = head_of(body)?;
     Some((head, &body[28..]))
 }

@@ -1,8 +1,9 @@
 use Rattle.std.proofs.Common.{◌≡◌, ◌≤◌, ◌++◌, ◌∷◌, [], ℕ, List, length, take, drop, ap, arith, refl, subst, sym, ◌∙◌}
 use Rattle.std.proofs.lemmas.List.{take-append-drop}
+use Rattle.std.proofs.lemmas.Result.{IfOk-weaker}
 use Rattle.byteorder.specs.Endian.{big_bytes}
 use Rattle.frames.specs.Frames.{IsRead, shared_front}
-use Rattle.frames.proofs.Shared.{front-is, on-good, reads-more}
+use Rattle.frames.proofs.Shared.{front-is, reads-more}
 use Rattle.frames.proofs.content.+read_packets.Goals as goal
 
 pub returns : goal.returns
@@ -28,10 +29,9 @@ returns t c =
     let good = c.if-not-shares_no_more.ensures in
     let within : shared ≤ length last = subst (λ (l : List ℕ). shared ≤ length l) last_is (good.within refl) in
     let most : shared_front last (take shared last ++ others) ≡ shared = subst (λ (l : List ℕ). shared_front l (take shared l ++ others) ≡ shared) last_is (good.most refl) in
-    on-good c.read_packets.result (IsRead packet c.push.new.self rest c.read_packets.new.packets)
-    (IsRead last c.args.packets.now c.args.content.now c.read_packets.new.packets)
-    (λ read.
+    IfOk-weaker c.read_packets.result _ _
+    (λ good read yes.
     reads-more last c.args.packets.now c.push.new.self c.read_packets.new.packets shared others rest c.args.content.now c.in-Some.ensures.most.0 within
     (omega (arith, c.split_at-2.ensures.front_len, c.in-Some.ensures.most.1)) most pushed content
-    (subst (λ (l : List ℕ). IsRead l c.push.new.self rest c.read_packets.new.packets) is read))
+    (subst (λ (l : List ℕ). IsRead l c.push.new.self rest c.read_packets.new.packets) is (read yes)))
     c.read_packets.ensures

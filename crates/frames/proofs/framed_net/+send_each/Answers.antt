@@ -11,4 +11,4 @@ returns-clause-grows g t c =
 pub returns-clause-adds : goal.returns-clause-adds
 returns-clause-adds g t c = λ s long sent carries.
     adds-on (IsFrameOf s long sent) (g.N.Net.log c.args.net.now) (g.N.Net.log c.send.new.self) (g.N.Net.log c.send_each.new.net)
-    (adds-one (IsFrameOf s long sent) (g.N.Net.log c.args.net.now) (g.N.Net.log c.send.new.self) _ _ c.send.ensures.lists carries) (c.send_each.ensures.adds s long sent carries)
+    (adds-one (IsFrameOf s long sent) (g.N.Net.log c.args.net.now) (g.N.Net.log c.send.new.self) _ c.send.ensures.lists carries) (c.send_each.ensures.adds s long sent carries)

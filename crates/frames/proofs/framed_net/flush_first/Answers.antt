@@ -8,7 +8,7 @@ use Rattle.frames.specs.Gathered.{AreVariantsOf}
 use Rattle.frames.specs.Outlets.{OutletModel}
 use Rattle.frames.specs.Parts.{rows_of}
 use Rattle.frames.specs.Sendings.{AreLongs, AreOf, IsFrameOf}
-use Rattle.frames.proofs.GatheredSends.{first-count, first-rows, first-variants, longs-gathered, several-carries, wait-gathered, ways-gathered}
+use Rattle.frames.proofs.GatheredSends.{all-gathered, first-count, first-rows, first-variants, several-carries, ways-gathered}
 use Rattle.frames.proofs.Logs.{grows-listing, grows-none, grows-on, stays}
 use Rattle.frames.proofs.SendsCarried.{adds-none, adds-on, adds-one, longs-on, next-on, same-ways}
 use Rattle.frames.proofs.framed_net.flush_first.Goals as goal
@@ -28,10 +28,10 @@ returns-then-is_empty-clause-sends g c = λ long sent of known.
     let f = c.flush-then-is_empty in
     let s = f.ensures.sends long sent of.0 in (
       s.0,
-      (s.1, wait-gathered _ _ sent _ c.args.rest.now _ c.gather.new.outlets c.gather.ensures of.1),
+      (s.1, all-gathered _ _ (λ (o : OutletModel). AreOf sent o.waiting) (λ o of. tt) _ c.args.rest.now _ c.gather.new.outlets c.gather.ensures of.1),
       (
         longs-on long c.args.first.now f.new.self f.ensures.node f.ensures.longs known.0,
-        longs-gathered _ _ long _ c.args.rest.now _ c.gather.new.outlets c.gather.ensures known.1,
+        all-gathered _ _ (AreLongs long) (λ o known. known) _ c.args.rest.now _ c.gather.new.outlets c.gather.ensures known.1,
       ),
     )
 
@@ -82,10 +82,10 @@ returns-clause-sends g c = λ long sent of known.
     subst (Carries c.args.seal.now.key c.args.seal.now.boot long (StandsIn sent)) (sym (c.as_slice-frame.ensures.value ∙ c.several_frame-frame.ensures.is))
     (several-carries c.args.seal.now long sent c.args.counter.now place variants first c.several_frame-frame.ensures.fits c.in-Some.ensures.near count c.content-content.ensures.short of.0 good) in (
       adds-on (IsFrameOf c.args.seal.now long sent) (g.N.Net.log c.args.net.now) (g.N.Net.log c.send.new.self) (g.N.Net.log c.send_each.new.net)
-          (adds-one (IsFrameOf c.args.seal.now long sent) (g.N.Net.log c.args.net.now) (g.N.Net.log c.send.new.self) _ _ c.send.ensures.lists carries)
+          (adds-one (IsFrameOf c.args.seal.now long sent) (g.N.Net.log c.args.net.now) (g.N.Net.log c.send.new.self) _ c.send.ensures.lists carries)
           (c.send_each.ensures.adds c.args.seal.now long sent carries),
-      (subst (λ (x : OutletModel). AreOf sent x.waiting) (sym c.clear.ensures) tt, wait-gathered place content sent _ rest taken new c.gather.ensures of.1),
-      (subst (AreLongs long) (sym c.clear.ensures) known.0, longs-gathered place content long _ rest taken new c.gather.ensures known.1),
+      (subst (λ (x : OutletModel). AreOf sent x.waiting) (sym c.clear.ensures) tt, all-gathered place content (λ (o : OutletModel). AreOf sent o.waiting) (λ o of. tt) _ rest taken new c.gather.ensures of.1),
+      (subst (AreLongs long) (sym c.clear.ensures) known.0, all-gathered place content (AreLongs long) (λ o known. known) _ rest taken new c.gather.ensures known.1),
     )
 
 pub returns-clause-grows : goal.returns-clause-grows

@@ -1,7 +1,8 @@
 use Rattle.std.proofs.Common.{arith, refl}
+use Rattle.frames.specs.Nets.{IsAnswer}
 use Rattle.frames.proofs.KeepsCame.{keeps-on, keeps-receiving}
 use Rattle.frames.proofs.Logs.{failed-on, grows-listing, stays}
-use Rattle.frames.proofs.SendsCarried.{adds-answer}
+use Rattle.frames.proofs.SendsCarried.{adds-one}
 use Rattle.frames.proofs.framed_net.FramedNet.take.Goals as goal
 
 pub invariant_of-self : goal.invariant_of-self
@@ -24,7 +25,7 @@ returns-in_err-count g c = rw (← c.self.view_is) (record {
   failed = failed-on _ _ c.from_residual.result c.in_err-count.ensures.failed c.from_residual.ensures.0;
   unsent = c.receive.ensures.unsent;
   lost = stays c.self.inside.lost;
-  answers = adds-answer (g.N.Net.log c.self.inside.inner) (g.N.Net.log c.receive.new.self) _ c.receive.ensures.lists;
+  answers = adds-one IsAnswer (g.N.Net.log c.self.inside.inner) (g.N.Net.log c.receive.new.self) _ c.receive.ensures.lists tt;
   outlets = refl;
   same = record { node = refl; seal = refl };
 })
@@ -34,7 +35,7 @@ returns-in_default g c = rw (← c.self.view_is) (record {
   failed = c.in_ok-count.ensures.failed;
   unsent = c.receive.ensures.unsent;
   lost = stays c.self.inside.lost;
-  answers = adds-answer (g.N.Net.log c.self.inside.inner) (g.N.Net.log c.receive.new.self) _ c.receive.ensures.lists;
+  answers = adds-one IsAnswer (g.N.Net.log c.self.inside.inner) (g.N.Net.log c.receive.new.self) _ c.receive.ensures.lists tt;
   outlets = refl;
   same = record { node = refl; seal = refl };
 })
@@ -44,7 +45,7 @@ returns g c = rw (← c.self.view_is) (record {
   failed = c.in_ok-count.ensures.failed;
   unsent = c.receive.ensures.unsent;
   lost = omega (arith, c.saturating_add-self-inside.ensures);
-  answers = adds-answer (g.N.Net.log c.self.inside.inner) (g.N.Net.log c.receive.new.self) _ c.receive.ensures.lists;
+  answers = adds-one IsAnswer (g.N.Net.log c.self.inside.inner) (g.N.Net.log c.receive.new.self) _ c.receive.ensures.lists tt;
   outlets = refl;
   same = record { node = c.open-opened.ensures.node; seal = refl };
 })

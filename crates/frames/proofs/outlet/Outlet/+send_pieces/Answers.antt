@@ -1,5 +1,5 @@
 use Rattle.std.proofs.Common.{◌≡◌, ◌+◌, ◌-◌, ◌*◌, ◌++◌, ◌∙◌, ap, arith, drop, refl, rules, subst, take, ℕ, List}
-use Rattle.std.proofs.lemmas.Result.{IfOk-from_err}
+use Rattle.std.proofs.lemmas.Result.{IfOk-from_err, on_ok_weaker}
 use Rattle.udp_net.specs.Logs.{Lists, offering}
 use Rattle.frames.specs.declared.head.Kind.TheVariants.{Piece}
 use Rattle.frames.specs.declared.outlet.Seal.{Seal}
@@ -8,7 +8,7 @@ use Rattle.frames.specs.Frames.{head_bytes, sealed}
 use Rattle.frames.specs.Outlets.{OutletModel, head_for}
 use Rattle.frames.specs.Partials.{piece_bytes}
 use Rattle.frames.specs.Sendings.{IsFrameOf}
-use Rattle.frames.proofs.AllPieces.{no-pieces, on-ok, pieces-on}
+use Rattle.frames.proofs.AllPieces.{no-pieces, pieces-on}
 use Rattle.frames.proofs.Logs.{grows-none, grows-on}
 use Rattle.frames.proofs.SendsCarried.{adds-on, piece-adds}
 use Rattle.frames.proofs.outlet.Outlet.+send_pieces.Goals as goal
@@ -34,7 +34,7 @@ returns-clause-pieces g t c =
     let body = body-is c.args.self.now c.args.seal.now c.args.number c.args.index c.args.count _ c.args.packet.now c.put_piece.new.out.items (search rules) c.piece_at-bytes.ensures.piece c.requires.count in
     let first =
     subst (λ (b : List ℕ). Lists (g.N.Net.log c.args.net.now) (offering c.args.self.now.node (sealed c.args.seal.now.key b)) (g.N.Net.log c.offer.new.net)) body c.offer.ensures.lists in
-    on-ok c.send_pieces.result _ _
+    on_ok_weaker c.send_pieces.result
     (λ rest.
     pieces-on c.args.seal.now c.args.self.now.node c.args.self.now.frames c.args.number c.args.index (c.args.count - c.args.index) c.args.packet.now (g.N.Net.log c.args.net.now) (g.N.Net.log c.offer.new.net)
     (g.N.Net.log c.send_pieces.new.net) c.offer.new.self.node c.offer.new.self.frames (c.args.index + 1) (c.args.count - (c.args.index + 1)) rest first c.offer.ensures.node c.offer.ensures.frames (omega arith)

@@ -1,6 +1,7 @@
 use Rattle.std.proofs.Common.{arith, subst, sym}
+use Rattle.std.proofs.lemmas.Result.{on_ok_weaker}
 use Rattle.frames.specs.Sendings.{Adds, AreLongs, AreOf, IsFrameOf}
-use Rattle.frames.proofs.AllPieces.{long-behind, on-ok}
+use Rattle.frames.proofs.AllPieces.{long-behind}
 use Rattle.frames.proofs.Logs.{grows-on}
 use Rattle.frames.proofs.Opened.{if-ok}
 use Rattle.frames.proofs.SendsCarried.{adds-none, adds-on, longs-on, numbered-from}
@@ -47,7 +48,7 @@ returns-then-packet-gt-WHOLE-clause-grows g c =
 
 pub returns-then-packet-gt-WHOLE-clause-pieces : goal.returns-then-packet-gt-WHOLE-clause-pieces
 returns-then-packet-gt-WHOLE-clause-pieces g c =
-    on-ok c.send_long.result _ _
+    on_ok_weaker c.send_long.result
     (λ pieces is_long within.
     long-behind c.args.seal.now c.args.packet.now c.args.self.now c.flush.new.self c.send_long.new.self.longs.next (g.N.Net.log c.args.net.now) (g.N.Net.log c.flush.new.net)
     (g.N.Net.log c.send_long.new.net) c.in_ok-flush.ensures.node c.in_ok-flush.ensures.frames c.in_ok-flush.ensures.longs (pieces within) c.in_ok-flush.ensures.lists)

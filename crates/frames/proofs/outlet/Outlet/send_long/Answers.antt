@@ -1,13 +1,13 @@
 use Rattle.std.proofs.Common.{◌≡◌, ◌≤◌, ◌<◌, ◌-◌, ◌∙◌, ap, arith, subst, sym, ℕ, Option}
 use Rattle.std.specs.Prelude.{IfSome}
-use Rattle.std.proofs.lemmas.Result.{IfOk-from_err}
+use Rattle.std.proofs.lemmas.Result.{IfOk-from_err, on_ok_weaker}
 use Rattle.frames.specs.declared.longs.Longs.{Longs}
 use Rattle.udp_net.specs.Logs.{Lists}
 use Rattle.frames.specs.Carried.{offering_long}
 use Rattle.frames.specs.Longs.{AreKnown, HasNumber, IsNumbered, number_for}
 use Rattle.frames.specs.Outlets.{OutletModel}
 use Rattle.frames.specs.Sendings.{AreLongs, IsFrameOf}
-use Rattle.frames.proofs.AllPieces.{all-pieces, on-ok}
+use Rattle.frames.proofs.AllPieces.{all-pieces}
 use Rattle.frames.proofs.Logs.{grows-none}
 use Rattle.frames.proofs.SendsCarried.{adds-none}
 use Rattle.frames.proofs.outlet.Outlet.send_long.Goals as goal
@@ -40,7 +40,7 @@ returns-clause-sends g c = λ long sent known stands numbered.
 
 pub returns-clause-pieces : goal.returns-clause-pieces
 returns-clause-pieces g c =
-    on-ok c.send_pieces.result _ _
+    on_ok_weaker c.send_pieces.result
     (λ pieces within taken.
     let has : HasNumber c.args.packet.now c.self.inside.longs c.number.new.self c.in-Some.number =
     subst (λ (o : Option ℕ). IfSome o (HasNumber c.args.packet.now c.self.inside.longs c.number.new.self)) c.in-Some.is c.in_ok-number.ensures.number in

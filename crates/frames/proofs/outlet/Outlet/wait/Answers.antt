@@ -1,10 +1,11 @@
 use Rattle.std.proofs.Common.{◌≡◌, true, ◌≤◌, ◌+◌, ℕ, List, [], ◌∷◌, ◌++◌, length, ap, refl, subst, sym, ◌∙◌, arith}
+use Rattle.std.proofs.lemmas.Bool.{leb-true}
 use Rattle.std.specs.List.{AllByRecursion}
 use Rattle.frames.specs.Frames.{bytes_behind, last_behind, packed, shared_front, IsShort}
 use Rattle.frames.specs.Outlets.{OutletModel, has_place}
 use Rattle.frames.specs.Arrivals.{StandsIn}
 use Rattle.frames.specs.Sendings.{AreOf}
-use Rattle.frames.proofs.Shared.{le-true, length-packed-more, packed-more}
+use Rattle.frames.proofs.Shared.{length-packed-more, packed-more}
 use Rattle.frames.proofs.PiecesCome.{all-push}
 use Rattle.frames.proofs.outlet.Outlet.wait.Goals as goal
 
@@ -18,7 +19,7 @@ invariant_of-self-2 c =
     let content : c.put_packet.new.out.items ≡ packed (w ++ packet ∷ []) =
     c.put_packet.ensures.items ∙ ap (λ (l : List ℕ). l ++ bytes_behind c.shared_front-shared.result packet) (c.reserve.ensures.items ∙ c.self.invariant.1)
     ∙ ap (λ (n : ℕ). packed w ++ bytes_behind n packet) shared ∙ sym (packed-more [] w packet) in
-    let place : length packet + 3 + length (packed w) ≤ 1356 = le-true _ _ (subst (λ (o : OutletModel). has_place packet o ≡ true) (sym is) c.requires) in (
+    let place : length packet + 3 + length (packed w) ≤ 1356 = leb-true _ _ (subst (λ (o : OutletModel). has_place packet o ≡ true) (sym is) c.requires) in (
       subst (AllByRecursion IsShort) (sym waits) (all-push IsShort w packet c.self.invariant.0 (omega (arith, place))),
       content ∙ ap packed (sym waits),
       omega (arith, ap length content, length-packed-more w packet, place),

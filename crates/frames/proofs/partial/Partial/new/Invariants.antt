@@ -1,5 +1,5 @@
 use Rattle.std.proofs.Common.{◌≡◌, replicate, None}
-use Rattle.frames.proofs.partial.places.Given as goal
+use Rattle.frames.proofs.partial.Partial.new.Given as goal
 
 abbrev pub invariant-loop : goal.invariant-loop
 invariant-loop l = l.pieces.items ≡ replicate l.counter None
