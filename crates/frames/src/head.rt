@@ -1,6 +1,6 @@
 //! What stands before the content of a frame.
 
-ghost use Rattle.std.specs.Prelude.{◌≡◌, ◌≤◌, ◌+◌, ◌++◌, length, take, vec_len, vec_capacity, IfSome};
+ghost use Rattle.std.specs.Prelude.{◌≡◌, ◌≤◌, ◌+◌, ◌++◌, length, vec_len, vec_capacity, IfSome};
 ghost use Rattle.frames.specs.Frames.{kind_number, head_bytes, IsHeadOf};
 
 use crate::{BOOT, HEAD};
@@ -69,16 +69,6 @@ pub(crate) fn put_head(head: &Head, out: &mut Vec<u8>)
     put_u64(head.counter, out);
 }
 
-// The boot id at the front of some bytes.
-fn boot_at(bytes: &[u8]) -> [u8; BOOT]
-    requires { 16 ≤ length bytes.now }
-    ensures { result ≡ take 16 bytes.now }
-{
-    let mut boot = [0; BOOT];
-    boot.copy_from_slice(&bytes[..BOOT]);
-    boot
-}
-
 // The head of a frame, if it has one.
 pub(crate) fn head_of(body: &[u8]) -> Option<Head>
     ensures { IfSome result (λ h. IsHeadOf body.now h) }
@@ -88,10 +78,12 @@ pub(crate) fn head_of(body: &[u8]) -> Option<Head>
     }
     let kind = kind_of(body[1])?;
     let to = Node::new(BigEndian::read_u16(&body[2..]))?;
+    let mut boot = [0; BOOT];
+    boot.copy_from_slice(&body[4..4 + BOOT]);
     Some(Head {
         kind,
         to,
-        boot: boot_at(&body[4..]),
+        boot,
         counter: BigEndian::read_u64(&body[20..]),
     })
 }

@@ -1,7 +1,6 @@
 //! Long packets of which some pieces came.
 
 ghost use Rattle.std.specs.Prelude.{◌≡◌, ◌≤◌, ◌+◌, ◌++◌, ℕ, List, [], length, vec_len, vec_capacity, IfOk, IfSome, IsTrue, OnOk};
-ghost use Rattle.byteorder.specs.Endian.{big_bytes};
 ghost use Rattle.udp_net.specs.Logs.{Log};
 ghost use Rattle.frames.specs.Arrivals.{ArrivedInPieces, GivenIn, is_whole, joined};
 ghost use Rattle.frames.specs.Partials.{IsPieceIn, piece_bytes};
@@ -70,24 +69,15 @@ pub(crate) fn piece_of(content: &[u8]) -> Option<Piece<'_>>
     })
 }
 
-// Appends what stands before the bytes of a piece.
-fn put_piece_head(number: u64, index: u16, count: u16, out: &mut Vec<u8>)
-    requires { vec_len out.old + 12 ≤ vec_capacity out.old }
-    ensures items { out.new.items ≡ out.old.items ++ (big_bytes 8 number ++ big_bytes 2 index ++ big_bytes 2 count) }
-    ensures room { vec_capacity out.old ≤ vec_capacity out.new }
-{
-    put_u64(number, out);
-    put_u16(index, out);
-    put_u16(count, out);
-}
-
 // Appends a piece.
 pub(crate) fn put_piece(number: u64, index: u16, count: u16, bytes: &[u8], out: &mut Vec<u8>)
     requires { vec_len out.old + 12 + length bytes.now ≤ vec_capacity out.old }
     ensures items { out.new.items ≡ out.old.items ++ piece_bytes (record { number = number; index = index; count = count; bytes = bytes.now }) }
     ensures room { vec_capacity out.old ≤ vec_capacity out.new }
 {
-    put_piece_head(number, index, count, out);
+    put_u64(number, out);
+    put_u16(index, out);
+    put_u16(count, out);
     put(bytes, out);
 }
 

@@ -17,16 +17,6 @@ pub(crate) struct Variant {
     pub(crate) bytes: [u8; VARIED],
 }
 
-// Six bytes as an array.
-fn six_of(bytes: &[u8]) -> [u8; VARIED]
-    requires { length bytes.now ≡ 6 }
-    ensures { result ≡ bytes.now }
-{
-    let mut six = [0; VARIED];
-    six.copy_from_slice(bytes);
-    six
-}
-
 // What another content has in place of the six bytes that one has at a place, if it is the same but for these.
 pub(crate) fn variant_of(content: &[u8], other: &[u8], place: usize) -> Option<[u8; VARIED]>
     ensures is { IfSome result (λ bytes. varied place bytes content.now ≡ other.now) }
@@ -42,7 +32,9 @@ pub(crate) fn variant_of(content: &[u8], other: &[u8], place: usize) -> Option<[
     if !is_same_text(front, other_front) || !is_same_text(back, other_back) {
         return None;
     }
-    Some(six_of(bytes))
+    let mut six = [0; VARIED];
+    six.copy_from_slice(bytes);
+    Some(six)
 }
 
 // Appends the rows of some nodes.

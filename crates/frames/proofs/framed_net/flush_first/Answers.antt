@@ -1,5 +1,4 @@
 use Rattle.std.proofs.Common.{◌≡◌, ◌≤◌, ◌∙◌, ap, arith, length, refl, subst, sym, ℕ, List}
-use Rattle.std.proofs.lemmas.Result.{IfOk-from_err}
 use Rattle.frames.specs.declared.several.Variant.{Variant}
 use Rattle.frames.specs.Arrivals.{StandsIn}
 use Rattle.frames.specs.Carried.{Carries}
@@ -100,12 +99,11 @@ returns-clause-ways g c = (
   ways-gathered c.in-Some.place c.content-content.result.now _ c.args.rest.now c.gather.new.variants.items c.gather.new.outlets c.gather.ensures,
 )
 
-pub returns-in_err-empty : goal.returns-in_err-empty
-returns-in_err-empty g c = record {
-  failed = refl;
-  unsent = stays (g.N.Net.unsent c.args.net.now);
-  grows = grows-none (g.N.Net.log c.args.net.now);
-  sends = λ long sent of known. (adds-none (IsFrameOf c.args.seal.now long sent) (g.N.Net.log c.args.net.now), of, known);
-  ways = (refl, stays c.args.first.now.longs.next, same-ways c.args.rest.now);
-  goes = IfOk-from_err c.from_residual.result _ c.from_residual.ensures.0;
-}
+pub returns-in_err-empty-clause-grows : goal.returns-in_err-empty-clause-grows
+returns-in_err-empty-clause-grows g c = grows-none (g.N.Net.log c.args.net.now)
+
+pub returns-in_err-empty-clause-sends : goal.returns-in_err-empty-clause-sends
+returns-in_err-empty-clause-sends g c = λ long sent of known. (adds-none (IsFrameOf c.args.seal.now long sent) (g.N.Net.log c.args.net.now), of, known)
+
+pub returns-in_err-empty-clause-ways : goal.returns-in_err-empty-clause-ways
+returns-in_err-empty-clause-ways g c = (refl, stays c.args.first.now.longs.next, same-ways c.args.rest.now)

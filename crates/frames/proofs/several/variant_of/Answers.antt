@@ -10,5 +10,5 @@ returns-clause-is c =
     let other = c.args.other.now in
     let front : take place content ≡ take place other = search rules in
     let back : drop 6 (drop place content) ≡ drop 6 (drop place other) = search rules in
-    let bytes : c.six_of.result ≡ take 6 (drop place other) = search rules in
+    let bytes : c.copy_from_slice.new.self ≡ take 6 (drop place other) = search rules in
     ap (λ (b : List ℕ). varied place b content) bytes ∙ varied-is place content other front back

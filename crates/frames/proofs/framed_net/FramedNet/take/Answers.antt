@@ -1,7 +1,6 @@
-use Rattle.std.proofs.Common.{arith, refl}
 use Rattle.frames.specs.Nets.{IsAnswer}
 use Rattle.frames.proofs.KeepsCame.{keeps-on, keeps-receiving}
-use Rattle.frames.proofs.Logs.{failed-on, grows-listing, stays}
+use Rattle.frames.proofs.Logs.{failed-on, grows-listing}
 use Rattle.frames.proofs.SendsCarried.{adds-one}
 use Rattle.frames.proofs.framed_net.FramedNet.take.Goals as goal
 
@@ -20,32 +19,14 @@ invariant_of-self-2 g c =
     keeps-receiving (g.N.Net.log c.self.inside.inner) (g.N.Net.log c.receive.new.self) c.self.inside.seal.key c.self.inside.opener c.open-opened.new.self c.in_ok-count.field-0 c.in-Some.count
     c.receive.new.buffer c.split_at.result.0.now c.in-Some.is c.split_at.ensures.front c.in_ok-count.ensures.lists c.open-opened.ensures.stands c.self.invariant
 
-pub returns-in_err-count : goal.returns-in_err-count
-returns-in_err-count g c = rw (← c.self.view_is) (record {
-  failed = failed-on _ _ c.from_residual.result c.in_err-count.ensures.failed c.from_residual.ensures.0;
-  unsent = c.receive.ensures.unsent;
-  lost = stays c.self.inside.lost;
-  answers = adds-one IsAnswer (g.N.Net.log c.self.inside.inner) (g.N.Net.log c.receive.new.self) _ c.receive.ensures.lists tt;
-  outlets = refl;
-  same = record { node = refl; seal = refl };
-})
+pub returns-in_err-count-clause-answers : goal.returns-in_err-count-clause-answers
+returns-in_err-count-clause-answers g c = rw (← c.self.view_is) (adds-one IsAnswer (g.N.Net.log c.self.inside.inner) (g.N.Net.log c.receive.new.self) _ c.receive.ensures.lists tt)
 
-pub returns-in_default : goal.returns-in_default
-returns-in_default g c = rw (← c.self.view_is) (record {
-  failed = c.in_ok-count.ensures.failed;
-  unsent = c.receive.ensures.unsent;
-  lost = stays c.self.inside.lost;
-  answers = adds-one IsAnswer (g.N.Net.log c.self.inside.inner) (g.N.Net.log c.receive.new.self) _ c.receive.ensures.lists tt;
-  outlets = refl;
-  same = record { node = refl; seal = refl };
-})
+pub returns-in_default-clause-answers : goal.returns-in_default-clause-answers
+returns-in_default-clause-answers g c = rw (← c.self.view_is) (adds-one IsAnswer (g.N.Net.log c.self.inside.inner) (g.N.Net.log c.receive.new.self) _ c.receive.ensures.lists tt)
 
-pub returns : goal.returns
-returns g c = rw (← c.self.view_is) (record {
-  failed = c.in_ok-count.ensures.failed;
-  unsent = c.receive.ensures.unsent;
-  lost = omega (arith, c.saturating_add-self-inside.ensures);
-  answers = adds-one IsAnswer (g.N.Net.log c.self.inside.inner) (g.N.Net.log c.receive.new.self) _ c.receive.ensures.lists tt;
-  outlets = refl;
-  same = record { node = c.open-opened.ensures.node; seal = refl };
-})
+pub returns-clause-answers : goal.returns-clause-answers
+returns-clause-answers g c = rw (← c.self.view_is) (adds-one IsAnswer (g.N.Net.log c.self.inside.inner) (g.N.Net.log c.receive.new.self) _ c.receive.ensures.lists tt)
+
+pub returns-in_err-count-clause-failed : goal.returns-in_err-count-clause-failed
+returns-in_err-count-clause-failed g c = rw (← c.self.view_is) (failed-on _ _ c.from_residual.result c.in_err-count.ensures.failed c.from_residual.ensures.0)

@@ -39,16 +39,7 @@ returns-then-not-branch-clause-receives g c =
     received-on g.N.Net.log c.args.self.now c.loop.self c.give.new.self c.take.new.self before c.give.ensures.inner c.give.ensures.outlets c.give.ensures.same
     c.take.ensures.answers c.take.ensures.outlets c.take.ensures.same
 
-pub returns-in-Some-clause-failed : goal.returns-in-Some-clause-failed
-returns-in-Some-clause-failed g c = ap g.N.Net.failed c.give.ensures.inner ∙ c.loop.invariant.failed
-
 pub returns-in_err-take-clause-failed : goal.returns-in_err-take-clause-failed
 returns-in_err-take-clause-failed g c =
     failed-on _ _ c.from_residual.result
     (c.in_err-take.ensures.failed ∙ ap one_more (ap g.N.Net.failed c.give.ensures.inner ∙ c.loop.invariant.failed)) c.from_residual.ensures.0
-
-pub returns-then-not-branch-clause-failed : goal.returns-then-not-branch-clause-failed
-returns-then-not-branch-clause-failed g c = c.in_ok-take.ensures.failed ∙ ap g.N.Net.failed c.give.ensures.inner ∙ c.loop.invariant.failed
-
-pub returns-clause-failed : goal.returns-clause-failed
-returns-clause-failed g c = ap g.N.Net.failed c.give-2.ensures.inner ∙ c.loop.invariant.failed

@@ -19,9 +19,6 @@ pub returns-in_default-2-clause-stands : goal.returns-in_default-2-clause-stands
 returns-in_default-2-clause-stands c = λ l key frame h g o kind b stands.
     (c.take.ensures.parts l key c.args.self.now.node (piece-comes l key c.args.self.now.node frame h c.args.content.now c.args.boot.now c.in-Some.piece g o kind b c.in-Some.ensures) stands.0, stands.1)
 
-pub returns-in_default-clause-stands : goal.returns-in_default-clause-stands
-returns-in_default-clause-stands c = λ l key frame h g o kind b stands. stands
-
 pub returns-in_err-packet-clause-stands : goal.returns-in_err-packet-clause-stands
 returns-in_err-packet-clause-stands c = λ l key frame h g o kind b stands.
     (c.take.ensures.parts l key c.args.self.now.node (piece-comes l key c.args.self.now.node frame h c.args.content.now c.args.boot.now c.in-Some.piece g o kind b c.in-Some.ensures) stands.0, stands.1)

@@ -1,5 +1,5 @@
 use Rattle.std.proofs.Common.{◌≡◌, ◌+◌, ◌-◌, ◌*◌, ◌++◌, ◌∙◌, ap, arith, drop, refl, rules, subst, take, ℕ, List}
-use Rattle.std.proofs.lemmas.Result.{IfOk-from_err, on_ok_weaker}
+use Rattle.std.proofs.lemmas.Result.{on_ok_weaker}
 use Rattle.udp_net.specs.Logs.{Lists, offering}
 use Rattle.frames.specs.declared.head.Kind.TheVariants.{Piece}
 use Rattle.frames.specs.declared.outlet.Seal.{Seal}
@@ -50,9 +50,6 @@ pub returns-then-index-count-clause-pieces : goal.returns-then-index-count-claus
 returns-then-index-count-clause-pieces g t c =
     no-pieces c.args.seal.now c.args.self.now.node c.args.self.now.frames c.args.number c.args.index (c.args.count - c.args.index) c.args.packet.now
     (g.N.Net.log c.args.net.now) (omega (arith, c.if-index-count.true))
-
-pub returns-in_err-body-clause-pieces : goal.returns-in_err-body-clause-pieces
-returns-in_err-body-clause-pieces g t c = IfOk-from_err c.from_residual.result _ c.from_residual.ensures.0
 
 pub returns-then-index-count-clause-grows : goal.returns-then-index-count-clause-grows
 returns-then-index-count-clause-grows g t c = grows-none (g.N.Net.log c.args.net.now)

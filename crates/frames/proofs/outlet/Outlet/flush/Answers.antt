@@ -1,10 +1,9 @@
-use Rattle.std.proofs.Common.{◌≡◌, ◌++◌, ◌∙◌, ap, arith, refl, rules, subst, sym}
-use Rattle.std.proofs.lemmas.Result.{IfOk-from_err}
+use Rattle.std.proofs.Common.{◌≡◌, ◌++◌, ◌∙◌, arith, rules, subst, sym}
 use Rattle.frames.specs.Frames.{head_bytes, packed}
 use Rattle.frames.specs.declared.head.Kind.TheVariants.{Packets}
 use Rattle.frames.specs.Outlets.{OutletModel, head_for}
 use Rattle.frames.specs.Sendings.{AreOf, IsFrameOf}
-use Rattle.frames.proofs.Logs.{grows-none, stays}
+use Rattle.frames.proofs.Logs.{grows-none}
 use Rattle.frames.proofs.SendsCarried.{adds-none, flush-adds}
 use Rattle.frames.proofs.outlet.Outlet.flush.Goals as goal
 
@@ -18,30 +17,14 @@ returns-clause-sends g c = λ long sent of.
       subst (AreOf sent) (sym (c.offer.ensures.waiting ∙ c.clear.ensures)) tt,
     )
 
-pub returns-clause-longs : goal.returns-clause-longs
-returns-clause-longs g c = c.offer.ensures.longs ∙ ap (λ (x : OutletModel). x.longs) c.self.view_is
-
-pub returns-clause-node : goal.returns-clause-node
-returns-clause-node g c = c.offer.ensures.node ∙ ap (λ (x : OutletModel). x.node) c.self.view_is
-
-pub returns-clause-frames : goal.returns-clause-frames
-returns-clause-frames g c = rw (← c.self.view_is, ← c.if-is_empty.ensures) c.offer.ensures.frames
-
 pub returns-then-is_empty-clause-sends : goal.returns-then-is_empty-clause-sends
 returns-then-is_empty-clause-sends g c = λ long sent of. (adds-none (IsFrameOf c.args.seal.now long sent) (g.N.Net.log c.args.net.now), of)
 
 pub returns-then-is_empty-clause-grows : goal.returns-then-is_empty-clause-grows
 returns-then-is_empty-clause-grows g c = grows-none (g.N.Net.log c.args.net.now)
 
-pub returns-in_err-body : goal.returns-in_err-body
-returns-in_err-body g c = record {
-  waiting = IfOk-from_err c.from_residual.result _ c.from_residual.ensures.0;
-  frames = IfOk-from_err c.from_residual.result _ c.from_residual.ensures.0;
-  lists = IfOk-from_err c.from_residual.result _ c.from_residual.ensures.0;
-  sends = λ long sent of. (adds-none (IsFrameOf c.args.seal.now long sent) (g.N.Net.log c.args.net.now), of);
-  longs = refl;
-  failed = refl;
-  unsent = stays (g.N.Net.unsent c.args.net.now);
-  node = refl;
-  grows = grows-none (g.N.Net.log c.args.net.now);
-}
+pub returns-in_err-body-clause-sends : goal.returns-in_err-body-clause-sends
+returns-in_err-body-clause-sends g c = λ long sent of. (adds-none (IsFrameOf c.args.seal.now long sent) (g.N.Net.log c.args.net.now), of)
+
+pub returns-in_err-body-clause-grows : goal.returns-in_err-body-clause-grows
+returns-in_err-body-clause-grows g c = grows-none (g.N.Net.log c.args.net.now)

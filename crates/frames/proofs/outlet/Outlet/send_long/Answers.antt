@@ -1,6 +1,6 @@
-use Rattle.std.proofs.Common.{◌≡◌, ◌≤◌, ◌<◌, ◌-◌, ◌∙◌, ap, arith, subst, sym, ℕ, Option}
+use Rattle.std.proofs.Common.{◌≡◌, ◌<◌, ◌-◌, ◌∙◌, ap, arith, subst, sym, ℕ, Option}
 use Rattle.std.specs.Prelude.{IfSome}
-use Rattle.std.proofs.lemmas.Result.{IfOk-from_err, on_ok_weaker}
+use Rattle.std.proofs.lemmas.Result.{on_ok_weaker}
 use Rattle.frames.specs.declared.longs.Longs.{Longs}
 use Rattle.udp_net.specs.Logs.{Lists}
 use Rattle.frames.specs.Carried.{offering_long}
@@ -51,34 +51,8 @@ returns-clause-pieces g c =
     (omega (arith, c.count_of-count.ensures))))
     c.send_pieces.ensures.pieces
 
-pub returns-then-packet-gt-DATAGRAM-clause-pieces : goal.returns-then-packet-gt-DATAGRAM-clause-pieces
-returns-then-packet-gt-DATAGRAM-clause-pieces g c = λ within taken. absurd (omega (arith, within, c.if-packet-gt-DATAGRAM.true))
-
-pub returns-in_err-number-clause-pieces : goal.returns-in_err-number-clause-pieces
-returns-in_err-number-clause-pieces g c = IfOk-from_err c.from_residual.result _ c.from_residual.ensures.0
-
 pub returns-in_err-number-clause-grows : goal.returns-in_err-number-clause-grows
 returns-in_err-number-clause-grows g c = grows-none (g.N.Net.log c.args.net.now)
 
 pub returns-in_default-clause-grows : goal.returns-in_default-clause-grows
 returns-in_default-clause-grows g c = grows-none (g.N.Net.log c.args.net.now)
-
-pub returns-in_err-number-clause-next : goal.returns-in_err-number-clause-next
-returns-in_err-number-clause-next g c = subst (λ (x : OutletModel). x.longs.next ≤ c.number.new.self.next) c.self.view_is c.number.ensures.next
-
-pub returns-in_default-clause-next : goal.returns-in_default-clause-next
-returns-in_default-clause-next g c = subst (λ (x : OutletModel). x.longs.next ≤ c.number.new.self.next) c.self.view_is c.number.ensures.next
-
-pub returns-in_default-clause-node : goal.returns-in_default-clause-node
-returns-in_default-clause-node g c = ap (λ (x : OutletModel). x.node) c.self.view_is
-
-pub count_of-count-requires : goal.count_of-count-requires
-count_of-count-requires g c = c.if-packet-gt-DATAGRAM.false
-
-pub returns-clause-node : goal.returns-clause-node
-returns-clause-node g c = c.send_pieces.ensures.node ∙ ap (λ (x : OutletModel). x.node) c.self.view_is
-
-pub returns-clause-next : goal.returns-clause-next
-returns-clause-next g c =
-    subst (λ (l : Longs). c.args.self.now.longs.next ≤ l.next) (sym c.send_pieces.ensures.longs)
-    (subst (λ (x : OutletModel). x.longs.next ≤ c.number.new.self.next) c.self.view_is c.number.ensures.next)

@@ -3,12 +3,6 @@ use Rattle.frames.specs.Rows.{cut}
 use Rattle.frames.proofs.Rows.{is-row-more, row-more}
 use Rattle.frames.proofs.row.Row.push.Goals as goal
 
-pub invariant_of-self : goal.invariant_of-self
-invariant_of-self c = rw c.reserve.ensures.items c.self.invariant
-
-pub invariant_of-self-in_err-extend_from_slice : goal.invariant_of-self-in_err-extend_from_slice
-invariant_of-self-in_err-extend_from_slice c = rw (c.in_err-extend_from_slice.ensures.items, c.reserve.ensures.items) c.self.invariant
-
 pub invariant_of-self-2 : goal.invariant_of-self-2
 invariant_of-self-2 c =
     let row = is-row-more c.self.inside.bytes.items c.self.inside.lengths.items c.self.inside.given c.self.inside.start c.self.inside.last c.self.invariant c.args.packet.now in
