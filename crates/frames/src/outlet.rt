@@ -22,11 +22,11 @@ use crate::longs::Longs;
 use crate::partial::put_piece;
 use crate::row::Row;
 use crate::seal::seal;
-use crate::several::{Variant, put_several, variant_of};
+use crate::several::{Variant, put_rows, variant_of};
 use crate::{BOOT, CONTENT, FRAME, PIECE, WHOLE};
 use address::Node;
 use address::limits::DATAGRAM;
-use big_endian::put;
+use big_endian::{put, put_u8};
 use std::alloc::{AllocError, Global};
 use std::marker::Model;
 use udp_net::Net;
@@ -91,14 +91,6 @@ fn piece_at(packet: &[u8], index: u16) -> &[u8]
     piece
 }
 
-// How many pieces a packet has.
-fn count_of(packet: &[u8]) -> u16
-    requires { length packet.now ≤ 40000 }
-    ensures { result ≡ count_of packet.now }
-{
-    ((packet.len() + PIECE - 1) / PIECE) as u16
-}
-
 impl Outlet {
     // The way to a node, on which nothing went. Takes no memory.
     pub(crate) fn new(alloc: Global, node: Node) -> Outlet
@@ -157,7 +149,10 @@ impl Outlet {
         };
         let mut frame = empty;
         put_head(&head, &mut frame);
-        put_several(place, variants, self.content.as_slice(), &mut frame);
+        put_u8(place as u8, &mut frame);
+        put_u8(variants.len() as u8, &mut frame);
+        put_rows(variants, &mut frame);
+        put(self.content.as_slice(), &mut frame);
         seal(&sealing.key, &mut frame);
         frame
     }
@@ -358,7 +353,7 @@ impl Outlet {
         let Some(number) = self.longs.number(alloc, packet)? else {
             return Ok(());
         };
-        let count = count_of(packet);
+        let count = ((packet.len() + PIECE - 1) / PIECE) as u16;
         self.send_pieces(alloc, seal, net, number, 0, count, packet)
     }
 }

@@ -1,12 +1,12 @@
 //! The content of a frame for several nodes.
 
 ghost use Rattle.std.specs.Prelude.{◌≡◌, ◌≤◌, ◌+◌, ◌*◌, ◌++◌, length, vec_len, vec_capacity, Some, IfOk, IfSome};
-ghost use Rattle.frames.specs.Parts.{bytes_for, part_of, rows_of, several_bytes, varied};
+ghost use Rattle.frames.specs.Parts.{bytes_for, part_of, rows_of, varied};
 
 use crate::content::is_same_text;
 use crate::{ROW, VARIED};
 use address::Node;
-use big_endian::{put, put_u8, put_u16};
+use big_endian::{put, put_u16};
 use byteorder::{BigEndian, ByteOrder};
 use std::alloc::{AllocError, Global};
 
@@ -38,7 +38,7 @@ pub(crate) fn variant_of(content: &[u8], other: &[u8], place: usize) -> Option<[
 }
 
 // Appends the rows of some nodes.
-fn put_rows(variants: &[Variant], out: &mut Vec<u8>)
+pub(crate) fn put_rows(variants: &[Variant], out: &mut Vec<u8>)
     requires { vec_len out.old + length (rows_of variants.now) ≤ vec_capacity out.old }
     ensures items { out.new.items ≡ out.old.items ++ rows_of variants.now }
     ensures room { vec_capacity out.old ≤ vec_capacity out.new }
@@ -49,20 +49,6 @@ fn put_rows(variants: &[Variant], out: &mut Vec<u8>)
     put_u16(first.node.number(), out);
     put(&first.bytes, out);
     put_rows(rest, out);
-}
-
-// Appends the content of a frame that is for a first node and for others.
-pub(crate) fn put_several(place: usize, variants: &[Variant], content: &[u8], out: &mut Vec<u8>)
-    requires near { place ≤ 255 }
-    requires count { length variants.now ≤ 255 }
-    requires room { vec_len out.old + (2 + length (rows_of variants.now) + length content.now) ≤ vec_capacity out.old }
-    ensures items { out.new.items ≡ out.old.items ++ several_bytes place variants.now content.now }
-    ensures room { vec_capacity out.old ≤ vec_capacity out.new }
-{
-    put_u8(place as u8, out);
-    put_u8(variants.len() as u8, out);
-    put_rows(variants, out);
-    put(content, out);
 }
 
 // The six bytes of a node, in so many rows.

@@ -1,4 +1,4 @@
-use Rattle.std.proofs.Common.{◌≡◌, ◌<◌, ◌-◌, ◌∙◌, ap, arith, subst, sym, ℕ, Option}
+use Rattle.std.proofs.Common.{◌≡◌, ◌<◌, ◌+◌, ◌-◌, ◌/◌, ◌∙◌, ap, arith, length, subst, sym, ℕ, Option}
 use Rattle.std.specs.Prelude.{IfSome}
 use Rattle.std.proofs.lemmas.Result.{on_ok_weaker}
 use Rattle.frames.specs.declared.longs.Longs.{Longs}
@@ -47,8 +47,8 @@ returns-clause-pieces g c =
     subst
     (λ (x : OutletModel). Lists (g.N.Net.log c.args.net.now) (offering_long c.args.seal.now x.node x.frames (number_for c.args.packet.now x.longs) c.args.packet.now) (g.N.Net.log c.send_pieces.new.net))
     c.self.view_is
-    (all-pieces c.args.seal.now c.self.inside.node c.self.inside.frames c.in-Some.number (number_for c.args.packet.now c.self.inside.longs) (c.count_of-count.result - 0) c.args.packet.now (g.N.Net.log c.args.net.now) (g.N.Net.log c.send_pieces.new.net) pieces has.0
-    (omega (arith, c.count_of-count.ensures))))
+    (all-pieces c.args.seal.now c.self.inside.node c.self.inside.frames c.in-Some.number (number_for c.args.packet.now c.self.inside.longs) ((length c.args.packet.now + 1344 - 1) / 1344 - 0) c.args.packet.now (g.N.Net.log c.args.net.now) (g.N.Net.log c.send_pieces.new.net) pieces has.0
+    (omega arith)))
     c.send_pieces.ensures.pieces
 
 pub returns-in_err-number-clause-grows : goal.returns-in_err-number-clause-grows
