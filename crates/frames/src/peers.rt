@@ -56,21 +56,13 @@ impl Peers {
         take_in(self.peers.as_mut_slice(), boot, counter)
     }
 
-    // Forgets the first sender, if there is no room for one more.
-    fn make_room(&mut self)
-        ensures stay { StayTaken self.old.peers.items self.new.peers.items }
-    {
-        if self.peers.len() < PEERS {
-            return;
-        }
-        self.peers.remove(0);
-    }
-
-    // A new sender.
+    // A new sender, in place of the first one if there is no room for one more.
     fn add(&mut self, boot: &[u8; BOOT]) -> Result<(), AllocError>
         ensures stay { StayTaken self.old.peers.items self.new.peers.items }
     {
-        self.make_room();
+        if self.peers.len() >= PEERS {
+            self.peers.remove(0);
+        }
         self.peers.push(Peer {
             boot: *boot,
             window: Window::new(),
@@ -91,9 +83,6 @@ impl Peers {
             return Ok(taken);
         }
         self.add(boot)?;
-        match self.take_known(boot, counter) {
-            Some(taken) => Ok(taken),
-            None => Ok(false),
-        }
+        Ok(self.take_known(boot, counter).unwrap_or(false))
     }
 }

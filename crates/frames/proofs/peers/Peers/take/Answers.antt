@@ -10,12 +10,7 @@ returns-in-Some-clause-stay c = λ boot counter was. inl (c.take_known.ensures.s
 pub returns-in_err-add-clause-stay : goal.returns-in_err-add-clause-stay
 returns-in_err-add-clause-stay c = subst (λ (ps : List Peer). StayTaken ps c.add.new.self.peers.items) (c.take_known.ensures.same c.in_default.is) c.add.ensures.stay
 
-pub returns-in-Some-take_known-clause-stay : goal.returns-in-Some-take_known-clause-stay
-returns-in-Some-take_known-clause-stay c =
-    stay-on c.args.self.now.peers.items c.add.new.self.peers.items c.take_known-2.new.self.peers.items
-    (subst (λ (ps : List Peer). StayTaken ps c.add.new.self.peers.items) (c.take_known.ensures.same c.in_default.is) c.add.ensures.stay) c.take_known-2.ensures.stay
-
-pub returns-in-None-clause-stay : goal.returns-in-None-clause-stay
-returns-in-None-clause-stay c =
+pub returns-clause-stay : goal.returns-clause-stay
+returns-clause-stay c =
     stay-on c.args.self.now.peers.items c.add.new.self.peers.items c.take_known-2.new.self.peers.items
     (subst (λ (ps : List Peer). StayTaken ps c.add.new.self.peers.items) (c.take_known.ensures.same c.in_default.is) c.add.ensures.stay) c.take_known-2.ensures.stay
