@@ -2,7 +2,7 @@
 use Rattle.std.proofs.Common.{◌≡◌, ◌+◌, ℕ, zero, suc, true, List, [], ◌∷◌, ◌++◌, length, replicate, sym, ap, ◌∙◌, subst, Option, Some, None, arith}
 use Rattle.std.specs.Prelude.{slice_set}
 use Rattle.std.proofs.lemmas.List.{length-set}
-use Rattle.std.specs.List.{AllByRecursion}
+use Rattle.std.specs.List.{AllByRecursion, remove}
 use Rattle.udp_net.specs.Logs.{Log}
 use Rattle.frames.specs.Partials.{PieceModel}
 use Rattle.frames.specs.Arrivals.{ArrivedPiece, ArrivedInPieces, GivenIn, PiecesCame, is_whole, joined}
@@ -27,6 +27,13 @@ module _ {A : Type 0} (Holds : A → Type 0) where
   pub all-push : (xs : List A) (y : A) → AllByRecursion Holds xs → Holds y → AllByRecursion Holds (xs ++ y ∷ [])
   all-push [] y all holds = (holds, tt)
   all-push (x ∷ xs) y all holds = (all.0, all-push xs y all.1 holds)
+
+  -- and of the others once one is taken out
+  pub of-others : (xs : List A) (i : ℕ) → AllByRecursion Holds xs → AllByRecursion Holds (remove xs i)
+  of-others [] zero all = tt
+  of-others [] (suc i) all = tt
+  of-others (x ∷ xs) zero all = all.1
+  of-others (x ∷ xs) (suc i) all = (all.0, of-others xs i all.1)
 
 module _ (l : Log) (key : List ℕ) (node : ℕ) where
   pub none-in : (boot : List ℕ) (number n : ℕ) (pieces : List (Option (List ℕ))) → pieces ≡ replicate n None → PiecesCame (GivenIn l) key node boot number (length pieces) 0 pieces

@@ -167,17 +167,6 @@ impl Partials {
         }
     }
 
-    // Puts a packet back, as the last one.
-    fn put_back(&mut self, partial: Partial) -> Result<(), AllocError>
-        ensures { (l : Log) (key : List ℕ) (node : ℕ) → AreParts l key node self.old → IsPartOf l key node partial → AreParts l key node self.new }
-    {
-        if self.partials.len() >= MOST_PARTIALS {
-            self.partials.remove(0);
-        }
-        self.partials.push(partial)?;
-        Ok(())
-    }
-
     // The packet of which a piece is one, taken out; a new one, if none of it came.
     fn begin(&mut self, boot: &[u8; BOOT], piece: &Piece<'_>) -> Result<Partial, AllocError>
         ensures parts { (l : Log) (key : List ℕ) (node : ℕ) → AreParts l key node self.old → AreParts l key node self.new × IfOk result (IsPartOf l key node) }
@@ -207,7 +196,10 @@ impl Partials {
         let mut partial = self.begin(boot, piece)?;
         partial.put(self.alloc, piece)?;
         let Some(packet) = partial.packet(self.alloc)? else {
-            self.put_back(partial)?;
+            if self.partials.len() >= MOST_PARTIALS {
+                self.partials.remove(0);
+            }
+            self.partials.push(partial)?;
             return Ok(None);
         };
         Ok(Some(packet))

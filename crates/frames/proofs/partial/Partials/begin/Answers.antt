@@ -1,17 +1,11 @@
 use Rattle.std.proofs.Common.{◌<◌, ℕ, zero, suc, List, [], ◌∷◌, length, slice_index_or, subst, sym, rules, arith}
 use Rattle.std.proofs.lemmas.Result.{IfOk-weaker}
-use Rattle.std.specs.List.{AllByRecursion, remove}
+use Rattle.std.specs.List.{AllByRecursion}
 use Rattle.frames.specs.Openers.{AreParts, IsPartOf}
+use Rattle.frames.proofs.PiecesCome.{of-others}
 use Rattle.frames.proofs.partial.Partials.begin.Goals as goal
 
--- what holds of all of a list holds of the others once one is taken out
-of-others : {A : Type 0} (Holds : A → Type 0) (xs : List A) (i : ℕ) → AllByRecursion Holds xs → AllByRecursion Holds (remove xs i)
-of-others Holds [] zero all = tt
-of-others Holds [] (suc i) all = tt
-of-others Holds (x ∷ xs) zero all = all.1
-of-others Holds (x ∷ xs) (suc i) all = (all.0, of-others Holds xs i all.1)
-
--- and of that one
+-- what holds of all of a list holds of one
 of-one : {A : Type 0} (Holds : A → Type 0) (xs : List A) (i : ℕ) (d : A) → i < length xs → AllByRecursion Holds xs → Holds (slice_index_or xs i d)
 of-one Holds [] i d within all = search (arith, rules)
 of-one Holds (x ∷ xs) zero d within all = all.0

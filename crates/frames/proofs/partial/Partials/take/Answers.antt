@@ -1,6 +1,9 @@
-use Rattle.std.proofs.Common.{List, ℕ, Option, subst}
+use Rattle.std.proofs.Common.{List, ℕ, Option, subst, sym}
 use Rattle.std.specs.Prelude.{IfSome}
 use Rattle.frames.specs.Arrivals.{ArrivedInPieces, GivenIn}
+use Rattle.frames.specs.Openers.{AreParts, IsPartOf}
+use Rattle.frames.proofs.PiecesCome.{all-push, of-others}
+use Rattle.frames.proofs.partial.Partials.take.Goals.{then-len-ge-MOST_PARTIALS, else-len-ge-MOST_PARTIALS}
 use Rattle.frames.proofs.partial.Partials.take.Goals as goal
 
 pub returns-in_err-partial-clause-parts : goal.returns-in_err-partial-clause-parts
@@ -12,15 +15,26 @@ returns-in_err-put-clause-parts c = λ l key node x parts. (c.begin.ensures.part
 pub returns-in_err-packet-clause-parts : goal.returns-in_err-packet-clause-parts
 returns-in_err-packet-clause-parts c = λ l key node x parts. (c.begin.ensures.parts l key node parts).0
 
-pub returns-in_err-put_back-clause-parts : goal.returns-in_err-put_back-clause-parts
-returns-in_err-put_back-clause-parts c = λ l key node x parts.
-    c.put_back.ensures l key node (c.begin.ensures.parts l key node parts).0
-    (c.put.ensures l key node c.args.boot.now c.in_ok-partial.ensures.its x (c.in_ok-partial.ensures.parts l key node parts).1)
+pub returns-in_err-push-clause-parts : goal.returns-in_err-push-clause-parts
+returns-in_err-push-clause-parts c = λ l key node x parts.
+    let before = subst (AreParts l key node) (sym c.self.view_is) (c.begin.ensures.parts l key node parts).0 in
+    let left : AreParts l key node c.if-len-ge-MOST_PARTIALS.self-inside.partials.items =
+    elim c.if-len-ge-MOST_PARTIALS.branch [
+      | then-len-ge-MOST_PARTIALS w ↦ rw w.self-inside-is (subst (AreParts l key node) (sym w.remove.ensures.items) (of-others (IsPartOf l key node) _ 0 before))
+      | else-len-ge-MOST_PARTIALS w ↦ rw w.self-inside-is before
+    ] in
+    subst (AreParts l key node) (sym c.in_err-push.ensures.items) left
 
 pub returns-in_default-clause-parts : goal.returns-in_default-clause-parts
 returns-in_default-clause-parts c = λ l key node x parts.
-    c.put_back.ensures l key node (c.begin.ensures.parts l key node parts).0
-    (c.put.ensures l key node c.args.boot.now c.in_ok-partial.ensures.its x (c.in_ok-partial.ensures.parts l key node parts).1)
+    let before = subst (AreParts l key node) (sym c.self.view_is) (c.begin.ensures.parts l key node parts).0 in
+    let left : AreParts l key node c.if-len-ge-MOST_PARTIALS.self-inside.partials.items =
+    elim c.if-len-ge-MOST_PARTIALS.branch [
+      | then-len-ge-MOST_PARTIALS w ↦ rw w.self-inside-is (subst (AreParts l key node) (sym w.remove.ensures.items) (of-others (IsPartOf l key node) _ 0 before))
+      | else-len-ge-MOST_PARTIALS w ↦ rw w.self-inside-is before
+    ] in
+    subst (AreParts l key node) (sym c.in_ok-push.ensures.items)
+    (all-push (IsPartOf l key node) _ _ left (c.put.ensures l key node c.args.boot.now c.in_ok-partial.ensures.its x (c.in_ok-partial.ensures.parts l key node parts).1))
 
 pub returns-clause-parts : goal.returns-clause-parts
 returns-clause-parts c = λ l key node x parts. (c.begin.ensures.parts l key node parts).0
