@@ -1,4 +1,4 @@
-ghost use Rattle.std.specs.Prelude.{◌≡◌, ◌≤◌, ◌<◌, ◌+◌, ◌*◌, ◌^◌, ◌∷◌, ℕ, List, [], length, min, vec_len, vec_capacity, OnOk, IfOk, IfSome};
+ghost use Rattle.std.specs.Prelude.{◌≡◌, ◌≤◌, ◌+◌, ◌*◌, ◌∷◌, ℕ, List, [], length, min, OnOk, IfOk, IfSome};
 ghost use Rattle.std.specs.List.{AllByRecursion};
 ghost use Rattle.frames.specs.Arrivals.{StandsIn};
 ghost use Rattle.frames.specs.Sendings.{Adds, AreSameWays, IsFrameOf, IsLongOn, KeepLongs, Sends, WaitOf};
@@ -6,7 +6,7 @@ ghost use Rattle.frames.specs.Nets.{GivesArrived, Grows, HasFlushed, HasReceived
 ghost use Rattle.frames.specs.Carried.{Carries};
 ghost use Rattle.frames.specs.Gathered.{Gathers, offering_each};
 ghost use Rattle.frames.specs.declared.outlet.Seal.{Seal as SealValue};
-ghost use Rattle.udp_net.specs.Logs.{failures_after, offering, Lists};
+ghost use Rattle.udp_net.specs.Logs.{failures_after, Lists};
 
 use crate::content::shared_front;
 use crate::hmac::Key;

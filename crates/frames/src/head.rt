@@ -1,6 +1,6 @@
 //! What stands before the content of a frame.
 
-ghost use Rattle.std.specs.Prelude.{◌≡◌, ◌≤◌, ◌+◌, ◌++◌, length, vec_len, vec_capacity, IfSome};
+ghost use Rattle.std.specs.Prelude.{◌≡◌, ◌≤◌, ◌+◌, ◌++◌, vec_len, vec_capacity, IfSome};
 ghost use Rattle.frames.specs.Frames.{kind_number, head_bytes, IsHeadOf};
 
 use crate::{BOOT, HEAD};

@@ -1,6 +1,6 @@
 //! HMAC-SHA-256 (RFC 2104, FIPS 198-1): a tag of a message, which only whoever has the key can make.
 
-ghost use Rattle.std.specs.Prelude.{◌≡◌, ◌↔◌, ◌≤◌, ◌++◌, ℕ, List, IsTrue, length, take, drop, bit_xor};
+ghost use Rattle.std.specs.Prelude.{◌≡◌, ◌↔◌, ◌≤◌, ◌++◌, ℕ, List, IsTrue, length, take, drop};
 ghost use Rattle.sha2.specs.Sha256.{sha256};
 ghost use Rattle.sha2.specs.Hashers.{Holds256};
 ghost use Rattle.frames.specs.Hmac.{block_key, xor_all, hmac_sha256};

@@ -1,6 +1,6 @@
 //! What is opened of the frames that come.
 
-ghost use Rattle.std.specs.Prelude.{◌≡◌, ◌≢◌, ◌≤◌, ℕ, List, length, true, IfOk, IfSome};
+ghost use Rattle.std.specs.Prelude.{◌≡◌, ◌≢◌, ℕ, List, true, IfOk};
 ghost use Rattle.udp_net.specs.Logs.{Log};
 ghost use Rattle.frames.specs.Arrivals.{GivenIn};
 ghost use Rattle.frames.specs.Frames.{IsSealed, Opens};

@@ -1,12 +1,10 @@
 //! The packets for a node, until they go.
 
-ghost use Rattle.std.specs.Prelude.{◌≡◌, ◌≤◌, ◌<◌, ◌+◌, ◌-◌, ◌*◌, ◌^◌, ◌++◌, ◌∷◌, ℕ, List, [], length, take, drop, min, vec_len, vec_capacity, true, OnOk, OnErr, IfOk, IfSome};
+ghost use Rattle.std.specs.Prelude.{◌≡◌, ◌≤◌, ◌<◌, ◌+◌, ◌-◌, ◌*◌, ◌^◌, ◌++◌, ◌∷◌, ℕ, List, [], length, take, drop, min, vec_len, vec_capacity, true, OnOk, OnErr};
 ghost use Rattle.udp_net.specs.Logs.{Lists, offering};
-ghost use Rattle.frames.specs.Frames.{sealed, packed, head_bytes, IsShort};
-ghost use Rattle.frames.specs.declared.head.Kind.TheVariants.{Packets, Several, Piece as PieceKind};
-ghost use Rattle.frames.specs.Partials.{piece_bytes};
+ghost use Rattle.frames.specs.Frames.{sealed, packed, IsShort};
 ghost use Rattle.frames.specs.Arrivals.{StandsIn};
-ghost use Rattle.frames.specs.Carried.{count_of, offering_long, offering_pieces, piece_at as piece_of, piece_frame};
+ghost use Rattle.frames.specs.Carried.{count_of, offering_long, offering_pieces};
 ghost use Rattle.frames.specs.Nets.{Grows, IsFresh};
 ghost use Rattle.frames.specs.Sendings.{Adds, AreLongs, AreOf, IsFrameOf, IsLongAt};
 ghost use Rattle.frames.specs.Longs.{IsNumbered, number_for};

@@ -1,7 +1,7 @@
 //! Frames sealed and opened.
 
-ghost use Rattle.std.specs.Prelude.{◌≡◌, ◌≤◌, ◌++◌, ◌+◌, length, vec_len, vec_capacity, IfSome};
-ghost use Rattle.frames.specs.Frames.{sealed, IsHeadOf, IsSealed};
+ghost use Rattle.std.specs.Prelude.{◌≡◌, ◌≤◌, ◌+◌, vec_len, vec_capacity, IfSome};
+ghost use Rattle.frames.specs.Frames.{sealed, IsSealed};
 
 use crate::TAG;
 use crate::head::{Head, head_of};
