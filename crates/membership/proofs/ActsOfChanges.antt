@@ -3,7 +3,7 @@ use Rattle.std.proofs.Common.{◌≡◌, ℕ, Bool, true, false, ◌&&◌, Optio
 use Rattle.std.specs.Prelude.{unwrap_or, if◌then◌else◌, MatchOption, MatchBool, find, slice_get}
 use Rattle.std.specs.List.{AllByRecursion, Contains, flat_map, range_with_len}
 use Rattle.std.specs.Option.{option_and_then, option_eq, option_map, option_map_or, option_to_list}
-use Rattle.std.proofs.lemmas.Bool.{and_parts, cond-false}
+use Rattle.std.proofs.lemmas.Bool.{and_parts, cond-false, not-true}
 use Rattle.std.proofs.lemmas.List.{append-nil, map-append}
 use Rattle.std.proofs.lemmas.Option.{none-some, same_Some}
 use Rattle.address.specs.declared.limits.TheConstants.{CHUNK}
@@ -77,10 +77,6 @@ packets-are me f v given [] = refl
 packets-are me f v given (q ∷ others) =
     ap₂ (λ (i : wire.Install) (l : List Posted). instructing_one me f.proposal (unwrap_or given []) (q, i) ++ l) (instruction-by (report_from q f.reports) f v (form_of given) (together_of q f))
     (packets-are me f v given others)
-
-not-true : (b : Bool) → not b ≡ true → b ≡ false
-not-true true e = absurd (let n : false ≡ true = e in cc)
-not-true false e = refl
 
 complete-is : (f : FlushModel) → is_complete f ≡ true → progress_of f ≡ Complete
 complete-is f e = ap (λ b. if b then Complete else Waiting) e

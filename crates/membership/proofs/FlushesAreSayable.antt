@@ -5,6 +5,7 @@ use Rattle.std.specs.List.{AllByRecursion}
 use Rattle.std.specs.Option.{option_map_or}
 use Rattle.std.proofs.lemmas.Bool.{and_parts, or_cases, eqb-true, or_right}
 use Rattle.std.proofs.lemmas.Bool.Decides.{nat_tests}
+use Rattle.std.proofs.lemmas.List.Sums.{length-filter, count_by-le-length}
 use Rattle.std.proofs.lemmas.Option.{none-some, same_Some}
 use Rattle.address.specs.Ids.{Address, ViewId, same_address}
 use Rattle.address.specs.declared.limits.TheConstants.{GREATEST_NUMBER, MEMBERS, WINDOW}
@@ -63,14 +64,6 @@ in-order-filter t (m ∷ members) = by (t m) (in-order-filter t members)
 
 -- ---- they are at least one and at most the members
 
-few-filter : (t : Address → Bool) (members : List Address) → length (filter t members) ≤ length members
-few-filter t [] = omega arith
-few-filter t (m ∷ members) = by (t m) (few-filter t members)
-  where
-    by : (b : Bool) → length (filter t members) ≤ length members → length (cond b (m ∷ filter t members) (filter t members)) ≤ suc (length members)
-    by true n = omega (arith, n)
-    by false n = omega (arith, n)
-
 one-filter : (t : Address → Bool) (members : List Address) (q : Address) → t q ≡ true → stands_in q members ≡ true → 1 ≤ length (filter t members)
 one-filter t [] q e there = absurd (let n : false ≡ true = there in cc)
 one-filter t (m ∷ members) q e there = by (t m) refl (or_cases (same_address q m) (stands_in q members) there) (λ later. one-filter t members q e later)
@@ -121,7 +114,7 @@ together-by (Some r) q f e there stands few =
     let t : Address → Bool = λ m. has_come_from r.previous m f.reports in
     let is : together_of q f ≡ filter t f.members = ap (λ (o : Option Report). option_map_or (λ (x : Report). filter (λ m. has_come_from x.previous m f.reports) f.members) o []) e in
     let own : t q ≡ true = ap (λ (o : Option Report). option_map_or (comes_from r.previous) o false) e ∙ comes-from-own r in
-    let n : length (filter t f.members) ≤ length f.members = few-filter t f.members in
+    let n : length (filter t f.members) ≤ length f.members = omega (arith, length-filter t f.members, count_by-le-length t f.members) in
     record {
       one = subst (λ (l : List Address). 1 ≤ length l) (sym is) (one-filter t f.members q own stands);
       few = subst (λ (l : List Address). length l ≤ MEMBERS) (sym is) (omega (arith, n, few));

@@ -1,10 +1,10 @@
 -- What always holds of a member goes on to hold, whatever it does in a change of view.
 use Rattle.std.proofs.Common.{◌≡◌, ℕ, Bool, true, false, cond, not, ◌&&◌, ◌||◌, Option, Some, None, List, [], ◌∷◌, ◌++◌, map, refl, sym, ap, ◌∙◌, subst, is_some}
 use Rattle.std.specs.Prelude.{length, unwrap_or, IfSome, IsSome, MatchOption, MatchBool, if◌then◌else◌}
-use Rattle.std.specs.Option.{option_eq, option_map, option_map_or}
+use Rattle.std.specs.Option.{ForSome, option_eq, option_map, option_map_or}
 use Rattle.std.specs.List.{AllByRecursion, flat_map}
 use Rattle.std.specs.Cmp.Lexicographic.{pointwise}
-use Rattle.std.proofs.lemmas.Bool.{and_parts, cond-true}
+use Rattle.std.proofs.lemmas.Bool.{and_parts, cond-true, or_right}
 use Rattle.std.proofs.lemmas.Option.{none-some, same_Some}
 use Rattle.address.specs.Ids.{Address, ViewId, same_address, same_view_id}
 use Rattle.view.specs.Members.{View, stands_in}
@@ -47,10 +47,6 @@ inside-some (Some t) v e = refl
 
 connected-by : (view_state : Option ViewState) (b : Bool) → IsSome view_state → is_some view_state || b ≡ true
 connected-by view_state b e = ap (λ x. x || b) e
-
-or-true : (b : Bool) → b || true ≡ true
-or-true true = refl
-or-true false = refl
 
 -- who reported has reported when there are more reports
 reported-more : (p : Address) (reports more : List (Address × wire.Report)) → has_reported p reports ≡ true → has_reported p (reports ++ more) ≡ true
@@ -168,8 +164,6 @@ module _ {S : Type 0} (who : Who) where
         held = subst (AllByRecursion IsChunk) (sym i.chunks) tt;
       }
 
-  -- ---- a FLUSH is promised
-
   -- ---- a flush of its own begins
 
   begun-flushing : (l : MemberState S) (w : View) → IsProposal who.address l w → (z : MemberState S) → z.view_state ≡ l.view_state → z.promise ≡ promising w l.promise → z.notes ≡ l.notes
@@ -204,16 +198,16 @@ module _ {S : Type 0} (who : Who) where
 
   -- ---- a view is entered
 
-  -- in a view that is the promised one, with no notes of suspects
-  pub gone-member_state : (new : MemberState S) (w : View) → new.view_state ≡ Some (fresh_in who.address w) → new.promise ≡ installed_as who.address w → new.flush ≡ None → new.notes.suspects ≡ [] → new.chunks ≡ []
+  -- in a view that is the promised one
+  pub gone-member_state : (new : MemberState S) (w : View) → new.view_state ≡ Some (fresh_in who.address w) → new.promise ≡ installed_as who.address w → new.flush ≡ None → stands_in who.address new.notes.suspects ≡ false → new.chunks ≡ []
       → stands_in who.address w.members ≡ true
       → IsKept who new → IsMemberState who new
-  gone-member_state new w view_state promise flush suspects chunks stands kept =
+  gone-member_state new w view_state promise flush unsuspected chunks stands kept =
       let view : view_in new.view_state ≡ Some w = ap view_in view_state ∙ ap Some (fresh-view who.address w) in
       let proposal : new.promise.proposal ≡ Some w = ap (λ (p : PromiseModel). p.proposal) promise in
       record {
         own = ap (λ (p : PromiseModel). p.member) promise;
-        unsuspected = ap (stands_in who.address) suspects;
+        unsuspected = unsuspected;
         inside = λ v e. subst (λ (z : View). stands_in who.address z.members ≡ true) (same_Some w v (sym view ∙ e)) stands;
         unconnected = λ e. not-both (is_connected new) (connected-by new.view_state (is_some new.contact) (ap is_some view_state)) e;
         listed = λ v e. subst (λ (z : View). stands_in who.address z.members ≡ true) (same_Some w v (sym proposal ∙ e)) stands;
@@ -235,7 +229,7 @@ module _ {S : Type 0} (who : Who) where
       let promise : after_install (proposed f) old.promise ≡ installed_as who.address (proposed f) =
       own-installed who.address (proposed f) old.promise (ap (λ (p : PromiseModel). p.member) same ∙ kept.own) (ap (λ (p : PromiseModel). p.proposal) same ∙ x.promise)
       (ap (λ (p : PromiseModel). p.is_installed) same ∙ x.waiting) in
-      gone-member_state new (proposed f) view_state (ap (λ (n : MemberState S). n.promise) z.member_state ∙ promise) (ap (λ (n : MemberState S). n.flush) z.member_state) (ap (λ (n : MemberState S). n.notes.suspects) z.member_state) (ap (λ (n : MemberState S). n.chunks) z.member_state)
+      gone-member_state new (proposed f) view_state (ap (λ (n : MemberState S). n.promise) z.member_state ∙ promise) (ap (λ (n : MemberState S). n.flush) z.member_state) (ap (λ (n : MemberState S). stands_in who.address n.notes.suspects) z.member_state) (ap (λ (n : MemberState S). n.chunks) z.member_state)
       (subst (λ (p : Address). stands_in p f.members ≡ true) x.own (coordinator-in f.proposal f.members x.list))
       (record {
         given = given_by f (view_of t).id given others;
@@ -265,15 +259,34 @@ module _ {S : Type 0} (who : Who) where
       let parts = and_parts (same_address q i.view.id.creator && may_install i.view l.promise) (is_fitting (view_in l.view_state) (view_core_in l.view_state).delivered i) enters in
       let may : may_install i.view l.promise ≡ true = (and_parts (same_address q i.view.id.creator) (may_install i.view l.promise) parts.0).1 in
       let promise : after_install i.view l.promise ≡ installed_as who.address i.view = other-installed who.address i.view l.promise kept.own may in
-      gone-member_state new i.view (ap (λ (n : MemberState S). n.view_state) z.member_state) (ap (λ (n : MemberState S). n.promise) z.member_state ∙ promise) (ap (λ (n : MemberState S). n.flush) z.member_state) (ap (λ (n : MemberState S). n.notes.suspects) z.member_state) (ap (λ (n : MemberState S). n.chunks) z.member_state)
+      gone-member_state new i.view (ap (λ (n : MemberState S). n.view_state) z.member_state) (ap (λ (n : MemberState S). n.promise) z.member_state ∙ promise) (ap (λ (n : MemberState S). n.flush) z.member_state) (ap (λ (n : MemberState S). stands_in who.address n.notes.suspects) z.member_state) (ap (λ (n : MemberState S). n.chunks) z.member_state)
       (kept.listed i.view (only-the-promised i.view l.promise may).0) (nothing-kept who new z.sent_installs
       (subst (λ (o : Option (List ℕ)). IfSome o (λ bytes. IsTotal (length bytes))) (sym (ap (λ (n : MemberState S). n.sent_state) z.member_state)) tt))
 
-  -- a member whose flush and view are these
-  pub whole-member_state : (l : MemberState S) (f : FlushModel) (t : ViewState) → l.flush ≡ Some f → l.view_state ≡ Some t → IsMemberState who l → IsMemberState who (record l { flush = Some f; view_state = Some t })
-  whole-member_state l f t flush view_state kept =
-      let same : l ≡ record l { flush = Some f; view_state = Some t } = λ j. record l { flush = flush j; view_state = view_state j } in
-      subst (λ (z : MemberState S). IsMemberState who z) same kept
+  -- ---- another contact, other chunks and notes, and another flush
+
+  flushing-on : (l : MemberState S) (contact : Option Address) (flush : Option FlushModel) (chunks : List wire.Chunk) (b : NotesModel) (f : FlushModel)
+      → ((v : View) → leads_in who.address v l.notes ≡ true → leads_in who.address v b ≡ true) → IsFlushing who.address l f
+      → IsFlushing who.address (record l { contact = contact; flush = flush; chunks = chunks; notes = b }) f
+  flushing-on l contact flush chunks b f leads x =
+      record { inside = x.inside; promise = x.promise; own = x.own; waiting = x.waiting; list = x.list; reported = x.reported; leads = λ v i. leads v (x.leads v i) }
+
+  goes-on-with : (l : MemberState S) (contact : Option Address) (flush : Option FlushModel) (chunks : List wire.Chunk) (b : NotesModel) → IsMemberState who l
+      → stands_in who.address b.suspects ≡ false → (is_some l.view_state || is_some contact ≡ false → l.promise.proposal ≡ None) → (flush ≡ None → l.flush ≡ None)
+      → ForSome flush (IsFlushing who.address (record l { contact = contact; flush = flush; chunks = chunks; notes = b })) → AllByRecursion IsChunk chunks
+      → IsMemberState who (record l { contact = contact; flush = flush; chunks = chunks; notes = b })
+  goes-on-with l contact flush chunks b kept unsuspected unconnected none flushing held = record {
+    own = kept.own;
+    unsuspected = unsuspected;
+    inside = kept.inside;
+    unconnected = unconnected;
+    listed = kept.listed;
+    waiting = λ i f. kept.waiting i (none f);
+    installed = kept.installed;
+    flushing = flushing;
+    sent_installs = kept-on who l _ refl refl refl kept.sent_installs;
+    held = held;
+  }
 
   -- ---- a report is recorded
 
@@ -281,35 +294,16 @@ module _ {S : Type 0} (who : Who) where
       → IsFlushing who.address (record l { flush = o }) (cond b (cond d (record f { reports = f.reports ++ (q, r) ∷ [] }) f) f)
   recorded-flushing l q w r f true true o x =
       record { inside = x.inside; promise = x.promise; own = x.own; waiting = x.waiting; list = x.list; reported = reported-more who.address f.reports ((q, r) ∷ []) x.reported; leads = x.leads }
-  recorded-flushing l q w r f true false o x = record { inside = x.inside; promise = x.promise; own = x.own; waiting = x.waiting; list = x.list; reported = x.reported; leads = x.leads }
-  recorded-flushing l q w r f false d o x = record { inside = x.inside; promise = x.promise; own = x.own; waiting = x.waiting; list = x.list; reported = x.reported; leads = x.leads }
+  recorded-flushing l q w r f true false o x = flushing-on l l.contact o l.chunks l.notes f (λ v e. e) x
+  recorded-flushing l q w r f false d o x = flushing-on l l.contact o l.chunks l.notes f (λ v e. e) x
 
   recorded-by : (l : MemberState S) (q : Address) (w : ViewId) (r : wire.Report) (flush : Option FlushModel) → l.flush ≡ flush → IsMemberState who l → IsMemberState who (record l { flush = option_map (recording q w r) flush })
-  recorded-by l q w r None e kept = record {
-    own = kept.own;
-    unsuspected = kept.unsuspected;
-    inside = kept.inside;
-    unconnected = kept.unconnected;
-    listed = kept.listed;
-    waiting = λ i f. kept.waiting i e;
-    installed = kept.installed;
-    flushing = λ f same. absurd (none-some f same);
-    sent_installs = kept-on who l _ refl refl refl kept.sent_installs;
-    held = kept.held;
-  }
-  recorded-by l q w r (Some f) e kept = record {
-    own = kept.own;
-    unsuspected = kept.unsuspected;
-    inside = kept.inside;
-    unconnected = kept.unconnected;
-    listed = kept.listed;
-    waiting = λ i none. absurd (none-some (recording q w r f) (sym none));
-    installed = kept.installed;
-    flushing = λ g same. subst (λ (z : FlushModel). IsFlushing who.address (record l { flush = Some (recording q w r f) }) z) (same_Some (recording q w r f) g same)
-        (recorded-flushing l q w r f (same_view_id f.proposal w) (is_awaited q f) (Some (recording q w r f)) (kept.flushing f e));
-    sent_installs = kept-on who l _ refl refl refl kept.sent_installs;
-    held = kept.held;
-  }
+  recorded-by l q w r None e kept =
+      goes-on-with l l.contact None l.chunks l.notes kept kept.unsuspected kept.unconnected (λ none. e) (λ f same. absurd (none-some f same)) kept.held
+  recorded-by l q w r (Some f) e kept =
+      goes-on-with l l.contact (Some (recording q w r f)) l.chunks l.notes kept kept.unsuspected kept.unconnected (λ none. absurd (none-some (recording q w r f) (sym none)))
+      (λ g same. subst (λ (z : FlushModel). IsFlushing who.address (record l { flush = Some (recording q w r f) }) z) (same_Some (recording q w r f) g same)
+      (recorded-flushing l q w r f (same_view_id f.proposal w) (is_awaited q f) (Some (recording q w r f)) (kept.flushing f e))) kept.held
 
   pub recorded-member_state : (l new : MemberState S) (q : Address) (w : ViewId) (r : wire.Report) → IsMemberState who l → new ≡ record l { flush = option_map (recording q w r) l.flush } → IsMemberState who new
   recorded-member_state l new q w r kept is = subst (λ (z : MemberState S). IsMemberState who z) (sym is) (recorded-by l q w r l.flush refl kept)
@@ -319,54 +313,22 @@ module _ {S : Type 0} (who : Who) where
   -- notes by which it does not suspect itself, and goes on to lead where it led
   pub noted-member_state : (l new : MemberState S) (b : NotesModel) → IsMemberState who l → new ≡ record l { notes = b } → stands_in who.address b.suspects ≡ false
       → ((v : View) → leads_in who.address v l.notes ≡ true → leads_in who.address v b ≡ true) → IsMemberState who new
-  noted-member_state l new b kept is free leads = subst (λ (z : MemberState S). IsMemberState who z) (sym is) (record {
-    own = kept.own;
-    unsuspected = free;
-    inside = kept.inside;
-    unconnected = kept.unconnected;
-    listed = kept.listed;
-    waiting = kept.waiting;
-    installed = kept.installed;
-    flushing = λ f e. let x = kept.flushing f e in
-        record { inside = x.inside; promise = x.promise; own = x.own; waiting = x.waiting; list = x.list; reported = x.reported; leads = λ v i. leads v (x.leads v i) };
-    sent_installs = kept-on who l _ refl refl refl kept.sent_installs;
-    held = kept.held;
-  })
+  noted-member_state l new b kept is free leads = subst (λ (z : MemberState S). IsMemberState who z) (sym is)
+      (goes-on-with l l.contact l.flush l.chunks b kept free kept.unconnected (λ none. none) (λ f e. flushing-on l l.contact l.flush l.chunks b f leads (kept.flushing f e)) kept.held)
 
   -- ---- a chunk of a state
 
   -- other chunks
   pub held-member_state : (l new : MemberState S) (chunks : List wire.Chunk) → IsMemberState who l → new ≡ record l { chunks = chunks } → AllByRecursion IsChunk chunks → IsMemberState who new
-  held-member_state l new chunks kept is all = subst (λ (z : MemberState S). IsMemberState who z) (sym is) (record {
-    own = kept.own;
-    unsuspected = kept.unsuspected;
-    inside = kept.inside;
-    unconnected = kept.unconnected;
-    listed = kept.listed;
-    waiting = kept.waiting;
-    installed = kept.installed;
-    flushing = λ f e. let x = kept.flushing f e in
-        record { inside = x.inside; promise = x.promise; own = x.own; waiting = x.waiting; list = x.list; reported = x.reported; leads = x.leads };
-    sent_installs = kept-on who l _ refl refl refl kept.sent_installs;
-    held = all;
-  })
+  held-member_state l new chunks kept is all = subst (λ (z : MemberState S). IsMemberState who z) (sym is)
+      (goes-on-with l l.contact l.flush chunks l.notes kept kept.unsuspected kept.unconnected (λ none. none) (λ f e. flushing-on l l.contact l.flush chunks l.notes f (λ v i. i) (kept.flushing f e)) all)
 
   -- ---- a new contact
 
   pub contact-member_state : (l new : MemberState S) (q : Address) → IsMemberState who l → new ≡ record l { contact = Some q } → IsMemberState who new
-  contact-member_state l new q kept is = subst (λ (z : MemberState S). IsMemberState who z) (sym is) (record {
-    own = kept.own;
-    unsuspected = kept.unsuspected;
-    inside = kept.inside;
-    unconnected = λ e. not-both (is_some l.view_state || true) (or-true (is_some l.view_state)) e;
-    listed = kept.listed;
-    waiting = kept.waiting;
-    installed = kept.installed;
-    flushing = λ f e. let x = kept.flushing f e in
-        record { inside = x.inside; promise = x.promise; own = x.own; waiting = x.waiting; list = x.list; reported = x.reported; leads = x.leads };
-    sent_installs = kept-on who l _ refl refl refl kept.sent_installs;
-    held = kept.held;
-  })
+  contact-member_state l new q kept is = subst (λ (z : MemberState S). IsMemberState who z) (sym is)
+      (goes-on-with l (Some q) l.flush l.chunks l.notes kept kept.unsuspected (λ e. not-both (is_some l.view_state || true) (or_right (is_some l.view_state) true refl) e) (λ none. none)
+      (λ f e. flushing-on l (Some q) l.flush l.chunks l.notes f (λ v i. i) (kept.flushing f e)) kept.held)
 
   -- ---- a first view of itself alone
 
@@ -380,22 +342,9 @@ module _ {S : Type 0} (who : Who) where
       let none : l.view_state ≡ None = outside l.view_state (is_some l.contact) off in
       let no-items : l.sent_installs.items ≡ [] = kept.sent_installs.spelled ∙ ap (map (sent_install who))
       (none-given (view_in l.view_state) kept.sent_installs.given (ap view_in none) kept.sent_installs.current) in
-      let view_state : new.view_state ≡ Some (fresh_in who.address (lone_view who.address)) = ap (λ (n : MemberState S). n.view_state) is in
-      let promise : new.promise ≡ installed_as who.address (lone_view who.address) = ap (λ (n : MemberState S). n.promise) is in
-      let view : view_in new.view_state ≡ Some (lone_view who.address) = ap view_in view_state ∙ ap Some (fresh-view who.address (lone_view who.address)) in
-      let proposal : new.promise.proposal ≡ Some (lone_view who.address) = ap (λ (p : PromiseModel). p.proposal) promise in
-      let stands : stands_in who.address (lone_view who.address).members ≡ true = ap (λ b. b || false) (same_address-refl who.address) in
+      let promise = ap (λ (n : MemberState S). n.promise) is in
       let flush : new.flush ≡ None = ap (λ (n : MemberState S). n.flush) is ∙ unflushed l.flush l refl none kept in
-      record {
-        own = ap (λ (p : PromiseModel). p.member) promise;
-        unsuspected = ap (λ (n : MemberState S). stands_in who.address n.notes.suspects) is ∙ kept.unsuspected;
-        inside = λ v e. subst (λ (z : View). stands_in who.address z.members ≡ true) (same_Some (lone_view who.address) v (sym view ∙ e)) stands;
-        unconnected = λ e. not-both (is_connected new) (connected-by new.view_state (is_some new.contact) (ap is_some view_state)) e;
-        listed = λ v e. subst (λ (z : View). stands_in who.address z.members ≡ true) (same_Some (lone_view who.address) v (sym proposal ∙ e)) stands;
-        waiting = λ e f. not-both new.promise.is_installed (ap (λ (p : PromiseModel). p.is_installed) promise) e;
-        installed = λ e. view ∙ sym proposal;
-        flushing = λ f e. absurd (none-some f (sym flush ∙ e));
-        sent_installs = nothing-kept who new (ap (λ (n : MemberState S). n.sent_installs.items) is ∙ no-items)
-            (subst (λ (o : Option (List ℕ)). IfSome o (λ bytes. IsTotal (length bytes))) (sym (ap (λ (n : MemberState S). n.sent_state) is)) tt);
-        held = subst (AllByRecursion IsChunk) (sym (ap (λ (n : MemberState S). n.chunks) is)) tt;
-      }
+      gone-member_state new (lone_view who.address) (ap (λ (n : MemberState S). n.view_state) is) promise flush (ap (λ (n : MemberState S). stands_in who.address n.notes.suspects) is ∙ kept.unsuspected)
+      (ap (λ (n : MemberState S). n.chunks) is) (ap (λ b. b || false) (same_address-refl who.address))
+      (nothing-kept who new (ap (λ (n : MemberState S). n.sent_installs.items) is ∙ no-items)
+      (subst (λ (o : Option (List ℕ)). IfSome o (λ bytes. IsTotal (length bytes))) (sym (ap (λ (n : MemberState S). n.sent_state) is)) tt))

@@ -3,7 +3,7 @@ use Rattle.std.proofs.Common.{◌≡◌, ℕ, Bool, true, false, not, ◌&&◌, 
 use Rattle.std.specs.Prelude.{if◌then◌else◌}
 use Rattle.std.specs.List.{list_all}
 use Rattle.std.specs.Option.{option_map_or}
-use Rattle.std.proofs.lemmas.Bool.{and_parts, and_from}
+use Rattle.std.proofs.lemmas.Bool.{and_parts, and_from, or_left}
 use Rattle.std.proofs.lemmas.List.Folds.{list_any-append}
 use Rattle.address.specs.Ids.{Address, same_address}
 use Rattle.view.specs.Members.{View, stands_in, rank_of}
@@ -38,12 +38,9 @@ leads-by (Some k) suspects more members has e = all-more suspects more (take k m
 pub leads-more : (suspects more members : List Address) (p : Address) → HasThese more suspects → leads suspects members p ≡ true → leads more members p ≡ true
 leads-more suspects more members p has e = leads-by (rank_of p members) suspects more members has e
 
-true-before : (a b : Bool) → a ≡ true → a || b ≡ true
-true-before a b e = ap (λ x. x || b) e
-
 too-by : (b : Bool) (p m : Address) (suspects : List Address) → stands_in m suspects ≡ true → stands_in m (if b then suspects else suspects ++ p ∷ []) ≡ true
 too-by true p m suspects e = e
-too-by false p m suspects e = list_any-append (same_address m) suspects (p ∷ []) ∙ true-before (stands_in m suspects) (same_address m p || false) e
+too-by false p m suspects e = list_any-append (same_address m) suspects (p ∷ []) ∙ or_left (stands_in m suspects) (same_address m p || false) e
 
 pub has-too : (p : Address) (suspects : List Address) → HasThese (suspected_too p suspects) suspects
 has-too p suspects m e = too-by (stands_in p suspects) p m suspects e

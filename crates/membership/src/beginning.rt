@@ -13,7 +13,7 @@ ghost use Rattle.step_output.specs.Steps.{who_of};
 ghost use Rattle.membership.specs.InSteps.{in_step};
 
 use crate::MemberState;
-use crate::promising::{held_text, report_of};
+use crate::promising::{drop_other_chunks, held_text, report_of};
 use address::Address;
 use flush::Flush;
 use state_transfer::Receiver;
@@ -27,9 +27,13 @@ use wire_values::{Body, Roster};
 pub fn others_of(alloc: Global, me: &Address, list: &[Address]) -> Result<Vec<Address>, AllocError>
     ensures { IfOk result (λ l. l.items ≡ others_of me.now list.now) }
 {
-    let others = list.iter().copied();
-    let others = others.filter(|member| *member != *me);
-    Ok(others.collect(alloc)?)
+    let mut others = Vec::new(alloc);
+    for member in list {
+        if *member != *me {
+            others.push(*member)?;
+        }
+    }
+    Ok(others)
 }
 
 // A flush that begins, with the member's own report.
@@ -95,7 +99,7 @@ impl<R: Receiver> MemberState<R> {
         let flush = begun(who, &self.view_state, proposal)?;
         let others = others_of(who.alloc, &who.address, proposal.members().as_slice())?;
         announce_all(who, proposal, others.as_slice(), out)?;
-        self.drop_other_chunks(proposal);
+        drop_other_chunks(&self.promise, proposal, &mut self.chunks);
         let _ = self.promise.offer(proposal);
         self.flush = Some(flush);
         Ok(())

@@ -3,8 +3,8 @@
 ghost use Rattle.std.specs.Prelude.{◌≡◌, ◌∷◌, [], true, false, Err, OnOk, IfOk, Some, None, unwrap_or};
 ghost use Rattle.std.specs.Option.{option_and_then};
 ghost use Rattle.law_acts.specs.Acts.{deliveries};
-ghost use Rattle.law_acts.specs.Cores.{applied, id_of};
-ghost use Rattle.law_acts.specs.Decisions.{is_readable, gives_some, is_fitting};
+ghost use Rattle.law_acts.specs.Cores.{applied};
+ghost use Rattle.law_acts.specs.Decisions.{is_readable, is_fitting};
 ghost use Rattle.membership.specs.HeldChunks.{given_in};
 ghost use Rattle.sequencer.specs.Forwards.{AreShort};
 ghost use Rattle.trace_props.specs.declared.event.Event.TheVariants as event;
@@ -18,7 +18,7 @@ ghost use Rattle.membership.specs.InSteps.{in_step};
 
 use crate::finishing::deliver_behind;
 use crate::{MemberState, Stop};
-use address::{Bytes, ViewId};
+use address::Bytes;
 use state_transfer::Receiver;
 use std::alloc::{AllocError, Global};
 use step_output::{Identity, Output};
@@ -39,24 +39,14 @@ fn all_of<'a>(alloc: Global, items: Items<'a>) -> Result<Vec<Entry<'a>>, AllocEr
     Ok(entries)
 }
 
-// Whether a state is given.
-fn gives_some(state: &GivenState<'_>) -> bool
-    ensures { result ≡ gives_some state.now }
-{
-    match state {
-        GivenState::Nothing => false,
-        GivenState::Whole(_) => true,
-        GivenState::Chunked(_) => true,
-    }
-}
-
 // Whether an INSTALL begins at most where the member is; for one without a view, whether it delivers nothing and gives a state.
 pub(crate) fn is_fitting(view_state: &Option<ViewState>, install: &Install<'_>) -> bool
     ensures { result ≡ is_fitting (view_in view_state.now) (view_core_in view_state.now).delivered install.now }
 {
     match view_state {
         None => {
-            install.base().get() == 0 && install.items().len() == 0 && gives_some(install.state())
+            let gives_some = !matches!(install.state(), GivenState::Nothing);
+            (install.base().get() == 0) & (install.items().len() == 0) & gives_some
         }
         Some(view_state) => install.base() <= view_state.delivered(),
     }
@@ -125,16 +115,6 @@ fn left_of(
     }
 }
 
-// The id of the view that it is in.
-fn id_in(view_state: &Option<ViewState>) -> Option<ViewId>
-    ensures { result ≡ id_of (view_in view_state.now) }
-{
-    match view_state {
-        None => None,
-        Some(view_state) => Some(view_state.view().id()),
-    }
-}
-
 /// Installs a view: the event is recorded. After an error for want of memory nothing is said of the output.
 pub(crate) fn install_view(
     who: &Identity,
@@ -159,10 +139,14 @@ fn install_promised(
 ) -> Result<(), AllocError>
     ensures { OnOk result (Grows who.now.group out.old out.new [] (arriving who.now.address view_state.now install.now given own ∷ [])) }
 {
+    let previous = match view_state {
+        None => None,
+        Some(view_state) => Some(view_state.view().id()),
+    };
     let together = Vec::from_slice(who.alloc, install.together().as_slice())?;
     let install = Installed {
         member: who.address,
-        previous: id_in(view_state),
+        previous,
         view: view_from(who.alloc, install.view())?,
         together: Addresses::from_vec(together),
         handed_back: left_of(who.alloc, view_state, own)?,

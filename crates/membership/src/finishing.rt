@@ -1,6 +1,6 @@
 //! What a finished flush says: what its creator delivers and installs, and what it says to each other of the list.
 
-ghost use Rattle.std.specs.Prelude.{◌≡◌, ◌≤◌, ◌++◌, drop, [], ◌∷◌, OnOk, IfOk, IfSome, Some, None, length, map, unwrap_or};
+ghost use Rattle.std.specs.Prelude.{◌≡◌, ◌≤◌, ◌++◌, [], ◌∷◌, OnOk, IfOk, IfSome, Some, None, length, map, unwrap_or};
 ghost use Rattle.std.specs.List.{flat_map, AllByRecursion};
 ghost use Rattle.address.specs.declared.limits.TheConstants.{STATE};
 ghost use Rattle.view.specs.View.{view_refusal};
@@ -20,7 +20,7 @@ ghost use Rattle.step_output.specs.Steps.{who_of};
 use crate::SentInstall;
 use crate::beginning::others_of;
 use crate::entering::install_view;
-use crate::giving::{form_of, given_state, is_chunked, kept_of, put_given};
+use crate::giving::{form_of, given_state, is_chunked, kept_of, put_state};
 use crate::installing::view_of;
 use crate::sent_install::copied;
 use address::{Address, Bytes, ViewId};
@@ -156,10 +156,13 @@ fn put_needed(
     requires short { IfSome given.now (λ s. length s ≤ STATE) }
     ensures { OnOk result (Grows who.now.group out.old out.new (chunk_packets who.now.address member flush.now.proposal (unwrap_or given.now []) (instruction_to flush.now view given.now member).state) []) }
 {
-    if flush.previous(&member) == Some(view) {
+    let Some(state) = given else {
+        return Ok(());
+    };
+    if flush.previous(&member) == Some(view) || !is_chunked(&form_of(given)) {
         return Ok(());
     }
-    put_given(who, flush.proposal(), member, given, out)
+    put_state(who, flush.proposal(), member, state.as_slice(), out)
 }
 
 // Puts out an INSTALL, and keeps it.
@@ -231,13 +234,6 @@ fn instruct_all(
     }
 }
 
-// What is left of entries behind the first so many.
-fn behind<'a, 'b>(entries: &'b [Entry<'a>], skip: usize) -> &'b [Entry<'a>]
-    ensures { result.now ≡ drop skip entries.now }
-{
-    &entries[skip.min(entries.len())..]
-}
-
 // How many of these are its own.
 fn own_of(me: &Address, entries: &[Entry<'_>]) -> usize
     ensures value { result ≡ own_of me.now entries.now }
@@ -270,7 +266,7 @@ pub(crate) fn deliver_behind<R: Receiver>(
     ensures own { IfOk result (λ n. n ≡ own_of who.now.address (undelivered (view_core_of view_state.now).delivered base entries.now)) }
 {
     let skip = view_state.delivered().get().saturating_sub(base.get()) as usize;
-    let lacking = behind(entries, skip);
+    let lacking = &entries[skip.min(entries.len())..];
     deliver_all(who, view_state.view().id(), lacking, receiver, out)?;
     Ok(own_of(&who.address, lacking))
 }

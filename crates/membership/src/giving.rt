@@ -1,11 +1,11 @@
 //! What a finished flush gives: the state of its creator, to those of its list who come from another view.
 
-ghost use Rattle.std.specs.Prelude.{◌≡◌, ◌≤◌, ◌<◌, ◌+◌, [], OnOk, IfOk, IfSome, Some, length, map, unwrap_or};
+ghost use Rattle.std.specs.Prelude.{◌≡◌, ◌≤◌, ◌<◌, ◌+◌, [], OnOk, IfOk, IfSome, Some, length, map};
 ghost use Rattle.std.specs.List.{range_with_len};
 ghost use Rattle.address.specs.declared.limits.TheConstants.{STATE};
 ghost use Rattle.wire_values.specs.Chunks.{IsTotal};
 ghost use Rattle.wire_values.specs.declared.packet.Body.TheVariants as bodies;
-ghost use Rattle.law_acts.specs.Acts.{packet, chunk_packets};
+ghost use Rattle.law_acts.specs.Acts.{packet};
 ghost use Rattle.law_acts.specs.Given.{chunk_at, chunks_of};
 ghost use Rattle.law_acts.specs.Decisions.{form_of, kept_of};
 ghost use Rattle.membership.specs.HeldChunks.{chunk_count};
@@ -116,26 +116,4 @@ pub(crate) fn put_state(
 {
     let count = chunk_count(state.len());
     put_chunks(who, proposal, member, state, 1, count, out)
-}
-
-// Puts out the chunks of a given state for one of the list, where it goes in chunks.
-pub(crate) fn put_given(
-    who: &Identity,
-    proposal: ViewId,
-    member: Address,
-    given: &Option<Bytes>,
-    out: &mut Output,
-) -> Result<(), AllocError>
-    requires short { IfSome given.now (λ s. length s ≤ STATE) }
-    ensures { OnOk result (Grows who.now.group out.old out.new (chunk_packets who.now.address member proposal (unwrap_or given.now []) (form_of given.now)) []) }
-{
-    match given {
-        None => Ok(()),
-        Some(state) => {
-            if !is_chunked(&form_of(given)) {
-                return Ok(());
-            }
-            put_state(who, proposal, member, state.as_slice(), out)
-        }
-    }
 }

@@ -3,7 +3,7 @@ ghost use Rattle.std.specs.Option.{option_copied};
 ghost use Rattle.wire_values.specs.Lists.{IsChunk};
 ghost use Rattle.std.specs.List.{AllByRecursion, list_all, list_any, flat_map, range_with_len};
 ghost use Rattle.address.specs.declared.limits.TheConstants.{STATE};
-ghost use Rattle.membership.specs.HeldChunks.{is_new, is_at, has_all, bytes_at, joined_of, is_there, given_in};
+ghost use Rattle.membership.specs.HeldChunks.{is_new, is_at, bytes_at, joined_of, is_there, given_in};
 
 use crate::chunk_count;
 use address::Bytes;
@@ -30,21 +30,15 @@ impl Model for HeldChunk {
     ghost invariant = { λ c. IsChunk (record { total = c.total; index = c.index; bytes = c.bytes }) };
 }
 
-impl HeldChunk {
-    fn copy_of(alloc: Global, chunk: &Chunk<'_>) -> Result<HeldChunk, AllocError>
-        ensures { IfOk result (λ c. c ≡ chunk.now) }
-    {
-        Ok(HeldChunk {
-            total: chunk.total().get(),
-            index: chunk.index(),
-            bytes: Bytes::from_slice(alloc, chunk.as_slice())?,
-        })
-    }
-
-    fn is_at(&self, total: u32, index: u8) -> bool
-        ensures { result ≡ is_at total index self.now }
-    {
-        self.total == total && self.index == index
+// The first of these chunks that has an index, of a state of so many bytes.
+fn first_at(chunks: &[HeldChunk], total: u32, index: u8) -> Option<&HeldChunk>
+    ensures { option_copied result ≡ find (is_at total index) chunks.now }
+{
+    let (first, rest) = chunks.split_first()?;
+    if (first.total == total) & (first.index == index) {
+        Some(first)
+    } else {
+        first_at(rest, total, index)
     }
 }
 
@@ -90,9 +84,12 @@ impl HeldChunks {
     {
         let total = chunk.total().get();
         let index = chunk.index();
-        self.chunks
-            .iter()
-            .all(|held| held.total == total && held.index != index)
+        for held in &self.chunks {
+            if (held.total != total) | (held.index == index) {
+                return false;
+            }
+        }
+        true
     }
 
     /// Holds a copy of a chunk behind the others. An error for want of memory leaves them as they were.
@@ -100,8 +97,12 @@ impl HeldChunks {
         ensures ok { OnOk result (self.new ≡ self.old ++ chunk.now ∷ []) }
         ensures err { OnErr result (self.new ≡ self.old) }
     {
-        let held = HeldChunk::copy_of(*self.chunks.allocator(), chunk)?;
-        self.chunks.push(held)?;
+        let bytes = Bytes::from_slice(*self.chunks.allocator(), chunk.as_slice())?;
+        self.chunks.push(HeldChunk {
+            total: chunk.total().get(),
+            index: chunk.index(),
+            bytes,
+        })?;
         Ok(())
     }
 
@@ -112,13 +113,8 @@ impl HeldChunks {
         self.chunks.clear();
     }
 
-    fn has(&self, total: u32, index: u8) -> bool
-        ensures { result ≡ list_any (is_at total index) self.now }
-    {
-        self.chunks.iter().any(|held| held.is_at(total, index))
-    }
-
     // Whether so many chunks of a state are held, from an index on.
+    #[tactic(auto, using(crate::proofs::Pieces::any_found))]
     fn has_from(&self, total: u32, first: u8, count: u8) -> bool
         requires { first + count ≤ 255 }
         ensures { result ≡ list_all (λ k. list_any (is_at total k) self.now) (range_with_len first count) }
@@ -126,14 +122,8 @@ impl HeldChunks {
         if count == 0 {
             return true;
         }
-        self.has(total, first) && self.has_from(total, first + 1, count - 1)
-    }
-
-    fn has_all(&self, total: Total) -> bool
-        ensures { result ≡ has_all total self.now }
-    {
-        let total = total.get();
-        self.has_from(total, 1, chunk_count(total as usize))
+        first_at(self.chunks.as_slice(), total, first).is_some()
+            && self.has_from(total, first + 1, count - 1)
     }
 
     /// Whether what an INSTALL says of a state is there: all of its chunks, where it goes in chunks. Takes no memory.
@@ -143,21 +133,18 @@ impl HeldChunks {
         match state {
             GivenState::Nothing => true,
             GivenState::Whole(_) => true,
-            GivenState::Chunked(total) => self.has_all(*total),
+            GivenState::Chunked(total) => {
+                let total = total.get();
+                self.has_from(total, 1, chunk_count(total as usize))
+            }
         }
-    }
-
-    fn at(&self, total: u32, index: u8) -> Option<&HeldChunk>
-        ensures { option_copied result ≡ find (is_at total index) self.now }
-    {
-        self.chunks.iter().find(|held| held.is_at(total, index))
     }
 
     // The bytes of a chunk that is held; none where it is not.
     fn bytes_at(&self, total: u32, index: u8) -> &[u8]
         ensures { result.now ≡ bytes_at total self.now index }
     {
-        match self.at(total, index) {
+        match first_at(self.chunks.as_slice(), total, index) {
             None => &[],
             Some(chunk) => chunk.bytes.as_slice(),
         }

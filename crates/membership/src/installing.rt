@@ -1,16 +1,18 @@
 //! A member goes into the view of its own flush, and says its INSTALL packets again.
 
-ghost use Rattle.std.specs.Prelude.{Ok, ◌≡◌, [], OnOk, IfOk, IfSome, None, length, find};
-ghost use Rattle.std.specs.Option.{option_copied};
+ghost use Rattle.std.specs.Prelude.{Ok, ◌≡◌, [], OnOk, IfOk, IfSome, None, length, map, find};
+ghost use Rattle.std.specs.Option.{option_copied, option_map_or};
 ghost use Rattle.std.specs.List.{AllByRecursion};
 ghost use Rattle.view.specs.View.{view_refusal};
-ghost use Rattle.law_acts.specs.Acts.{others_of, proposed};
+ghost use Rattle.law_acts.specs.Acts.{others_of, packet, proposed};
+ghost use Rattle.law_acts.specs.Given.{chunks_of};
+ghost use Rattle.wire_values.specs.declared.packet.Body.TheVariants as bodies;
 ghost use Rattle.traffic.specs.ViewStates.{view_of};
 ghost use Rattle.membership.specs.Installs.{IsSayable, finished_given};
 ghost use Rattle.step_output.specs.Outputs.{Grows};
 ghost use Rattle.wire_values.specs.Chunks.{IsTotal};
-ghost use Rattle.membership.specs.MemberStates.{IsMemberState, is_sent_to};
-ghost use Rattle.membership.specs.Changes.{Finishes, InstallsAgain, state_packets};
+ghost use Rattle.membership.specs.MemberStates.{IsMemberState, is_sent_to, view_in};
+ghost use Rattle.membership.specs.Changes.{Finishes, InstallsAgain};
 ghost use Rattle.step_output.specs.Steps.{who_of};
 ghost use Rattle.membership.specs.InSteps.{in_step};
 
@@ -18,7 +20,7 @@ use crate::finishing::finish;
 use crate::giving::put_state;
 use crate::sent_install::copied;
 use crate::{MemberState, SentInstall};
-use address::Address;
+use address::{Address, Bytes};
 use flush::Flush;
 use state_transfer::Receiver;
 use std::alloc::{AllocError, Global};
@@ -36,10 +38,36 @@ pub(crate) fn view_of(alloc: Global, flush: &Flush) -> Result<View, AllocError>
     Ok(View::new(flush.proposal(), members).unwrap())
 }
 
-fn install_sent_to<'a>(sent: &'a [SentInstall], member: &Address) -> Option<&'a SentInstall>
+/// The INSTALL among these that was put out for an address. Takes no memory.
+pub fn install_sent_to<'a>(sent: &'a [SentInstall], member: &Address) -> Option<&'a SentInstall>
     ensures { option_copied result ≡ find (is_sent_to member.now) sent.now }
 {
-    sent.iter().find(|sent| sent.packet.destination == *member)
+    let (first, rest) = sent.split_first()?;
+    if first.packet.destination == *member {
+        Some(first)
+    } else {
+        install_sent_to(rest, member)
+    }
+}
+
+// Puts out again the chunks of the state that a member gave, for a member of its view.
+fn put_state_again(
+    who: &Identity,
+    view_state: &Option<ViewState>,
+    state: &Option<Bytes>,
+    member: Address,
+    out: &mut Output,
+) -> Result<(), AllocError>
+    requires { IfSome state.now (λ bytes. IsTotal (length bytes)) }
+    ensures { OnOk result (Grows who.now.group out.old out.new (option_map_or (λ v. option_map_or (λ bytes. map (λ chunk. packet who.now.address (bodies.State v.id chunk) member) (chunks_of bytes)) state.now []) (view_in view_state.now) []) []) }
+{
+    match (view_state, state) {
+        (Some(view_state), Some(state)) => {
+            let view = view_state.view().id();
+            put_state(who, view, member, state.as_slice(), out)
+        }
+        _ => Ok(()),
+    }
 }
 
 impl<R: Receiver> MemberState<R> {
@@ -56,34 +84,17 @@ impl<R: Receiver> MemberState<R> {
         ensures { OnOk result (Finishes R.meaning (who_of who.now) flush.now view_state.now (in_step self.old out.old) (in_step self.new out.new)) }
     {
         flush.kept();
-        let view = view_of(who.alloc, flush)?;
-        let mut sent = Vec::new(who.alloc);
-        self.sent_state = finish(who, flush, view_state, &mut self.receiver, &mut sent, out)?;
-        self.sent_installs = sent;
+        self.sent_installs = Vec::new(who.alloc);
+        let (receiver, sent) = (&mut self.receiver, &mut self.sent_installs);
+        self.sent_state = finish(who, flush, view_state, receiver, sent, out)?;
         self.chunks.clear();
+        let view = view_of(who.alloc, flush)?;
         let roster = Roster::new(flush.proposal(), flush.members().as_slice()).unwrap();
         let _ = self.promise.install(&roster);
         self.notes.settle(&view);
         self.receiver.view_accepted(&view);
         self.view_state = Some(ViewState::fresh(who.alloc, &who.address, view)?);
         self.flush = None;
-        Ok(())
-    }
-
-    // Puts out again the chunks of the state that it gave, for a member of its view.
-    fn put_state_again(
-        &self,
-        who: &Identity,
-        member: Address,
-        out: &mut Output,
-    ) -> Result<(), AllocError>
-        requires { IfSome self.now.sent_state (λ bytes. IsTotal (length bytes)) }
-        ensures { OnOk result (Grows who.now.group out.old out.new (state_packets who.now.address member self.now) []) }
-    {
-        if let (Some(view_state), Some(state)) = (&self.view_state, &self.sent_state) {
-            let view = view_state.view().id();
-            put_state(who, view, member, state.as_slice(), out)?;
-        }
         Ok(())
     }
 
@@ -103,7 +114,7 @@ impl<R: Receiver> MemberState<R> {
             return Ok(());
         };
         if sent.in_chunks {
-            self.put_state_again(who, *member, out)?;
+            put_state_again(who, &self.view_state, &self.sent_state, *member, out)?;
         }
         let packet = copied(who.alloc, &sent.packet)?;
         out.packets.push(packet)?;

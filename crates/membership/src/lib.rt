@@ -21,6 +21,8 @@ pub use beginning::others_of;
 pub use cutting::{chunk_count, chunk_of};
 pub use entering::view_from;
 pub use held_chunks::HeldChunks;
+pub use installing::install_sent_to;
 pub use member_state::MemberState;
+pub use reporting::is_complete;
 pub use sent_install::SentInstall;
 pub use stop::Stop;

@@ -1,26 +1,28 @@
 //! A member promises a proposal, is blocked by that, and reports.
 
-ghost use Rattle.std.specs.Prelude.{◌≡◌, [], ◌∷◌, OnOk, IfOk, true};
+ghost use Rattle.std.specs.Prelude.{◌≡◌, [], ◌∷◌, Some, OnOk, IfOk, true, if◌then◌else◌};
+ghost use Rattle.std.specs.Option.{option_eq};
 ghost use Rattle.std.specs.List.{flat_map, AllByRecursion};
+ghost use Rattle.address.specs.Ids.{same_view_id};
 ghost use Rattle.wire_values.specs.Fields.{placed_bytes, IsPlaced};
 ghost use Rattle.wire_values.specs.declared.packet.Body.TheVariants as bodies;
 ghost use Rattle.view_install.specs.Promises.{offered, is_accept};
 ghost use Rattle.law_acts.specs.Acts.{packet};
-ghost use Rattle.law_acts.specs.Cores.{report_with};
-ghost use Rattle.traffic.specs.ViewStates.{view_of, view_core_of};
+ghost use Rattle.law_acts.specs.Cores.{report_with, id_of};
 ghost use Rattle.step_output.specs.Outputs.{Grows};
-ghost use Rattle.membership.specs.MemberStates.{view_in, view_core_in, report_in, blocked_by, held_for};
+ghost use Rattle.membership.specs.MemberStates.{view_in, view_core_in, report_in, blocked_by};
 ghost use Rattle.membership.specs.Changes.{Promises};
 ghost use Rattle.step_output.specs.Steps.{who_of};
 ghost use Rattle.membership.specs.InSteps.{in_step};
 
-use crate::MemberState;
+use crate::{HeldChunks, MemberState};
 use address::ViewId;
 use state_transfer::Receiver;
 use std::alloc::{AllocError, Global};
 use step_output::{Identity, Output};
 use trace_props::Event;
 use traffic::ViewState;
+use view_install::Promise;
 use wire_values::{Body, Held, Report, Roster};
 
 // What is held of a view, as a report spells it.
@@ -38,18 +40,6 @@ pub(crate) fn held_text(
     Ok(text)
 }
 
-// The report of a member of a view.
-fn report_inside<'a>(view_state: &ViewState, text: &'a [u8]) -> Report<'a>
-    requires bytes { text.now ≡ flat_map placed_bytes (view_core_of view_state.now).held }
-    requires placed { AllByRecursion IsPlaced (view_core_of view_state.now).held }
-    ensures { result ≡ report_with (Some (view_of view_state.now)) (view_core_of view_state.now) }
-{
-    view_state.kept();
-    let held = Held::new(view_state.held_count(), text).unwrap();
-    let view = view_state.view().id();
-    Report::new(view, view_state.stable(), view_state.delivered(), held).unwrap()
-}
-
 // What a member reports.
 pub(crate) fn report_of<'a>(view_state: &Option<ViewState>, text: &'a [u8]) -> Report<'a>
     requires bytes { text.now ≡ flat_map placed_bytes (view_core_in view_state.now).held }
@@ -58,7 +48,25 @@ pub(crate) fn report_of<'a>(view_state: &Option<ViewState>, text: &'a [u8]) -> R
 {
     match view_state {
         None => Report::nothing(),
-        Some(view_state) => report_inside(view_state, text),
+        Some(view_state) => {
+            view_state.kept();
+            let held = Held::new(view_state.held_count(), text).unwrap();
+            let view = view_state.view().id();
+            Report::new(view, view_state.stable(), view_state.delivered(), held).unwrap()
+        }
+    }
+}
+
+// Of the chunks that a member holds it holds on those of this proposal alone.
+pub(crate) fn drop_other_chunks(promise: &Promise, proposal: &Roster, chunks: &mut HeldChunks)
+    ensures { chunks.new ≡ (if option_eq same_view_id (id_of promise.now.proposal) (Some proposal.now.id) then chunks.old else []) }
+{
+    let is_promised = match promise.proposal() {
+        None => false,
+        Some(promised) => promised.id() == proposal.id(),
+    };
+    if !is_promised {
+        chunks.clear();
     }
 }
 
@@ -89,16 +97,6 @@ impl<R: Receiver> MemberState<R> {
         who.put(proposal.creator(), Body::Report { proposal, report }, out)
     }
 
-    // Of the chunks that it holds it holds on those of this proposal alone.
-    pub(crate) fn drop_other_chunks(&mut self, proposal: &Roster)
-        ensures { self.new ≡ record self.old { chunks = held_for proposal.now self.old } }
-    {
-        let promised = self.promise.proposal();
-        if promised.map(|promised| promised.id()) != Some(proposal.id()) {
-            self.chunks.clear();
-        }
-    }
-
     // Promises the proposal of another, which its offer accepts: its own flush ends, it is blocked, and it reports.
     pub(crate) fn promise(
         &mut self,
@@ -112,7 +110,7 @@ impl<R: Receiver> MemberState<R> {
         self.block(who, out)?;
         self.report(who, proposal.id(), out)?;
         self.flush = None;
-        self.drop_other_chunks(proposal);
+        drop_other_chunks(&self.promise, proposal, &mut self.chunks);
         let _ = self.promise.offer(proposal);
         Ok(())
     }

@@ -1,7 +1,7 @@
 //! What a member has to propose by itself, and that it does.
 
 ghost use Rattle.std.specs.Prelude.{◌≡◌, OnOk, IfOk, None, true};
-ghost use Rattle.law_acts.specs.Decisions.{promised_counter, is_due, proposal_after, due_at, due_proposal};
+ghost use Rattle.law_acts.specs.Decisions.{promised_counter, is_due, proposal_after, due_proposal};
 ghost use Rattle.membership.specs.MemberStates.{core_of, IsMemberState, leads_in, anew_proposal, anew_past};
 ghost use Rattle.next_view.specs.ViewNotes.{having_heard};
 ghost use Rattle.membership.specs.Changes.{ProposesIf, Regroups, BeginsAnew};
@@ -66,38 +66,19 @@ impl<R: Receiver> MemberState<R> {
         Ok(Some(Roster::new(id, list.as_slice()).unwrap()))
     }
 
-    // Its next proposal, to its candidates; none where the counters are used up.
-    fn proposal_after(&self, who: &Identity, view: &View) -> Result<Option<Roster>, AllocError>
-        requires member_state { IsMemberState (who_of who.now) self.now }
-        requires leads { leads_in who.now.address view.now self.now.notes ≡ true }
-        ensures { IfOk result (λ w. w ≡ proposal_after (core_of who.now.address self.now) self.now.notes view.now) }
-    {
-        self.proposal_past(who, view, 0)
-    }
-
-    // What it has to propose in its view.
-    fn due_at(&self, who: &Identity, view: &View) -> Result<Option<Roster>, AllocError>
-        requires member_state { IsMemberState (who_of who.now) self.now }
-        ensures { IfOk result (λ w. w ≡ due_at (core_of who.now.address self.now) self.now.notes view.now) }
-    {
-        if !self.notes.leads(view, &who.address) {
-            return Ok(None);
-        }
-        if !self.is_due(who, view)? {
-            return Ok(None);
-        }
-        self.proposal_after(who, view)
-    }
-
     // What it has to propose.
     fn due(&self, who: &Identity) -> Result<Option<Roster>, AllocError>
         requires member_state { IsMemberState (who_of who.now) self.now }
         ensures { IfOk result (λ w. w ≡ due_proposal (core_of who.now.address self.now) self.now.notes) }
     {
-        match &self.view_state {
-            None => Ok(None),
-            Some(view_state) => self.due_at(who, view_state.view()),
+        let Some(view_state) = &self.view_state else {
+            return Ok(None);
+        };
+        let view = view_state.view();
+        if !self.notes.leads(view, &who.address) || !self.is_due(who, view)? {
+            return Ok(None);
         }
+        self.proposal_past(who, view, 0)
     }
 
     // Begins what is due after an install, if anything is. Its list has another member then, so it is not alone in it.

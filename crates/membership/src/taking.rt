@@ -1,13 +1,15 @@
 //! A member takes FLUSH, BEHIND, STATE and INSTALL packets, and suspicions.
 
-ghost use Rattle.std.specs.Prelude.{◌≡◌, OnOk, Ok, Err, true, false};
-ghost use Rattle.address.specs.Ids.{same_address};
-ghost use Rattle.view_install.specs.Promises.{offered, may_install, same_view};
-ghost use Rattle.law_acts.specs.Decisions.{is_readable, is_entry};
+ghost use Rattle.std.specs.Prelude.{◌≡◌, OnOk, Ok, Err, Some, true, false, not, ◌&&◌};
+ghost use Rattle.std.specs.Option.{option_eq};
+ghost use Rattle.address.specs.Ids.{same_address, same_view_id};
+ghost use Rattle.law_acts.specs.Cores.{id_of};
+ghost use Rattle.view_install.specs.Promises.{offered, may_install};
+ghost use Rattle.law_acts.specs.Decisions.{is_readable};
 ghost use Rattle.membership.specs.declared.stop.Stop.TheVariants as stop;
-ghost use Rattle.membership.specs.MemberStates.{core_of, is_connected, awaits, would_hold, IsMemberState};
+ghost use Rattle.membership.specs.MemberStates.{is_connected, would_hold, IsMemberState};
 ghost use Rattle.membership.specs.HeldChunks.{given_in};
-ghost use Rattle.membership.specs.Changes.{StaysAs, is_behind, is_ignored_offer, TakesFlush, TakesInstall, TakesBehind, TakesSuspicion, TakesChunk, would_enter};
+ghost use Rattle.membership.specs.Changes.{StaysAs, is_ignored_offer, TakesFlush, TakesInstall, TakesBehind, TakesSuspicion, TakesChunk, would_enter};
 ghost use Rattle.step_output.specs.Steps.{who_of};
 ghost use Rattle.membership.specs.InSteps.{in_step};
 
@@ -21,22 +23,6 @@ use view_install::{OfferAnswer, Promise};
 use wire_values::{Body, Chunk, Install, Number, Roster};
 
 impl<R: Receiver> MemberState<R> {
-    // Says to who proposed less than what it promised how far it is.
-    fn answer_behind(
-        &self,
-        who: &Identity,
-        proposal: &Roster,
-        out: &mut Output,
-    ) -> Result<(), AllocError>
-        requires { is_behind (offered proposal.now self.now.promise) ≡ true }
-        ensures { OnOk result (TakesFlush (who_of who.now) proposal.now (in_step self.now out.old) (in_step self.now out.new)) }
-    {
-        let promised = self.promise.proposal().unwrap();
-        let counter = Number::new(promised.id().counter()).unwrap();
-        let proposal = proposal.id();
-        who.put(proposal.creator(), Body::Behind { proposal, counter }, out)
-    }
-
     /// Takes a FLUSH of the address that proposes, where it is connected. One that is greater than what it promised, or that it promised and did not
     /// install, is promised and reported for; one that is less is answered with the promised counter; any other is ignored. After an error for want
     /// of memory nothing is said of the member.
@@ -55,7 +41,12 @@ impl<R: Receiver> MemberState<R> {
     {
         match self.promise.answer_to(proposal) {
             OfferAnswer::Accept => self.promise(who, proposal, out),
-            OfferAnswer::Behind(_) => self.answer_behind(who, proposal, out),
+            OfferAnswer::Behind(_) => {
+                let promised = self.promise.proposal().unwrap();
+                let counter = Number::new(promised.id().counter()).unwrap();
+                let proposal = proposal.id();
+                who.put(proposal.creator(), Body::Behind { proposal, counter }, out)
+            }
             OfferAnswer::Ignore => Ok(()),
         }
     }
@@ -91,30 +82,15 @@ impl<R: Receiver> MemberState<R> {
         self.regroup(who, out)
     }
 
-    // Whether an INSTALL from this address is an entry to what it promised.
-    fn is_entry(&self, me: &Address, source: &Address, install: &Install<'_>) -> bool
-        ensures { result ≡ is_entry (core_of me.now self.now) source.now install.now }
-    {
-        *source == install.view().id().creator()
-            && may_install(&self.promise, install.view())
-            && is_fitting(&self.view_state, install)
-    }
-
     /// Whether it would go into a view by an INSTALL from this address: all chunks of the state that it gives are held, too. Takes no memory.
     pub fn would_enter(&self, me: &Address, source: &Address, install: &Install<'_>) -> bool
         ensures { result ≡ would_enter me.now self.now source.now install.now }
     {
-        self.is_entry(me, source, install) && self.chunks.is_there(install.state())
-    }
-
-    // Whether this is what it promised and did not install.
-    fn awaits(&self, proposal: ViewId) -> bool
-        ensures { result ≡ awaits proposal self.now }
-    {
-        match self.promise.proposal() {
-            None => false,
-            Some(promised) => promised.id() == proposal && !self.promise.is_installed(),
-        }
+        let _ = me;
+        *source == install.view().id().creator()
+            && may_install(&self.promise, install.view())
+            && is_fitting(&self.view_state, install)
+            && self.chunks.is_there(install.state())
     }
 
     /// Whether it would hold a chunk of the state of a proposal, from this address: from who proposed it, for what the member promised and did not install, of a
@@ -122,7 +98,9 @@ impl<R: Receiver> MemberState<R> {
     pub fn would_hold(&self, source: &Address, proposal: ViewId, chunk: &Chunk<'_>) -> bool
         ensures { result ≡ would_hold source.now proposal chunk.now self.now }
     {
-        *source == proposal.creator() && self.awaits(proposal) && self.chunks.is_new(chunk)
+        *source == proposal.creator()
+            && awaits(&self.promise, proposal)
+            && self.chunks.is_new(chunk)
     }
 
     /// Takes a chunk of a state: it is held, where it would hold it; else it is ignored. After an error for want of memory nothing is said of the member.
@@ -167,18 +145,26 @@ impl<R: Receiver> MemberState<R> {
     }
 }
 
+// Whether this is what was promised and not installed.
+fn awaits(promise: &Promise, proposal: ViewId) -> bool
+    ensures { result ≡ (option_eq same_view_id (id_of promise.now.proposal) (Some proposal) && not promise.now.is_installed) }
+{
+    match promise.proposal() {
+        None => false,
+        Some(promised) => (promised.id() == proposal) & !promise.is_installed(),
+    }
+}
+
 // Whether a view may be installed.
 fn may_install(promise: &Promise, view: &Roster) -> bool
     ensures { result ≡ may_install view.now promise.now }
 {
     match promise.proposal() {
         None => false,
-        Some(promised) => is_same(view, promised) && !promise.is_installed(),
+        Some(promised) => {
+            view.id() == promised.id()
+                && view.members().as_slice() == promised.members().as_slice()
+                && !promise.is_installed()
+        }
     }
-}
-
-fn is_same(one: &Roster, other: &Roster) -> bool
-    ensures { result ≡ same_view one.now other.now }
-{
-    one.id() == other.id() && one.members().as_slice() == other.members().as_slice()
 }
