@@ -1,6 +1,5 @@
-use Rattle.std.proofs.Common.{ap, rules}
+use Rattle.std.proofs.Common.{rules}
 use Rattle.std.proofs.lemmas.Result.{on_ok_weaker}
-use Rattle.membership.specs.Changes.{is_behind}
 use Rattle.membership.proofs.BehindAnswered.{answered-behind}
 use Rattle.membership.proofs.member_state.MemberState.take_flush.Goals as goal
 
