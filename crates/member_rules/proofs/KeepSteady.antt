@@ -37,6 +37,11 @@ module _ {S : Type 0} (who : Who) where
   stays : (old new : InStep S) → StaysAs old new → Steady who.address old.member new.member
   stays old new x = Same (ap (λ (l : MemberState S). l.view_state) x.0)
 
+  -- where a test fails it stays as it is
+  or-stays : (b : Bool) (P : Type 0) (old new : InStep S) → (P → Steady who.address old.member new.member) → MatchBool b P (StaysAs old new) → Steady who.address old.member new.member
+  or-stays true P old new does x = does x
+  or-stays false P old new does x = stays old new x
+
   module _ (meaning : Meaning S) where
     begins : (w : View) (old new : InStep S) → Begins who w old new → Steady who.address old.member new.member
     begins w old new x = Same (ap (λ (l : MemberState S). l.view_state) x.member_state)
@@ -51,16 +56,12 @@ module _ {S : Type 0} (who : Who) where
         steady-then old.member x.mid.member new.member (Fresh (proposed f) (ap (λ (l : MemberState S). l.view_state) x.finishes.member_state))
         (begins-by (due_proposal (core_of who.address x.mid.member) x.mid.member.notes) x.mid new x.proposes)
 
-    finishes-when : (b : Bool) (f : FlushModel) (old new : InStep S)
-        → MatchBool b (MatchOption old.member.view_state ⊥ (λ t. FinishesAndProposes meaning who f t old new)) (StaysAs old new) → Steady who.address old.member new.member
-    finishes-when true f old new x = finishes-at old.member.view_state f old new x
-    finishes-when false f old new x = stays old new x
-
     finishes-by : (o : Option FlushModel) (old new : InStep S)
         → MatchOption o (StaysAs old new)
         (λ f. MatchBool (is_complete f) (MatchOption old.member.view_state ⊥ (λ t. FinishesAndProposes meaning who f t old new)) (StaysAs old new)) → Steady who.address old.member new.member
     finishes-by None old new x = stays old new x
-    finishes-by (Some f) old new x = finishes-when (is_complete f) f old new x
+    finishes-by (Some f) old new x =
+        or-stays (is_complete f) (MatchOption old.member.view_state ⊥ (λ t. FinishesAndProposes meaning who f t old new)) old new (finishes-at old.member.view_state f old new) x
 
     goes-on : (old new : InStep S) → GoesOn meaning who old new → Steady who.address old.member new.member
     goes-on old new x = finishes-by old.member.flush old new x
@@ -112,46 +113,27 @@ module _ {S : Type 0} (who : Who) where
     admits-by true q old l new out later e x = from old (joined who.address q l) new e (regroups (in_step (joined who.address q l) out) (in_step new later) x)
     admits-by false q old l new out later e x = Same (ap (λ (z : MemberState S). z.view_state) x.member_state ∙ e)
 
-    join-by : (b : Bool) (q : Address) (old new : InStep S)
-        → MatchBool b (Admits meaning who q (in_step (outdated who.address q old.member) old.out) new) (StaysAs old new) → Steady who.address old.member new.member
-    join-by true q old new x = admits-by (leads_now who.address (outdated who.address q old.member)) q old.member (outdated who.address q old.member) new.member old.out new.out (λ i. old.member.view_state) x
-    join-by false q old new x = stays old new x
-
     pub join-steady : (q : Address) (old new : InStep S) → OnJoin meaning who q old new → Steady who.address old.member new.member
-    join-steady q old new x = join-by (is_some old.member.view_state) q old new x
-
-    suspect-by : (b : Bool) (p : Address) (old new : InStep S) → MatchBool b (TakesSuspicion meaning who p old new) (StaysAs old new) → Steady who.address old.member new.member
-    suspect-by true p old new x =
-        let noted = record (old.member) { notes = suspecting p old.member.notes } in from old.member noted new.member (λ i. old.member.view_state) (regroups (in_step noted old.out) new x)
-    suspect-by false p old new x = stays old new x
+    join-steady q old new x =
+        let now = outdated who.address q old.member in
+        or-stays (is_some old.member.view_state) (Admits meaning who q (in_step now old.out) new) old new (admits-by (leads_now who.address now) q old.member now new.member old.out new.out (λ i. old.member.view_state)) x
 
     pub suspect-steady : (p : Address) (old new : InStep S) → OnSuspect meaning who p old new → Steady who.address old.member new.member
-    suspect-steady p old new x = suspect-by (is_suspectable who.address p old.member) p old new x
-
-    flush-by : (b : Bool) (w : View) (old new : InStep S) → MatchBool b (TakesFlush who w old new) (StaysAs old new) → Steady who.address old.member new.member
-    flush-by true w old new x = takes-by (offered w old.member.promise) w old new x
-    flush-by false w old new x = stays old new x
+    suspect-steady p old new x =
+        let noted = record (old.member) { notes = suspecting p old.member.notes } in
+        or-stays (is_suspectable who.address p old.member) (TakesSuspicion meaning who p old new) old new (λ y. from old.member noted new.member (λ i. old.member.view_state) (regroups (in_step noted old.out) new y)) x
 
     pub flush-steady : (q : Address) (w : View) (old new : InStep S) → OnFlush who q w old new → Steady who.address old.member new.member
-    flush-steady q w old new x = flush-by (same_address w.id.creator q) w old new x
-
-    behind-by : (b : Bool) (counter : ℕ) (old new : InStep S) → MatchBool b (TakesBehind meaning who counter old new) (StaysAs old new) → Steady who.address old.member new.member
-    behind-by true counter old new x = behind counter old new x
-    behind-by false counter old new x = stays old new x
+    flush-steady q w old new x = or-stays (same_address w.id.creator q) (TakesFlush who w old new) old new (takes-by (offered w old.member.promise) w old new) x
 
     pub behind-steady : (w : ViewId) (counter : ℕ) (old new : InStep S) → OnBehind meaning who w counter old new → Steady who.address old.member new.member
-    behind-steady w counter old new x = behind-by (is_proposing w old.member) counter old new x
-
-    again-by : (b : Bool) (q : Address) (old new : InStep S)
-        → MatchBool b (SaysAgain who q old new) (StaysAs old new) → Steady who.address old.member new.member
-    again-by true q old new x = Same (ap (λ (l : MemberState S). l.view_state) x.member_state)
-    again-by false q old new x = stays old new x
+    behind-steady w counter old new x = or-stays (is_proposing w old.member) (TakesBehind meaning who counter old new) old new (behind counter old new) x
 
     report-by : (b d : Bool) (q : Address) (w : ViewId) (r : wire.Report) (old new : InStep S)
         → MatchBool b (TakesReport meaning who q w r old new) (MatchBool d (SaysAgain who q old new) (StaysAs old new)) → Steady who.address old.member new.member
     report-by true d q w r old new x =
         let recorded = record (old.member) { flush = option_map (recording q w r) old.member.flush } in from old.member recorded new.member (λ i. old.member.view_state) (goes-on (in_step recorded old.out) new x)
-    report-by false d q w r old new x = again-by d q old new x
+    report-by false d q w r old new x = or-stays d (SaysAgain who q old new) old new (λ y. Same (ap (λ (l : MemberState S). l.view_state) y.member_state)) x
 
     pub report-steady : (q : Address) (w : ViewId) (r : wire.Report) (old new : InStep S) → OnReport meaning who q w r old new → Steady who.address old.member new.member
     report-steady q w r old new x = report-by (expects q w old.member) (is_in w old.member) q w r old new x
@@ -166,11 +148,7 @@ module _ {S : Type 0} (who : Who) where
     merge-in true q u old new x = meets-by (is_less q who.address) q u old new x
     merge-in false q u old new x = Same (ap (λ (l : MemberState S). l.view_state) x.member_state)
 
-    merge-by : (b : Bool) (q : Address) (u : View) (old new : InStep S)
-        → MatchBool b (MatchBool (leads_now who.address old.member) (Meets meaning who q u old new) (Redirects who q old new)) (StaysAs old new)
-        → Steady who.address old.member new.member
-    merge-by true q u old new x = merge-in (leads_now who.address old.member) q u old new x
-    merge-by false q u old new x = stays old new x
-
     pub merge-steady : (q : Address) (u : View) (old new : InStep S) → OnMerge meaning who q u old new → Steady who.address old.member new.member
-    merge-steady q u old new x = merge-by (is_some old.member.view_state && not (has_member q old.member)) q u old new x
+    merge-steady q u old new x =
+        or-stays (is_some old.member.view_state && not (has_member q old.member)) (MatchBool (leads_now who.address old.member) (Meets meaning who q u old new) (Redirects who q old new)) old new
+        (merge-in (leads_now who.address old.member) q u old new) x

@@ -1,14 +1,14 @@
 -- In a change of view at most `WINDOW` + 3 events happen, none of which an input asks for by itself.
-use Rattle.std.proofs.Common.{◌≡◌, ℕ, zero, suc, ◌+◌, ◌-◌, ◌≤◌, Bool, true, false, Option, Some, None, List, [], ◌∷◌, ◌++◌, map, refl, sym, ap, ◌∙◌, subst, is_some, ◌&&◌, not, length, arith}
-use Rattle.std.specs.Prelude.{MatchBool, MatchOption, drop, if◌then◌else◌}
+use Rattle.std.proofs.Common.{◌≡◌, ℕ, ◌+◌, ◌-◌, ◌≤◌, Bool, true, false, Option, Some, None, List, [], ◌∷◌, ◌++◌, map, refl, sym, ap, ap₂, ◌∙◌, subst, is_some, ◌&&◌, not, length, arith}
+use Rattle.std.specs.Prelude.{MatchBool, MatchOption, if◌then◌else◌}
 use Rattle.std.specs.Option.{option_map}
 use Rattle.std.specs.List.{list_all}
-use Rattle.std.proofs.lemmas.Bool.{and_parts}
-use Rattle.std.proofs.lemmas.List.{append-nil, length-append}
+use Rattle.std.proofs.lemmas.List.{append-nil, length-append, length-drop, length-map}
+use Rattle.std.proofs.lemmas.List.Folds.{list_all-append}
 use Rattle.address.specs.Ids.{Address, ViewId, same_address}
 use Rattle.view.specs.Members.{View}
 use Rattle.address.specs.declared.limits.TheConstants.{WINDOW}
-use Rattle.wire_values.specs.Values.{Entry, Report}
+use Rattle.wire_values.specs.Values.{Report}
 use Rattle.wire_values.specs.Values as wire
 use Rattle.state_transfer.specs.Meanings.{Meaning}
 use Rattle.trace_props.specs.declared.event.Event.{Event}
@@ -40,32 +40,20 @@ use Rattle.membership.specs.InSteps.{InStep, in_step}
 
 -- ---- how much is delivered at most
 
-shorter : (n : ℕ) (l : List Entry) → length (drop n l) ≤ length l
-shorter zero l = omega (arith)
-shorter (suc n) [] = omega (arith)
-shorter (suc n) (e ∷ l) = let s = shorter n l in omega (arith, s)
-
 delivered_by-few : (f : FlushModel) (t : ViewState) → length (delivered_by f t) ≤ WINDOW
 delivered_by-few f t =
     let items = (cuts_of f).items (view_of t).id in
-    let a = shorter ((view_core_of t).delivered - (cuts_of f).base (view_of t).id) items in
+    let a = length-drop ((view_core_of t).delivered - (cuts_of f).base (view_of t).id) items in
     let b = cut-few (group (Some (view_of t).id) f.reports) in
     omega (arith, a, b)
 
 -- ---- what is delivered is quiet
 
 quiet-then : (hs : List Event) (h : Event) → list_all is_quiet hs ≡ true → is_quiet h ≡ true → list_all is_quiet (hs ++ h ∷ []) ≡ true
-quiet-then [] h x y = ap (λ b. b && true) y
-quiet-then (j ∷ hs) h x y =
-    let parts = and_parts (is_quiet j) (list_all is_quiet hs) x in
-    ap (λ b. b && list_all is_quiet (hs ++ h ∷ [])) parts.0 ∙ quiet-then hs h parts.1 y
+quiet-then hs h x y = list_all-append is_quiet hs (h ∷ []) ∙ ap₂ (λ a b. a && (b && true)) x y
 
 one-more : (hs : List Event) (h : Event) (n : ℕ) → length hs ≤ n → length (hs ++ h ∷ []) ≤ n + 1
 one-more hs h n few = let e : length (hs ++ h ∷ []) ≡ length hs + length (h ∷ []) = length-append hs (h ∷ []) in omega (arith, e, few)
-
-delivered-few : (p : Address) (v : ViewId) (l : List Entry) → length (map (delivery p v) l) ≡ length l
-delivered-few p v [] = refl
-delivered-few p v (e ∷ l) = ap suc (delivered-few p v l)
 
 blocked-few : (b : Bool) (p : Address) → length (if b then Blocked p ∷ [] else []) ≤ 1
 blocked-few true p = omega (arith)
@@ -82,6 +70,11 @@ module _ {S : Type 0} (who : Who) where
   stays : (n : ℕ) (old new : InStep S) → StaysAs old new → IsCalm n old.out new.out
   stays n old new x = subst (λ (z : Output). IsCalm n old.out z) (sym x.1) (calm-nothing n old.out)
 
+  -- where a test fails it stays as it is
+  or-stays : {n : ℕ} (b : Bool) (P : Type 0) (old new : InStep S) → (P → IsCalm n old.out new.out) → MatchBool b P (StaysAs old new) → IsCalm n old.out new.out
+  or-stays true P old new does x = does x
+  or-stays false P old new does x = stays _ old new x
+
   blocked : (ps : List Posted) (old : MemberState S) (out later : Output) → Grows who.group out later ps (blocked_by who.address old) → IsCalm 1 out later
   blocked ps old out later g = let b = is_open (view_in old.view_state) old.promise.is_installed in calm-grown who.group 1 out later ps (blocked_by who.address old) g (blocked-few b who.address) (blocked-quiet b who.address)
 
@@ -92,7 +85,7 @@ module _ {S : Type 0} (who : Who) where
 
     finishes-events : (f : FlushModel) (t : ViewState) → length (finish_events who.address f t) ≤ WINDOW + 1
     finishes-events f t =
-        let e = delivered-few who.address (view_of t).id (delivered_by f t) in
+        let e = length-map (delivered_by f t) (delivery who.address (view_of t).id) in
         let k = delivered_by-few f t in
         one-more (map (delivery who.address (view_of t).id) (delivered_by f t)) _ WINDOW (omega (arith, e, k))
 
@@ -103,16 +96,12 @@ module _ {S : Type 0} (who : Who) where
         calm-then (WINDOW + 1) 1 old.out x.mid.out new.out (calm-grown who.group (WINDOW + 1) old.out x.mid.out _ (finish_events who.address f t) x.finishes.grows (finishes-events f t) quiet)
         (begins-by (due_proposal (core_of who.address x.mid.member) x.mid.member.notes) x.mid new x.proposes)
 
-    finishes-when : (b : Bool) (f : FlushModel) (old new : InStep S)
-        → MatchBool b (MatchOption old.member.view_state ⊥ (λ t. FinishesAndProposes meaning who f t old new)) (StaysAs old new) → IsCalm (WINDOW + 2) old.out new.out
-    finishes-when true f old new x = finishes-at old.member.view_state f old new x
-    finishes-when false f old new x = stays (WINDOW + 2) old new x
-
     finishes-by : (o : Option FlushModel) (old new : InStep S)
         → MatchOption o (StaysAs old new)
         (λ f. MatchBool (is_complete f) (MatchOption old.member.view_state ⊥ (λ t. FinishesAndProposes meaning who f t old new)) (StaysAs old new)) → IsCalm (WINDOW + 2) old.out new.out
     finishes-by None old new x = stays (WINDOW + 2) old new x
-    finishes-by (Some f) old new x = finishes-when (is_complete f) f old new x
+    finishes-by (Some f) old new x =
+        or-stays (is_complete f) (MatchOption old.member.view_state ⊥ (λ t. FinishesAndProposes meaning who f t old new)) old new (finishes-at old.member.view_state f old new) x
 
     goes-on : (old new : InStep S) → GoesOn meaning who old new → IsCalm (WINDOW + 2) old.out new.out
     goes-on old new x = finishes-by old.member.flush old new x
@@ -138,8 +127,8 @@ module _ {S : Type 0} (who : Who) where
     enters-in None i given few = (omega (arith), refl)
     enters-in (Some t) i given few =
         let l = lacking (Some t) i in
-        let a = shorter ((view_core_of t).delivered - i.base) i.items in
-        let e = delivered-few who.address (view_of t).id l in
+        let a = length-drop ((view_core_of t).delivered - i.base) i.items in
+        let e = length-map l (delivery who.address (view_of t).id) in
         (one-more (map (delivery who.address (view_of t).id) l) _ WINDOW (omega (arith, e, a, few)), quiet-then (map (delivery who.address (view_of t).id) l) _ (deliveries-quiet who.address (view_of t).id l) refl)
 
     entry-by : (b : Bool) (A : Type 0) (i : wire.Install) (given : Option (List ℕ)) (old new : InStep S) → length i.items ≤ WINDOW
@@ -170,13 +159,10 @@ module _ {S : Type 0} (who : Who) where
     admits-by true q l new x = regroups (in_step (joined who.address q l.member) l.out) new x
     admits-by false q l new x = silent who.group (WINDOW + 3) _ l.out new.out x.grows
 
-    join-by : (b : Bool) (q : Address) (old new : InStep S)
-        → MatchBool b (Admits meaning who q (in_step (outdated who.address q old.member) old.out) new) (StaysAs old new) → IsCalm (WINDOW + 3) old.out new.out
-    join-by true q old new x = admits-by (leads_now who.address (outdated who.address q old.member)) q (in_step (outdated who.address q old.member) old.out) new x
-    join-by false q old new x = stays (WINDOW + 3) old new x
-
     pub join-calm : (q : Address) (old new : InStep S) → OnJoin meaning who q old new → IsCalm (WINDOW + 3) old.out new.out
-    join-calm q old new x = join-by (is_some old.member.view_state) q old new x
+    join-calm q old new x =
+        let now = in_step (outdated who.address q old.member) old.out in
+        or-stays (is_some old.member.view_state) (Admits meaning who q now new) old new (admits-by (leads_now who.address now.member) q now new) x
 
     redirect-in : (b : Bool) (c : Address) (old new : InStep S) → MatchBool b (AnnouncesView who c old new) (Asks who c old new) → IsCalm (WINDOW + 3) old.out new.out
     redirect-in true c old new x = announces c old new x
@@ -190,36 +176,21 @@ module _ {S : Type 0} (who : Who) where
     pub redirect-calm : (c : Address) (old new : InStep S) → OnRedirect who c old new → IsCalm (WINDOW + 3) old.out new.out
     redirect-calm c old new x = redirect-by (same_address c who.address) c old new x
 
-    suspect-by : (b : Bool) (p : Address) (old new : InStep S) → MatchBool b (TakesSuspicion meaning who p old new) (StaysAs old new) → IsCalm (WINDOW + 3) old.out new.out
-    suspect-by true p old new x = regroups (in_step (record (old.member) { notes = suspecting p old.member.notes }) old.out) new x
-    suspect-by false p old new x = stays (WINDOW + 3) old new x
-
     pub suspect-calm : (p : Address) (old new : InStep S) → OnSuspect meaning who p old new → IsCalm (WINDOW + 3) old.out new.out
-    suspect-calm p old new x = suspect-by (is_suspectable who.address p old.member) p old new x
-
-    flush-by : (b : Bool) (w : View) (old new : InStep S) → MatchBool b (TakesFlush who w old new) (StaysAs old new) → IsCalm (WINDOW + 3) old.out new.out
-    flush-by true w old new x = takes-by (offered w old.member.promise) w old new x
-    flush-by false w old new x = stays (WINDOW + 3) old new x
+    suspect-calm p old new x =
+        or-stays (is_suspectable who.address p old.member) (TakesSuspicion meaning who p old new) old new (regroups (in_step (record (old.member) { notes = suspecting p old.member.notes }) old.out) new) x
 
     pub flush-calm : (q : Address) (w : View) (old new : InStep S) → OnFlush who q w old new → IsCalm (WINDOW + 3) old.out new.out
-    flush-calm q w old new x = flush-by (same_address w.id.creator q) w old new x
-
-    behind-by : (b : Bool) (counter : ℕ) (old new : InStep S) → MatchBool b (TakesBehind meaning who counter old new) (StaysAs old new) → IsCalm (WINDOW + 3) old.out new.out
-    behind-by true counter old new x = behind counter old new x
-    behind-by false counter old new x = stays (WINDOW + 3) old new x
+    flush-calm q w old new x = or-stays (same_address w.id.creator q) (TakesFlush who w old new) old new (takes-by (offered w old.member.promise) w old new) x
 
     pub behind-calm : (w : ViewId) (counter : ℕ) (old new : InStep S) → OnBehind meaning who w counter old new → IsCalm (WINDOW + 3) old.out new.out
-    behind-calm w counter old new x = behind-by (is_proposing w old.member) counter old new x
-
-    again-by : (b : Bool) (q : Address) (old new : InStep S)
-        → MatchBool b (SaysAgain who q old new) (StaysAs old new) → IsCalm (WINDOW + 3) old.out new.out
-    again-by true q old new x = record { more = []; grows = x.again.events ∙ sym (append-nil old.out.events.items); few = omega (arith); quiet = refl }
-    again-by false q old new x = stays (WINDOW + 3) old new x
+    behind-calm w counter old new x = or-stays (is_proposing w old.member) (TakesBehind meaning who counter old new) old new (behind counter old new) x
 
     report-by : (b d : Bool) (q : Address) (w : ViewId) (r : wire.Report) (old new : InStep S)
         → MatchBool b (TakesReport meaning who q w r old new) (MatchBool d (SaysAgain who q old new) (StaysAs old new)) → IsCalm (WINDOW + 3) old.out new.out
     report-by true d q w r old new x = calm-wider (WINDOW + 2) (WINDOW + 3) old.out new.out (omega (arith)) (goes-on (in_step (record (old.member) { flush = option_map (recording q w r) old.member.flush }) old.out) new x)
-    report-by false d q w r old new x = again-by d q old new x
+    report-by false d q w r old new x =
+        or-stays d (SaysAgain who q old new) old new (λ y. record { more = []; grows = y.again.events ∙ sym (append-nil old.out.events.items); few = omega (arith); quiet = refl }) x
 
     pub report-calm : (q : Address) (w : ViewId) (r : wire.Report) (old new : InStep S) → OnReport meaning who q w r old new → IsCalm (WINDOW + 3) old.out new.out
     report-calm q w r old new x = report-by (expects q w old.member) (is_in w old.member) q w r old new x
@@ -234,11 +205,7 @@ module _ {S : Type 0} (who : Who) where
     merge-in true q u old new x = meets-by (is_less q who.address) q u old new x
     merge-in false q u old new x = silent who.group (WINDOW + 3) _ old.out new.out x.grows
 
-    merge-by : (b : Bool) (q : Address) (u : View) (old new : InStep S)
-        → MatchBool b (MatchBool (leads_now who.address old.member) (Meets meaning who q u old new) (Redirects who q old new)) (StaysAs old new)
-        → IsCalm (WINDOW + 3) old.out new.out
-    merge-by true q u old new x = merge-in (leads_now who.address old.member) q u old new x
-    merge-by false q u old new x = stays (WINDOW + 3) old new x
-
     pub merge-calm : (q : Address) (u : View) (old new : InStep S) → OnMerge meaning who q u old new → IsCalm (WINDOW + 3) old.out new.out
-    merge-calm q u old new x = merge-by (is_some old.member.view_state && not (has_member q old.member)) q u old new x
+    merge-calm q u old new x =
+        or-stays (is_some old.member.view_state && not (has_member q old.member)) (MatchBool (leads_now who.address old.member) (Meets meaning who q u old new) (Redirects who q old new)) old new
+        (merge-in (leads_now who.address old.member) q u old new) x

@@ -1,19 +1,22 @@
 //! A member hears of a flush: of another's proposal, that its own is behind, and of reports.
 
 ghost use Rattle.std.specs.Prelude.{◌≡◌, Ok, OnOk, true, false};
-ghost use Rattle.address.specs.Ids.{same_address};
-ghost use Rattle.membership.specs.MemberStates.{IsMemberState, is_connected};
+ghost use Rattle.std.specs.Option.{option_map_or};
+ghost use Rattle.address.specs.Ids.{same_address, same_view_id};
+ghost use Rattle.membership.specs.MemberStates.{IsMemberState, is_connected, view_in};
 ghost use Rattle.membership.specs.Changes.{StaysAs};
-ghost use Rattle.member_rules.specs.Views.{OnFlush, OnBehind, OnReport, is_proposing, is_in};
+ghost use Rattle.member_rules.specs.Views.{OnFlush, OnBehind, OnReport, is_proposing};
 ghost use Rattle.member_rules.specs.Ignoring.{is_flush_ignored, is_report_ignored};
 ghost use Rattle.step_output.specs.Steps.{who_of};
 ghost use Rattle.membership.specs.InSteps.{in_step};
 
 use address::{Address, ViewId};
+use flush::Flush;
 use membership::MemberState;
 use state_transfer::Receiver;
 use std::alloc::AllocError;
 use step_output::{Identity, Output};
+use traffic::ViewState;
 use wire_values::{Number, Report, Roster};
 
 /// FLUSH: another proposes a view. It counts where its source is who proposes; then a greater one is promised and reported for, and one that is behind is
@@ -40,10 +43,10 @@ pub fn on_flush<R: Receiver>(
 }
 
 // Whether this is what its own flush proposes.
-fn is_proposing<R: Receiver>(member_state: &MemberState<R>, proposal: ViewId) -> bool
-    ensures { result ≡ is_proposing proposal member_state.now }
+fn is_proposing(flush: &Option<Flush>, proposal: ViewId) -> bool
+    ensures { result ≡ option_map_or (λ f. same_view_id f.proposal proposal) flush.now false }
 {
-    match &member_state.flush {
+    match flush {
         None => false,
         Some(flush) => flush.proposal() == proposal,
     }
@@ -63,7 +66,7 @@ pub fn on_behind<R: Receiver>(
     ensures does { OnOk result (OnBehind R.meaning (who_of who.now) proposal counter (in_step member_state.old out.old) (in_step member_state.new out.new)) }
     ensures ignored { is_proposing proposal member_state.old ≡ false → (result ≡ Ok tt) × StaysAs (in_step member_state.old out.old) (in_step member_state.new out.new) }
 {
-    if is_proposing(member_state, proposal) {
+    if is_proposing(&member_state.flush, proposal) {
         member_state.take_behind(who, counter, out)
     } else {
         Ok(())
@@ -71,10 +74,10 @@ pub fn on_behind<R: Receiver>(
 }
 
 // Whether it is in this view.
-fn is_in<R: Receiver>(member_state: &MemberState<R>, view: ViewId) -> bool
-    ensures { result ≡ is_in view member_state.now }
+fn is_in(view_state: &Option<ViewState>, view: ViewId) -> bool
+    ensures { result ≡ option_map_or (λ v. same_view_id v.id view) (view_in view_state.now) false }
 {
-    match &member_state.view_state {
+    match view_state {
         None => false,
         Some(view_state) => view_state.view().id() == view,
     }
@@ -98,7 +101,7 @@ pub fn on_report<R: Receiver>(
 {
     if member_state.expects(&source, proposal) {
         member_state.take_report(who, source, proposal, report, out)
-    } else if is_in(member_state, proposal) {
+    } else if is_in(&member_state.view_state, proposal) {
         member_state.install_again(who, &source, out)
     } else {
         Ok(())

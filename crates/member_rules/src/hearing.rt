@@ -18,8 +18,8 @@ pub fn hears<R: Receiver>(member_state: &MemberState<R>, source: &Address, view:
         None => false,
         Some(view_state) => {
             member_state.promise.is_installed()
-                && view_state.view().id() == view
-                && view_state.view().contains(source)
+                & (view_state.view().id() == view)
+                & view_state.view().contains(source)
         }
     }
 }
@@ -51,7 +51,7 @@ pub fn takes_ack<R: Receiver>(
     match &member_state.view_state {
         None => false,
         Some(ViewState::Coordinator(coordinator)) => {
-            hears(member_state, source, view) && count <= coordinator.window.delivered()
+            hears(member_state, source, view) & (count <= coordinator.window.delivered())
         }
         Some(ViewState::Follower(_)) => false,
     }
@@ -70,9 +70,8 @@ pub fn takes_order<R: Receiver>(
         None => false,
         Some(ViewState::Coordinator(_)) => false,
         Some(ViewState::Follower(follower)) => {
-            hears(member_state, source, view)
-                && follower.view.first() == *source
-                && place.get().saturating_sub(WINDOW) <= follower.window.delivered()
+            let is_near = place.get().saturating_sub(WINDOW) <= follower.window.delivered();
+            hears(member_state, source, view) & (follower.view.first() == *source) & is_near
         }
     }
 }
@@ -82,8 +81,8 @@ fn is_near(follower: &Follower, progress: Progress) -> bool
     ensures { result ≡ is_near progress follower.now }
 {
     let delivered = follower.window.delivered();
-    progress.stable().get() <= delivered
-        && progress.highest().get().saturating_sub(WINDOW) <= delivered
+    (progress.stable().get() <= delivered)
+        & (progress.highest().get().saturating_sub(WINDOW) <= delivered)
 }
 
 /// Whether a STATUS is taken: heard by another member from the coordinator, of no more than was delivered there, and at most `WINDOW` past it.
@@ -100,8 +99,8 @@ pub fn takes_status<R: Receiver>(
         Some(ViewState::Coordinator(_)) => false,
         Some(ViewState::Follower(follower)) => {
             hears(member_state, source, view)
-                && follower.view.first() == *source
-                && is_near(follower, progress)
+                & (follower.view.first() == *source)
+                & is_near(follower, progress)
         }
     }
 }

@@ -3,17 +3,19 @@
 ghost use Rattle.std.specs.Prelude.{◌≡◌, Ok, IfOk, OnOk, is_some, true, false, None};
 ghost use Rattle.std.specs.Option.{option_map_or};
 ghost use Rattle.address.specs.Ids.{same_address};
+ghost use Rattle.next_view.specs.ViewNotes.{outdating};
 ghost use Rattle.next_view.specs.Noting.{noting};
-ghost use Rattle.membership.specs.MemberStates.{IsMemberState, view_in, is_connected};
+ghost use Rattle.membership.specs.MemberStates.{IsMemberState, view_in, is_connected, leads_in};
 ghost use Rattle.membership.specs.Changes.{StaysAs};
 ghost use Rattle.member_rules.specs.Firsts.{lone_install};
-ghost use Rattle.member_rules.specs.Views.{Creates, Asks, OnJoin, OnRedirect, Redirects, Admits, leads_now, first_in, outdated, joined};
+ghost use Rattle.member_rules.specs.Views.{Creates, Asks, OnJoin, OnRedirect, Redirects, Admits, listed_in};
 ghost use Rattle.member_rules.specs.Ignoring.{is_misdirected};
 ghost use Rattle.step_output.specs.Steps.{who_of};
 ghost use Rattle.membership.specs.InSteps.{in_step};
 
 use crate::merging::announce_view;
 use address::{Address, ViewId};
+use flush::Flush;
 use membership::MemberState;
 use next_view::ViewNotes;
 use state_transfer::Receiver;
@@ -53,8 +55,6 @@ pub fn create<R: Receiver>(
     ensures member_state { OnOk result (IsMemberState (who_of who.now) member_state.new) }
     ensures does { OnOk result (Creates (who_of who.now) (in_step member_state.old out.old) (in_step member_state.new out.new)) }
 {
-    let install = lone_install(who)?;
-    who.record(Event::Installed(install), out)?;
     let view = View::alone(who.alloc, ViewId::first_of(who.address))?;
     let roster = Roster::new(view.id(), view.members().as_slice()).unwrap();
     let _ = member_state.promise.offer(&roster);
@@ -63,7 +63,8 @@ pub fn create<R: Receiver>(
     member_state.view_state = Some(ViewState::fresh(who.alloc, &who.address, view)?);
     member_state.sent_state = None;
     member_state.chunks.clear();
-    Ok(())
+    let install = lone_install(who)?;
+    who.record(Event::Installed(install), out)
 }
 
 /// Asks a contact to be let in, by a JOIN (docs/PROTOCOL.md, "Joining"). After an error for want of memory nothing is said of the member.
@@ -78,9 +79,8 @@ pub fn ask<R: Receiver>(
     ensures member_state { OnOk result (IsMemberState (who_of who.now) member_state.new) }
     ensures does { OnOk result (Asks (who_of who.now) contact (in_step member_state.old out.old) (in_step member_state.new out.new)) }
 {
-    who.put(contact, Body::Join, out)?;
     member_state.contact = Some(contact);
-    Ok(())
+    who.put(contact, Body::Join, out)
 }
 
 // Says to an address whom to ask in its place.
@@ -92,97 +92,59 @@ pub(crate) fn redirect<R: Receiver>(
 ) -> Result<(), AllocError>
     ensures { OnOk result (Redirects (who_of who.now) address (in_step member_state.now out.old) (in_step member_state.now out.new)) }
 {
-    match first_in(member_state) {
+    let Some(view_state) = &member_state.view_state else {
+        return Ok(());
+    };
+    match member_state.notes.first_unsuspected(view_state.view()) {
         None => Ok(()),
         Some(first) => who.put(address, Body::Redirect(first), out),
     }
 }
 
-// The member of its view of the lowest rank that it does not suspect.
-pub(crate) fn first_in<R: Receiver>(member_state: &MemberState<R>) -> Option<Address>
-    ensures { result ≡ first_in member_state.now }
-{
-    match &member_state.view_state {
-        None => None,
-        Some(view_state) => member_state.notes.first_unsuspected(view_state.view()),
-    }
-}
-
 // Whether it leads its view.
-pub(crate) fn leads_now<R: Receiver>(member_state: &MemberState<R>, who: &Identity) -> bool
-    ensures { result ≡ leads_now who.now.address member_state.now }
+pub(crate) fn leads_now(view_state: &Option<ViewState>, notes: &ViewNotes, who: &Identity) -> bool
+    ensures { result ≡ option_map_or (λ v. leads_in who.now.address v notes.now) (view_in view_state.now) false }
 {
-    match &member_state.view_state {
+    match view_state {
         None => false,
-        Some(view_state) => member_state.notes.leads(view_state.view(), &who.address),
+        Some(view_state) => notes.leads(view_state.view(), &who.address),
     }
 }
 
 // Suspects the earlier incarnations of an address' node in its view.
-fn outdate<R: Receiver>(
-    member_state: &mut MemberState<R>,
-    who: &Identity,
-    address: Address,
-) -> Result<(), AllocError>
-    ensures { OnOk result (member_state.new ≡ outdated who.now.address address member_state.old) }
-{
-    match &member_state.view_state {
-        None => Ok(()),
-        Some(view_state) => member_state
-            .notes
-            .outdate(&who.address, view_state.view(), &address),
-    }
-}
-
-// Notes one who asks to be let into a view, if there is one.
-fn note_in(
+fn outdate(
     notes: &mut ViewNotes,
     who: &Identity,
     view_state: &Option<ViewState>,
-    listed: &[Address],
     address: Address,
 ) -> Result<(), AllocError>
-    ensures { OnOk result (notes.new ≡ option_map_or (λ v. noting who.now.address v.members listed.now address notes.old) (view_in view_state.now) notes.old) }
+    ensures { OnOk result (notes.new ≡ option_map_or (λ v. outdating who.now.address v.members address notes.old) (view_in view_state.now) notes.old) }
 {
     match view_state {
         None => Ok(()),
-        Some(view_state) => notes.note_joiner(
-            who.alloc,
-            &who.address,
-            view_state.view(),
-            listed,
-            address,
-        ),
+        Some(view_state) => notes.outdate(&who.address, view_state.view(), &address),
     }
 }
 
-// Notes one who asks to be let in.
-fn note_joiner<R: Receiver>(
-    member_state: &mut MemberState<R>,
+// Notes one who asks to be let into a view, if there is one, beside those of the list of an own flush.
+fn note_joiner(
+    notes: &mut ViewNotes,
     who: &Identity,
+    view_state: &Option<ViewState>,
+    flush: &Option<Flush>,
     address: Address,
 ) -> Result<(), AllocError>
-    ensures { OnOk result (member_state.new ≡ joined who.now.address address member_state.old) }
+    ensures { OnOk result (notes.new ≡ option_map_or (λ v. noting who.now.address v.members (listed_in flush.now) address notes.old) (view_in view_state.now) notes.old) }
 {
-    match &member_state.flush {
-        None => note_in(
-            &mut member_state.notes,
-            who,
-            &member_state.view_state,
-            &[],
-            address,
-        ),
-        Some(flush) => {
-            let listed = flush.members().as_slice();
-            note_in(
-                &mut member_state.notes,
-                who,
-                &member_state.view_state,
-                listed,
-                address,
-            )
-        }
-    }
+    let Some(view_state) = view_state else {
+        return Ok(());
+    };
+    let listed: &[Address] = match flush {
+        None => &[],
+        Some(flush) => flush.members().as_slice(),
+    };
+    let view = view_state.view();
+    notes.note_joiner(who.alloc, &who.address, view, listed, address)
 }
 
 // One asks to be let in, where earlier incarnations of its node are suspected already: it is noted, and what is due is begun; or it is redirected.
@@ -197,8 +159,9 @@ fn admit<R: Receiver>(
     ensures member_state { OnOk result (IsMemberState (who_of who.now) member_state.new) }
     ensures does { OnOk result (Admits R.meaning (who_of who.now) source (in_step member_state.old out.old) (in_step member_state.new out.new)) }
 {
-    if leads_now(member_state, who) {
-        note_joiner(member_state, who, source)?;
+    let (view_state, flush) = (&member_state.view_state, &member_state.flush);
+    if leads_now(view_state, &member_state.notes, who) {
+        note_joiner(&mut member_state.notes, who, view_state, flush, source)?;
         member_state.regroup(who, out)
     } else {
         redirect(member_state, who, source, out)
@@ -222,9 +185,13 @@ pub fn on_join<R: Receiver>(
     if member_state.view_state.is_none() {
         return Ok(());
     }
-    outdate(member_state, who, source)?;
-    admit(member_state, who, source, out)?;
-    Ok(())
+    outdate(
+        &mut member_state.notes,
+        who,
+        &member_state.view_state,
+        source,
+    )?;
+    admit(member_state, who, source, out)
 }
 
 /// REDIRECT: another is to be asked. Without a view it asks that one; in a view this is a hint of another view; one to itself is ignored

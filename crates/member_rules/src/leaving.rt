@@ -1,13 +1,15 @@
 //! A member leaves, and others are suspected.
 
 ghost use Rattle.std.specs.Prelude.{◌≡◌, Ok, OnOk, true, false, [], map};
+ghost use Rattle.std.specs.Option.{option_map_or};
+ghost use Rattle.view.specs.Members.{stands_in};
 ghost use Rattle.wire_values.specs.declared.packet.Body.TheVariants as bodies;
 ghost use Rattle.law_acts.specs.Acts.{packet, others_of};
 ghost use Rattle.step_output.specs.Outputs.{Grows};
 ghost use Rattle.traffic.specs.ViewStates.{view_of};
 ghost use Rattle.membership.specs.MemberStates.{IsMemberState};
 ghost use Rattle.membership.specs.Changes.{StaysAs};
-ghost use Rattle.member_rules.specs.Views.{Leaves, OnSuspect, has_promised, is_suspectable};
+ghost use Rattle.member_rules.specs.Views.{Leaves, OnSuspect, is_suspectable};
 ghost use Rattle.step_output.specs.Steps.{who_of};
 ghost use Rattle.membership.specs.InSteps.{in_step};
 
@@ -19,6 +21,7 @@ use std::alloc::AllocError;
 use step_output::{Identity, Output};
 use trace_props::Event;
 use traffic::ViewState;
+use view_install::Promise;
 use wire_values::Body;
 
 // Says to the other members of a view that it goes.
@@ -48,26 +51,13 @@ pub fn leave<R: Receiver>(
 }
 
 // Whether an address is in the list that it promised.
-fn has_promised<R: Receiver>(member_state: &MemberState<R>, address: &Address) -> bool
-    ensures { result ≡ has_promised address.now member_state.now }
+fn has_promised(promise: &Promise, address: &Address) -> bool
+    ensures { result ≡ option_map_or (λ w. stands_in address.now w.members) promise.now.proposal false }
 {
-    match member_state.promise.proposal() {
+    match promise.proposal() {
         None => false,
         Some(proposal) => proposal.members().as_slice().contains(address),
     }
-}
-
-// Whether an address is another, in its view or in the list that it promised.
-fn is_suspectable<R: Receiver>(
-    member_state: &MemberState<R>,
-    who: &Identity,
-    address: &Address,
-) -> bool
-    ensures { result ≡ is_suspectable who.now.address address.now member_state.now }
-{
-    member_state.view_state.is_some()
-        && *address != who.address
-        && (has_member(member_state, address) || has_promised(member_state, address))
 }
 
 /// LEAVE, or a suspicion of the failure detector: an address has gone. It is suspected, and what is due is begun (docs/PROTOCOL.md, "Suspicion").
@@ -84,7 +74,9 @@ pub fn on_suspect<R: Receiver>(
     ensures does { OnOk result (OnSuspect R.meaning (who_of who.now) address (in_step member_state.old out.old) (in_step member_state.new out.new)) }
     ensures ignored { is_suspectable who.now.address address member_state.old ≡ false → (result ≡ Ok tt) × StaysAs (in_step member_state.old out.old) (in_step member_state.new out.new) }
 {
-    if is_suspectable(member_state, who, &address) {
+    let is_listed = has_member(&member_state.view_state, &address)
+        | has_promised(&member_state.promise, &address);
+    if member_state.view_state.is_some() & (address != who.address) & is_listed {
         member_state.take_suspicion(who, address, out)
     } else {
         Ok(())

@@ -1,14 +1,15 @@
 //! A member finds others of its group in other views.
 
-ghost use Rattle.std.specs.Prelude.{◌≡◌, [], ◌∷◌, Ok, IfOk, OnOk, true};
+ghost use Rattle.std.specs.Prelude.{◌≡◌, [], ◌∷◌, Ok, OnOk, true, false};
 ghost use Rattle.std.specs.Option.{option_map_or, option_copied};
+ghost use Rattle.view.specs.Members.{stands_in};
 ghost use Rattle.next_view.specs.Noting.{noting_view};
 ghost use Rattle.wire_values.specs.declared.packet.Body.TheVariants as bodies;
 ghost use Rattle.law_acts.specs.Acts.{packet};
 ghost use Rattle.step_output.specs.Outputs.{Grows};
 ghost use Rattle.membership.specs.MemberStates.{IsMemberState, view_in};
 ghost use Rattle.membership.specs.Changes.{StaysAs};
-ghost use Rattle.member_rules.specs.Views.{AnnouncesView, Meets, OnMerge, is_less, has_member, view_for, merged};
+ghost use Rattle.member_rules.specs.Views.{AnnouncesView, Meets, OnMerge, is_less, view_for};
 ghost use Rattle.member_rules.specs.Ignoring.{is_hint_ignored, is_merge_ignored};
 ghost use Rattle.step_output.specs.Steps.{who_of};
 ghost use Rattle.membership.specs.InSteps.{in_step};
@@ -18,7 +19,7 @@ use address::Address;
 use membership::{MemberState, view_from};
 use next_view::ViewNotes;
 use state_transfer::Receiver;
-use std::alloc::{AllocError, Global};
+use std::alloc::AllocError;
 use std::cmp::Ordering;
 use step_output::{Identity, Output};
 use traffic::ViewState;
@@ -26,10 +27,10 @@ use view::View;
 use wire_values::{Body, Roster};
 
 // Whether an address is in its view.
-pub(crate) fn has_member<R: Receiver>(member_state: &MemberState<R>, address: &Address) -> bool
-    ensures { result ≡ has_member address.now member_state.now }
+pub(crate) fn has_member(view_state: &Option<ViewState>, address: &Address) -> bool
+    ensures { result ≡ option_map_or (λ v. stands_in address.now v.members) (view_in view_state.now) false }
 {
-    match &member_state.view_state {
+    match view_state {
         None => false,
         Some(view_state) => view_state.view().contains(address),
     }
@@ -44,8 +45,8 @@ fn view_for<'a, R: Receiver>(
     ensures { option_copied result ≡ view_for who.now.address address.now member_state.now }
 {
     if member_state.promise.is_installed()
-        && leads_now(member_state, who)
-        && !has_member(member_state, address)
+        && leads_now(&member_state.view_state, &member_state.notes, who)
+        && !has_member(&member_state.view_state, address)
     {
         member_state.view()
     } else {
@@ -80,35 +81,19 @@ pub fn announce_view<R: Receiver>(
 }
 
 // Notes those of another view, where there is an own one.
-fn note_in(
+fn note_view(
     notes: &mut ViewNotes,
     who: &Identity,
     view_state: &Option<ViewState>,
-    other: &View,
+    other: &Roster,
 ) -> Result<(), AllocError>
     ensures { OnOk result (notes.new ≡ option_map_or (λ v. noting_view who.now.address v.members other.now notes.old) (view_in view_state.now) notes.old) }
 {
-    match view_state {
-        None => Ok(()),
-        Some(view_state) => notes.note_view(who.alloc, &who.address, view_state.view(), other),
-    }
-}
-
-// Notes those of another view.
-fn note_view<R: Receiver>(
-    member_state: &mut MemberState<R>,
-    who: &Identity,
-    other: &Roster,
-) -> Result<(), AllocError>
-    ensures { OnOk result (member_state.new ≡ merged who.now.address other.now member_state.old) }
-{
+    let Some(view_state) = view_state else {
+        return Ok(());
+    };
     let other = view_from(who.alloc, other)?;
-    note_in(
-        &mut member_state.notes,
-        who,
-        &member_state.view_state,
-        &other,
-    )
+    notes.note_view(who.alloc, &who.address, view_state.view(), &other)
 }
 
 fn is_less(one: &Address, other: &Address) -> bool
@@ -133,7 +118,12 @@ fn meet<R: Receiver>(
     if is_less(&source, &who.address) {
         announce_view(member_state, who, source, out)
     } else {
-        note_view(member_state, who, other)?;
+        note_view(
+            &mut member_state.notes,
+            who,
+            &member_state.view_state,
+            other,
+        )?;
         member_state.regroup(who, out)
     }
 }
@@ -153,10 +143,10 @@ pub fn on_merge<R: Receiver>(
     ensures does { OnOk result (OnMerge R.meaning (who_of who.now) source other.now (in_step member_state.old out.old) (in_step member_state.new out.new)) }
     ensures ignored { is_merge_ignored who.now.address source member_state.old ≡ true → (result ≡ Ok tt) × StaysAs (in_step member_state.old out.old) (in_step member_state.new out.new) }
 {
-    if member_state.view_state.is_none() || has_member(member_state, &source) {
+    if member_state.view_state.is_none() || has_member(&member_state.view_state, &source) {
         return Ok(());
     }
-    if leads_now(member_state, who) {
+    if leads_now(&member_state.view_state, &member_state.notes, who) {
         meet(member_state, who, source, other, out)
     } else {
         redirect(member_state, who, source, out)

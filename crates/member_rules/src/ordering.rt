@@ -111,9 +111,6 @@ pub fn on_nak<R: Receiver>(
     };
     match view_state {
         ViewState::Follower(_) => unreachable!(),
-        ViewState::Coordinator(coordinator) => {
-            coordinator.nak(who, source, missing, out)?;
-            Ok(())
-        }
+        ViewState::Coordinator(coordinator) => { coordinator.nak(who, source, missing, out) }
     }
 }

@@ -34,13 +34,7 @@ pub fn tick_in_view<R: Receiver>(
         return Ok(());
     };
     match view_state {
-        ViewState::Coordinator(coordinator) => {
-            coordinator.tick(who, out)?;
-            Ok(())
-        }
-        ViewState::Follower(follower) => {
-            follower.tick(who, out)?;
-            Ok(())
-        }
+        ViewState::Coordinator(coordinator) => coordinator.tick(who, out),
+        ViewState::Follower(follower) => follower.tick(who, out),
     }
 }

@@ -12,13 +12,11 @@ returns-then-not-takes_ack-clause-hears g c = record { member_state = c.requires
 
 pub ack-requires-clause-coordinator : goal.ack-requires-clause-coordinator
 ack-requires-clause-coordinator g c =
-    let there = there-is _ _ _ c.in-Some-Coordinator.is c.in-Some-Coordinator.field-0-is in
-    (orderly-in _ _ _ c.requires.ordered there).0
+    (orderly-in _ _ _ c.requires.ordered (there-is _ _ _ c.in-Some-Coordinator.is c.in-Some-Coordinator.field-0-is)).0
 
 pub ack-requires-clause-settled : goal.ack-requires-clause-settled
 ack-requires-clause-settled g c =
-    let there = there-is _ _ _ c.in-Some-Coordinator.is c.in-Some-Coordinator.field-0-is in
-    (orderly-in _ _ _ c.requires.ordered there).1
+    (orderly-in _ _ _ c.requires.ordered (there-is _ _ _ c.in-Some-Coordinator.is c.in-Some-Coordinator.field-0-is)).1
 
 pub returns-clause-hears : goal.returns-clause-hears
 returns-clause-hears g c =

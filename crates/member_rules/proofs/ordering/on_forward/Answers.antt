@@ -12,13 +12,11 @@ returns-then-not-takes_forward-clause-hears g c = record { member_state = c.requ
 
 pub forward-requires-clause-coordinator : goal.forward-requires-clause-coordinator
 forward-requires-clause-coordinator g c =
-    let there = there-is _ _ _ c.in-Some-Coordinator.is c.in-Some-Coordinator.field-0-is in
-    (orderly-in _ _ _ c.requires.ordered there).0
+    (orderly-in _ _ _ c.requires.ordered (there-is _ _ _ c.in-Some-Coordinator.is c.in-Some-Coordinator.field-0-is)).0
 
 pub forward-requires-clause-settled : goal.forward-requires-clause-settled
 forward-requires-clause-settled g c =
-    let there = there-is _ _ _ c.in-Some-Coordinator.is c.in-Some-Coordinator.field-0-is in
-    (orderly-in _ _ _ c.requires.ordered there).1
+    (orderly-in _ _ _ c.requires.ordered (there-is _ _ _ c.in-Some-Coordinator.is c.in-Some-Coordinator.field-0-is)).1
 
 pub returns-clause-hears : goal.returns-clause-hears
 returns-clause-hears g c =

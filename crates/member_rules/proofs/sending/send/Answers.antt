@@ -9,18 +9,15 @@ use Rattle.member_rules.proofs.sending.send.Goals as goal
 
 pub send-requires-clause-coordinator : goal.send-requires-clause-coordinator
 send-requires-clause-coordinator g c =
-    let there = there-is _ _ _ c.in-Some-Coordinator.is c.in-Some-Coordinator.field-0-is in
-    (orderly-in _ _ _ c.requires.ordered there).0
+    (orderly-in _ _ _ c.requires.ordered (there-is _ _ _ c.in-Some-Coordinator.is c.in-Some-Coordinator.field-0-is)).0
 
 pub send-requires-clause-settled : goal.send-requires-clause-settled
 send-requires-clause-settled g c =
-    let there = there-is _ _ _ c.in-Some-Coordinator.is c.in-Some-Coordinator.field-0-is in
-    (orderly-in _ _ _ c.requires.ordered there).1
+    (orderly-in _ _ _ c.requires.ordered (there-is _ _ _ c.in-Some-Coordinator.is c.in-Some-Coordinator.field-0-is)).1
 
 pub send-requires-clause-rested : goal.send-requires-clause-rested
 send-requires-clause-rested g c =
-    let there = there-is _ _ _ c.in-Some-Coordinator.is c.in-Some-Coordinator.field-0-is in
-    (orderly-in _ _ _ c.requires.ordered there).2
+    (orderly-in _ _ _ c.requires.ordered (there-is _ _ _ c.in-Some-Coordinator.is c.in-Some-Coordinator.field-0-is)).2
 
 pub returns-in_ok-send-in-Some-Coordinator-clause-member_state : goal.returns-in_ok-send-in-Some-Coordinator-clause-member_state
 returns-in_ok-send-in-Some-Coordinator-clause-member_state g c =
