@@ -44,11 +44,6 @@ module _ {S : Type 0} (who : Who) where
   pub merged-member_state : (u : View) (l new : MemberState S) → IsMemberState who l → new ≡ merged who.address u l → IsMemberState who new
   merged-member_state u l new x is = merged-in (view_in l.view_state) u l new x is
 
-  -- ---- it asks
-
-  pub asked-member_state : (contact : Address) (l : MemberState S) → IsMemberState who l → IsMemberState who (record l { contact = Some contact })
-  asked-member_state contact l x = lives.contact-member_state who l _ contact x refl
-
   -- ---- it makes a first view of itself alone
 
   pub outside : (l : MemberState S) → is_connected l ≡ false → l.view_state ≡ None

@@ -92,18 +92,15 @@ module _ {S : Type 0} (who : Who) where
     entry-by true A i given old new x = Fresh i.view (ap (λ (l : MemberState S). l.view_state) x.1.member_state)
     entry-by false A i given old new x = stays old new x
 
-    chunk-by : (b : Bool) (chunks : List wire.Chunk) (old new : InStep S) → MatchBool b ((new.member ≡ record (old.member) { chunks = chunks }) × (new.out ≡ old.out)) (StaysAs old new)
-        → Steady who.address old.member new.member
-    chunk-by true chunks old new x = Same (ap (λ (l : MemberState S). l.view_state) x.0)
-    chunk-by false chunks old new x = stays old new x
-
     -- ---- by the packet that came, or the input
 
     pub install-steady : (q : Address) (i : wire.Install) (old new : InStep S) → TakesInstall meaning who q i old new → Steady who.address old.member new.member
     install-steady q i old new x = entry-by (would_enter who.address old.member q i) _ i (given_in i.state old.member.chunks) old new x
 
     pub chunk-steady : (q : Address) (w : ViewId) (chunk : wire.Chunk) (old new : InStep S) → TakesChunk q w chunk old new → Steady who.address old.member new.member
-    chunk-steady q w chunk old new x = chunk-by (would_hold q w chunk old.member) (old.member.chunks ++ chunk ∷ []) old new x
+    chunk-steady q w chunk old new x =
+        or-stays (would_hold q w chunk old.member) ((new.member ≡ record (old.member) { chunks = old.member.chunks ++ chunk ∷ [] }) × (new.out ≡ old.out)) old new
+        (λ y. Same (ap (λ (l : MemberState S). l.view_state) y.0)) x
 
     announces : (p : Address) (old new : InStep S) → AnnouncesView who p old new → Steady who.address old.member new.member
     announces p old new x = Same (ap (λ (l : MemberState S). l.view_state) x.member_state)

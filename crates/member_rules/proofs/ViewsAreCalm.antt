@@ -138,18 +138,15 @@ module _ {S : Type 0} (who : Who) where
         calm-wider (WINDOW + 1) (WINDOW + 3) old.out new.out (omega (arith)) (calm-grown who.group (WINDOW + 1) old.out new.out [] (enter_events who.address old.member.view_state i given) x.1.grows k.0 k.1)
     entry-by false A i given old new few x = stays (WINDOW + 3) old new x
 
-    chunk-by : (b : Bool) (chunks : List wire.Chunk) (old new : InStep S) → MatchBool b ((new.member ≡ record (old.member) { chunks = chunks }) × (new.out ≡ old.out)) (StaysAs old new)
-        → IsCalm (WINDOW + 3) old.out new.out
-    chunk-by true chunks old new x = record { more = []; grows = ap (λ (o : Output). o.events.items) x.1 ∙ sym (append-nil old.out.events.items); few = omega (arith); quiet = refl }
-    chunk-by false chunks old new x = stays (WINDOW + 3) old new x
-
     -- ---- by the packet that came, or the input
 
     pub install-calm : (q : Address) (i : wire.Install) (old new : InStep S) → length i.items ≤ WINDOW → TakesInstall meaning who q i old new → IsCalm (WINDOW + 3) old.out new.out
     install-calm q i old new few x = entry-by (would_enter who.address old.member q i) _ i (given_in i.state old.member.chunks) old new few x
 
     pub chunk-calm : (q : Address) (w : ViewId) (chunk : wire.Chunk) (old new : InStep S) → TakesChunk q w chunk old new → IsCalm (WINDOW + 3) old.out new.out
-    chunk-calm q w chunk old new x = chunk-by (would_hold q w chunk old.member) (old.member.chunks ++ chunk ∷ []) old new x
+    chunk-calm q w chunk old new x =
+        or-stays (would_hold q w chunk old.member) ((new.member ≡ record (old.member) { chunks = old.member.chunks ++ chunk ∷ [] }) × (new.out ≡ old.out)) old new
+        (λ y. record { more = []; grows = ap (λ (o : Output). o.events.items) y.1 ∙ sym (append-nil old.out.events.items); few = omega (arith); quiet = refl }) x
 
     announces : (p : Address) (old new : InStep S) → AnnouncesView who p old new → IsCalm (WINDOW + 3) old.out new.out
     announces p old new x = silent who.group (WINDOW + 3) _ old.out new.out x.grows

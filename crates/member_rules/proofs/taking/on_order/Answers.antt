@@ -15,8 +15,7 @@ returns-then-not-takes_order-clause-hears g c = record { member_state = c.requir
 
 pub order-requires : goal.order-requires
 order-requires g c =
-    let there = there-is _ _ _ c.in-Some-Follower.is c.in-Some-Follower.field-0-is in
-    record { other = (orderly-in _ _ _ c.requires.ordered there).0 }
+    record { other = (orderly-in _ _ _ c.requires.ordered (there-is _ _ _ c.in-Some-Follower.is c.in-Some-Follower.field-0-is)).0 }
 
 pub returns-clause-hears : goal.returns-clause-hears
 returns-clause-hears g c =
