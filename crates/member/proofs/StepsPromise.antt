@@ -71,8 +71,6 @@ still group p l runs = λ x e. subst (IsRunning (who p group)) (same_Some l x e)
 pub steady-runs : {S : Type 0} (group : List ℕ) (p : Address) (old new : MemberState S) → Steady p old new → IsMemberState (who p group) new → IsRunning (who p group) old → IsRunning (who p group) new
 steady-runs group p old new steady member_state runs = record { member_state = member_state; ordered = steady-ordered group p old new steady member_state runs.ordered }
 
--- ---- it does not hold the number that comes next
-
 -- ---- from nothing
 
 pub only : (start out : Output) (happened : List Event) → Puts [] [] start → out.events.items ≡ start.events.items ++ happened → out.events.items ≡ happened

@@ -36,8 +36,7 @@ pub(crate) fn create_group<R: Receiver>(
     who: &Identity,
 ) -> Result<Output, Error>
     requires alive { IsAlive (who_of who.now) member_state.old }
-    ensures alive { IsAlive (who_of who.now) member_state.new }
-    ensures handled { Handled R.meaning (record { address = who.now.address; group = who.now.group; member_state = member_state.old }) input.Create result (record { address = who.now.address; group = who.now.group; member_state = member_state.new }) }
+    ensures { Handled R.meaning (record { address = who.now.address; group = who.now.group; member_state = member_state.old }) input.Create result (record { address = who.now.address; group = who.now.group; member_state = member_state.new }) }
 {
     let Some(running) = member_state else {
         return Err(Error::Refused(Refusal::Closed));
@@ -59,8 +58,7 @@ pub(crate) fn join_group<R: Receiver>(
     contact: Address,
 ) -> Result<Output, Error>
     requires alive { IsAlive (who_of who.now) member_state.old }
-    ensures alive { IsAlive (who_of who.now) member_state.new }
-    ensures handled { Handled R.meaning (record { address = who.now.address; group = who.now.group; member_state = member_state.old }) (input.Join contact) result (record { address = who.now.address; group = who.now.group; member_state = member_state.new }) }
+    ensures { Handled R.meaning (record { address = who.now.address; group = who.now.group; member_state = member_state.old }) (input.Join contact) result (record { address = who.now.address; group = who.now.group; member_state = member_state.new }) }
 {
     let Some(running) = member_state else {
         return Err(Error::Refused(Refusal::Closed));
@@ -82,8 +80,7 @@ pub(crate) fn send_message<R: Receiver>(
     payload: &[u8],
 ) -> Result<Output, Error>
     requires alive { IsAlive (who_of who.now) member_state.old }
-    ensures alive { IsAlive (who_of who.now) member_state.new }
-    ensures handled { Handled R.meaning (record { address = who.now.address; group = who.now.group; member_state = member_state.old }) (input.Send payload.entry) result (record { address = who.now.address; group = who.now.group; member_state = member_state.new }) }
+    ensures { Handled R.meaning (record { address = who.now.address; group = who.now.group; member_state = member_state.old }) (input.Send payload.entry) result (record { address = who.now.address; group = who.now.group; member_state = member_state.new }) }
 {
     let Some(running) = member_state else {
         return Err(Error::Refused(Refusal::Closed));
@@ -121,7 +118,6 @@ pub(crate) fn take_datagram<R: Receiver>(
     bytes: &[u8],
 ) -> Result<Taken, Error>
     requires alive { IsAlive (who_of who.now) member_state.old }
-    ensures alive { IsAlive (who_of who.now) member_state.new }
     ensures handled { Handled R.meaning (record { address = who.now.address; group = who.now.group; member_state = member_state.old }) (input.Datagram bytes.entry) (output_of result) (record { address = who.now.address; group = who.now.group; member_state = member_state.new }) }
     ensures heard { IfOk result (λ taken. taken.heard ≡ heard_of who.now.address who.now.group bytes.now) }
 {
@@ -152,8 +148,7 @@ pub(crate) fn tick<R: Receiver>(
     who: &Identity,
 ) -> Result<Output, Error>
     requires alive { IsAlive (who_of who.now) member_state.old }
-    ensures alive { IsAlive (who_of who.now) member_state.new }
-    ensures handled { Handled R.meaning (record { address = who.now.address; group = who.now.group; member_state = member_state.old }) input.Tick result (record { address = who.now.address; group = who.now.group; member_state = member_state.new }) }
+    ensures { Handled R.meaning (record { address = who.now.address; group = who.now.group; member_state = member_state.old }) input.Tick result (record { address = who.now.address; group = who.now.group; member_state = member_state.new }) }
 {
     let Some(running) = member_state else {
         return Err(Error::Refused(Refusal::Closed));
@@ -172,8 +167,7 @@ pub(crate) fn suspect<R: Receiver>(
     address: Address,
 ) -> Result<Output, Error>
     requires alive { IsAlive (who_of who.now) member_state.old }
-    ensures alive { IsAlive (who_of who.now) member_state.new }
-    ensures handled { Handled R.meaning (record { address = who.now.address; group = who.now.group; member_state = member_state.old }) (input.Suspect address) result (record { address = who.now.address; group = who.now.group; member_state = member_state.new }) }
+    ensures { Handled R.meaning (record { address = who.now.address; group = who.now.group; member_state = member_state.old }) (input.Suspect address) result (record { address = who.now.address; group = who.now.group; member_state = member_state.new }) }
 {
     let Some(running) = member_state else {
         return Err(Error::Refused(Refusal::Closed));
@@ -192,8 +186,7 @@ pub(crate) fn merge_hint<R: Receiver>(
     address: Address,
 ) -> Result<Output, Error>
     requires alive { IsAlive (who_of who.now) member_state.old }
-    ensures alive { IsAlive (who_of who.now) member_state.new }
-    ensures handled { Handled R.meaning (record { address = who.now.address; group = who.now.group; member_state = member_state.old }) (input.MergeHint address) result (record { address = who.now.address; group = who.now.group; member_state = member_state.new }) }
+    ensures { Handled R.meaning (record { address = who.now.address; group = who.now.group; member_state = member_state.old }) (input.MergeHint address) result (record { address = who.now.address; group = who.now.group; member_state = member_state.new }) }
 {
     let Some(running) = member_state else {
         return Err(Error::Refused(Refusal::Closed));
@@ -211,8 +204,7 @@ pub(crate) fn leave_group<R: Receiver>(
     who: &Identity,
 ) -> Result<Output, Error>
     requires alive { IsAlive (who_of who.now) member_state.old }
-    ensures alive { IsAlive (who_of who.now) member_state.new }
-    ensures handled { Handled R.meaning (record { address = who.now.address; group = who.now.group; member_state = member_state.old }) input.Leave result (record { address = who.now.address; group = who.now.group; member_state = member_state.new }) }
+    ensures { Handled R.meaning (record { address = who.now.address; group = who.now.group; member_state = member_state.old }) input.Leave result (record { address = who.now.address; group = who.now.group; member_state = member_state.new }) }
 {
     let Some(running) = member_state.take() else {
         return Err(Error::Refused(Refusal::Closed));

@@ -26,7 +26,7 @@ use crate::{Error, Input, Taken};
 use address::limits::STEP_EVENTS;
 use address::{Address, ViewId};
 use flush::Flush;
-use membership::{MemberState, SentInstall};
+use membership::{MemberState, SentInstall, install_sent_to, is_complete};
 use state_transfer::Receiver;
 use std::alloc::{AllocError, Global};
 use std::marker::Model;
@@ -84,29 +84,11 @@ fn others_listed(flush: &Flush, address: Address) -> u64
     others
 }
 
-// Whether all of its list have reported.
-fn have_reported(flush: &Flush) -> bool
-    ensures { result ≡ is_complete flush.now }
-{
-    flush
-        .members()
-        .as_slice()
-        .iter()
-        .all(|member| flush.has_reported(member))
-}
-
-// Whether an address stands in its list and has not reported.
-fn is_awaited(flush: &Flush, member: &Address) -> bool
-    ensures { result ≡ is_awaited member.now flush.now }
-{
-    flush.members().contains(member) && !flush.has_reported(member)
-}
-
 // Whether an INSTALL among these was sent to an address.
 fn was_sent(sent: &[SentInstall], member: &Address) -> bool
     ensures { result ≡ list_any (is_sent_to member.now) sent.now }
 {
-    sent.iter().any(|sent| sent.packet.destination == *member)
+    install_sent_to(sent, member).is_some()
 }
 
 impl<R: Receiver> Member<R> {
@@ -218,7 +200,7 @@ impl<R: Receiver> Member<R> {
             None => false,
             Some(member_state) => match &member_state.flush {
                 None => false,
-                Some(flush) => !have_reported(flush),
+                Some(flush) => !is_complete(flush),
             },
         }
     }
@@ -257,7 +239,9 @@ impl<R: Receiver> Member<R> {
             None => false,
             Some(member_state) => match &member_state.flush {
                 None => false,
-                Some(flush) => is_awaited(flush, member),
+                Some(flush) => {
+                    flush.members().contains(member) && !flush.has_reported(member)
+                }
             },
         }
     }
@@ -285,10 +269,7 @@ impl<R: Receiver> Member<R> {
     {
         match &self.member_state {
             None => Ok(None),
-            Some(member_state) => {
-                let proposal = member_state.anew_past(&self.identity, counter)?;
-                Ok(proposal)
-            }
+            Some(member_state) => member_state.anew_past(&self.identity, counter),
         }
     }
 

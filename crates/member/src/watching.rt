@@ -42,15 +42,15 @@ fn add_listed(flush: &Flush, view: &View, others: &mut Vec<Address>) -> Result<(
 }
 
 // The others of its view, and those of the list of its own flush.
-fn all_others<R: Receiver>(
-    member_state: &MemberState<R>,
+fn all_others(
+    flush: &Option<Flush>,
     who: &Identity,
     view: &View,
 ) -> Result<Vec<Address>, AllocError>
-    ensures { IfOk result (λ others. others.items ≡ others_in who.now.address view.now member_state.now.flush) }
+    ensures { IfOk result (λ others. others.items ≡ others_in who.now.address view.now flush.now) }
 {
     let mut others = others_of(who.alloc, &who.address, view.members().as_slice())?;
-    if let Some(flush) = &member_state.flush {
+    if let Some(flush) = flush {
         add_listed(flush, view, &mut others)?;
     }
     Ok(others)
@@ -79,7 +79,7 @@ pub(crate) fn watched_in<R: Receiver>(
         return one(who, Some(creator));
     }
     if member_state.notes.leads(view, &who.address) {
-        return all_others(member_state, who, view);
+        return all_others(&member_state.flush, who, view);
     }
     one(who, member_state.notes.first_unsuspected(view))
 }

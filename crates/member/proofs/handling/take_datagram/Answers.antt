@@ -1,16 +1,12 @@
 use Rattle.std.proofs.Common.{sym, ap, ◌∙◌, Err}
 use Rattle.membership.specs.declared.stop.Stop.{Stop}
-use Rattle.member.proofs.StepsPromise.{from-some, still}
+use Rattle.member.proofs.StepsPromise.{from-some}
 use Rattle.member.proofs.DatagramsStep.{wire-handled, packet-handled, packet-stopped}
 use Rattle.member.proofs.handling.take_datagram.Goals as goal
 
 pub take_packet-requires : goal.take_packet-requires
 take_packet-requires g c =
     record { running = (c.requires.alive c.in-Some.running c.in-Some.is) }
-
-pub returns-in-Err-clause-alive : goal.returns-in-Err-clause-alive
-returns-in-Err-clause-alive g c =
-    still c.args.who.now.group c.args.who.now.address c.in-Some.running (c.requires.alive c.in-Some.running c.in-Some.is)
 
 pub returns-in-Err-clause-handled : goal.returns-in-Err-clause-handled
 returns-in-Err-clause-handled g c =
