@@ -239,9 +239,7 @@ impl<R: Receiver> Member<R> {
             None => false,
             Some(member_state) => match &member_state.flush {
                 None => false,
-                Some(flush) => {
-                    flush.members().contains(member) && !flush.has_reported(member)
-                }
+                Some(flush) => { flush.members().contains(member) && !flush.has_reported(member) }
             },
         }
     }
