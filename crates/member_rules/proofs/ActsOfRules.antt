@@ -21,7 +21,7 @@ use Rattle.law_acts.specs.Acts.{Puts, Creates as MakesFirst, Joins, Leaves as Go
 use Rattle.law_acts.specs.Chains.{Acted}
 use Rattle.law_acts.proofs.LawsOfActs.{one-acted, then-acted, nothing-acted}
 use Rattle.step_output.specs.declared.output.Output.{Output}
-use Rattle.step_output.specs.Outputs.{Grows, spelled}
+use Rattle.step_output.specs.Outputs.{Grows}
 use Rattle.traffic.specs.declared.view_state.ViewState.{ViewState}
 use Rattle.traffic.specs.ViewStates.{view_of, fresh_in}
 use Rattle.traffic.proofs.NewViewTraffic.{fresh-is, fresh-view}
