@@ -154,11 +154,11 @@ module _ {N S : Type 0} (log : N → Option Log) (failed : N → ℕ) (meaning :
         subst (λ (n : NodeState N S). DoesAt log failed meaning group line x e n (Refuses line number ∷ []) []) (sym same)
         (subst (λ (n : ℕ). DoesAt log failed meaning group line x e x (Refuses line n ∷ []) []) (sym is) does)
 
-    pub uncalled-so : (e : WorldEvent) (c : Call) → Asks e x.node c → x.process ≡ None → number ≡ why_absent x → Refused e
-    uncalled-so e c asks none is = refused-as e (why_absent x) is (Uncalled e c asks none)
+    pub uncalled-so : (e : WorldEvent) (c : Call) → Asks e x.node c → x.process ≡ None → number ≡ why_absent x.last → Refused e
+    uncalled-so e c asks none is = refused-as e (why_absent x.last) is (Uncalled e c asks none)
 
-    pub uncrashed-so : x.process ≡ None → number ≡ why_absent x → Refused (event.Crash x.node)
-    uncrashed-so none is = refused-as (event.Crash x.node) (why_absent x) is (Uncrashed none)
+    pub uncrashed-so : x.process ≡ None → number ≡ why_absent x.last → Refused (event.Crash x.node)
+    uncrashed-so none is = refused-as (event.Crash x.node) (why_absent x.last) is (Uncrashed none)
 
     pub unstarted-so : CannotStart x → number ≡ why_unstarted x → Refused (event.Start x.node)
     unstarted-so why is = refused-as (event.Start x.node) (why_unstarted x) is (Unstarted why)

@@ -36,9 +36,8 @@ use Rattle.node_turns.specs.Ends.IsEndText.{Finished}
 use Rattle.node_turns.specs.Ends.IsEndOf.{Over, Lacking, Failing}
 use Rattle.node_turns.specs.Ends.IsNetlessText.{Unprinted}
 use Rattle.node_turns.specs.Machines.{GivesBack}
-use Rattle.udp_runs.specs.Members.{IsListedText, IsToldText, IsTold, Way, GoesAlone, StartsSaying, StartsTelling, StartsUp, WritesFirst, WritesStart, started_line, only}
+use Rattle.udp_runs.specs.Members.{IsListedText, IsToldText, IsTold, Way, RunsOn, StartsSaying, StartsTelling, StartsUp, WritesFirst, WritesStart, started_line, only}
 use Rattle.udp_runs.specs.Members.StartsTelling.{Started}
-use Rattle.udp_runs.specs.Members.GoesAlone.{Goes}
 use Rattle.udp_runs.specs.Members.WritesFirst.{Unbegun, Begun}
 use Rattle.udp_runs.specs.Members.IsListedText.{Netless, Told, Said}
 use Rattle.udp_runs.specs.Members.IsToldText.{All, Part, Unmade}
@@ -54,7 +53,7 @@ use Rattle.node_turns.proofs.ProcessesTurn.{drives-then}
 use Rattle.node_turns.proofs.NodesTell.{writes-then}
 use Rattle.node_turns.proofs.LinesAndEvents.{take-some}
 use Rattle.node_turns.proofs.TellsBeforeOffers.{NamesOwn, all-then, begins-held, held-drives, first-drives, first-own, plain-names, first-all-said}
-use Rattle.vsync_text.proofs.LinesWritten.{appends_nothing, appends_then}
+use Rattle.vsync_text.proofs.LinesWritten.{appends_then}
 
 -- nothing is given back
 pub gives-none : {N : Type 0} (given given' : Option (List (Gone N))) → given' ≡ given → GivesBack given [] given'
@@ -164,10 +163,10 @@ module _ {N S : Type 0} (log : N → Option Log) (failed : N → ℕ) (May : Vie
 
     pub goes-alone : (first new : Driven N S) (old' new' : Option (List ℕ)) (result : Result Unit Why) → first.channel ≡ new_channel meaning member → ForSome (log first.net) (λ l. l ≡ [])
         → PlaysAlone log failed May meaning line_of_state group member (record { speaks = speaks; stable = way.stable }) way.first way.leaves first new old' new' result
-        → GivesBack given (record { by = member; net = new.net } ∷ []) given' → GoesAlone log failed May meaning line_of_state group given given' speaks way member old' new' result
+        → GivesBack given (record { by = member; net = new.net } ∷ []) given' → RunsOn log failed May meaning line_of_state group given given' speaks way member [] old' new' result
     goes-alone first new old' new' result begun fresh p gives =
         let lines = p.front ++ InState member (receiver_in p.shown.channel.stage) ∷ p.back in
-        Goes result (record {
+        record {
           net = p.tells.last.net;
           lines = lines;
           stood = p.tells.stood;
@@ -203,12 +202,7 @@ module _ {N S : Type 0} (log : N → Option Log) (failed : N → ℕ) (May : Vie
           ends = p.ends;
           gives = subst (λ (n : N). GivesBack given (record { by = member; net = n } ∷ []) given') p.tells.net gives;
           first = p.tells.least;
-        })
-
-  -- memory was refused before it did anything
-  pub goes-none : (line_of_state : Address → S → List ℕ) (given : Option (List (Gone N))) (speaks : Bool) (way : Way) (old : Option (List ℕ))
-      → GoesAlone log failed May meaning line_of_state group given given speaks way member old old (Err cut.Memory)
-  goes-none line_of_state given speaks way old = GoesAlone.Lacks (gives-none given given refl) (appends_nothing old)
+        }
 
   -- ---- it is started
 
@@ -227,15 +221,11 @@ module _ {N S : Type 0} (log : N → Option Log) (failed : N → ℕ) (May : Vie
 
     -- it was started, and went on
     pub start-went : (speaks : Bool) (a b c : Option (List ℕ)) (r : Result Unit Why) → Appends a b (started_line member)
-        → GoesAlone log failed May meaning line_of_state group given given' speaks way member b c r → StartsUp log failed May meaning line_of_state group given given' speaks way member a c r
-    start-went true a b c _ f (GoesAlone.Lacks gives none) =
-        StartsSaying.Goes [] (Err cut.Memory) (subst (λ (l : List ℕ). Appends a c l) refl (appends_then a b c (started_line member) [] f none))
-    start-went true a b c r f (GoesAlone.Goes _ g) =
+        → RunsOn log failed May meaning line_of_state group given given' speaks way member [] b c r → StartsUp log failed May meaning line_of_state group given given' speaks way member a c r
+    start-went true a b c r f g =
         let t = took-more (texts_of line_of_state g.lines) b c r g.writes in
         StartsSaying.Goes t.text r (appends_then a b c (started_line member) t.text f t.appends)
-    start-went false a b c _ f (GoesAlone.Lacks gives none) =
-        StartsTelling.Lacks gives (subst (λ (l : List ℕ). Appends a c l) (append-nil (started_line member)) (appends_then a b c (started_line member) [] f none))
-    start-went false a b c r f (GoesAlone.Goes _ g) = Started r (record {
+    start-went false a b c r f g = Started r (record {
       net = g.net;
       lines = g.lines;
       stood = g.stood;
@@ -245,6 +235,12 @@ module _ {N S : Type 0} (log : N → Option Log) (failed : N → ℕ) (May : Vie
       gives = g.gives;
       first = λ is. begins-behind (texts_of line_of_state g.stood) a b c f (g.first is);
     })
+
+    -- memory was refused behind the line of its start
+    pub start-lacked : (speaks : Bool) (a b : Option (List ℕ)) → given' ≡ given → Appends a b (started_line member)
+        → StartsUp log failed May meaning line_of_state group given given' speaks way member a b (Err cut.Memory)
+    start-lacked true a b same f = StartsSaying.Goes [] (Err cut.Memory) (subst (λ (l : List ℕ). Appends a b l) (sym (append-nil (started_line member))) f)
+    start-lacked false a b same f = StartsTelling.Lacks (gives-none given given' same) f
 
     -- it was not started
     pub start-failed : (speaks : Bool) (a b : Option (List ℕ)) (why : Why) → given' ≡ given → WritesStart member a b (Err why)

@@ -38,8 +38,8 @@ unless_ended p r = if is_some (receiver_in r.channel.stage) then Some (record { 
 abbrev pub why_unstarted : {N S : Type 0} → NodeState N S → ℕ
 why_unstarted x = if is_some x.process then 5 else 8
 
-abbrev pub why_absent : {N S : Type 0} → NodeState N S → ℕ
-why_absent x = if is_some x.last then 6 else 1
+abbrev pub why_absent : Option Address → ℕ
+why_absent last = if is_some last then 6 else 1
 
 -- a process starts, or has ended as it started
 abbrev pub start_lines : {N S : Type 0} → Address → Option (Process N S) → List Line
@@ -63,10 +63,10 @@ pub data DoesAt {N S : Type 0} (log : N → Option Log) (failed : N → ℕ) (me
       → DoesAt log failed meaning group line x (event.Start x.node) (record { node = x.node; last = Some p; process = q }) (start_lines p q) []
   Unstarted : CannotStart x → DoesAt log failed meaning group line x (event.Start x.node) x (Refuses line (why_unstarted x) ∷ []) []
   Crashes : (q : Process N S) → x.process ≡ Some q → DoesAt log failed meaning group line x (event.Crash x.node) (with_process x None) (Happens (Crashed q.address) ∷ []) []
-  Uncrashed : x.process ≡ None → DoesAt log failed meaning group line x (event.Crash x.node) x (Refuses line (why_absent x) ∷ []) []
+  Uncrashed : x.process ≡ None → DoesAt log failed meaning group line x (event.Crash x.node) x (Refuses line (why_absent x.last) ∷ []) []
   Called : (e : WorldEvent) (c : Call) (new : NodeState N S) (lines : List Line) (nets : List NetEvent) → Asks e x.node c
       → TurnBy log failed (MakesCall meaning group c) line x new lines nets → DoesAt log failed meaning group line x e new lines nets
-  Uncalled : (e : WorldEvent) (c : Call) → Asks e x.node c → x.process ≡ None → DoesAt log failed meaning group line x e x (Refuses line (why_absent x) ∷ []) []
+  Uncalled : (e : WorldEvent) (c : Call) → Asks e x.node c → x.process ≡ None → DoesAt log failed meaning group line x e x (Refuses line (why_absent x.last) ∷ []) []
 
 -- a round there: a turn of the process, if one runs
 pub data RoundAt {N S : Type 0} (log : N → Option Log) (failed : N → ℕ) (meaning : Meaning S) (x : NodeState N S) : NodeState N S → List Line → List NetEvent → Type 0 where

@@ -144,13 +144,6 @@ pub record RunsOn {N S : Type 0} (log : N → Option Log) (failed : N → ℕ) (
   pub gives : GivesBack given (record { by = member; net = net } ∷ []) given'
   pub first : speaks ≡ false → BeginsWith (front ++ texts_of line_of_state stood) old new
 
--- a member that was started goes on; or, where memory is refused, it does nothing
-pub data GoesAlone {N S : Type 0} (log : N → Option Log) (failed : N → ℕ) (May : ViewId → List ℕ → Type 0) (meaning : Meaning S) (line_of_state : Address → S → List ℕ) (group : List ℕ)
-    (given given' : Option (List (Gone N))) (speaks : Bool) (way : Way) (member : Address) (old new : Option (List ℕ)) : Result Unit Cut → Type 0 where
-  Lacks : GivesBack given [] given' → Appends old new [] → GoesAlone log failed May meaning line_of_state group given given' speaks way member old new (Err cut.Memory)
-  Goes : (result : Result Unit Cut) → RunsOn log failed May meaning line_of_state group given given' speaks way member [] old new result
-      → GoesAlone log failed May meaning line_of_state group given given' speaks way member old new result
-
 -- a member with a net is started, and goes on; what it tells is written behind the line of its start, if that was
 pub data StartsTelling {N S : Type 0} (log : N → Option Log) (failed : N → ℕ) (May : ViewId → List ℕ → Type 0) (meaning : Meaning S) (line_of_state : Address → S → List ℕ) (group : List ℕ)
     (given given' : Option (List (Gone N))) (way : Way) (member : Address) (old new : Option (List ℕ)) : Result Unit Cut → Type 0 where

@@ -2,11 +2,13 @@
 
 ghost use Rattle.std.specs.Prelude.{◌≡◌, ℕ, Bool, List, [], Option, OnOk, IsOk};
 ghost use Rattle.std.specs.Option.{option_copied};
-ghost use Rattle.node_turns.specs.Telling.{BeginsBy, PlaysAlone, Quietly, TellsEnd, TellsFrom, TellsOn, ThenOffers, Waits, WritesTurn, first_call};
+ghost use Rattle.node_turns.specs.Telling.{BeginsBy, PlaysAlone, Quietly, TellsEnd, TellsFrom, TellsOn, Waits, first_call};
 ghost use Rattle.node_turns.specs.Said.{AreSame, MaySay};
 ghost use Rattle.node_turns.specs.Came.{IsEarlier, Keeps, Owes};
 ghost use Rattle.node_turns.specs.Outboxes.{nothing_waits};
 
+use crate::searching::say_nothing;
+use crate::sending::take_lines;
 use crate::watch::Watch;
 use address::limits::Refusal;
 use address::{Address, ViewId};
@@ -17,7 +19,7 @@ use node_turns::{Call, Cut, Lines, NodeMachine, NodeManner, Outbox, Tally, Telle
 use std::alloc::Global;
 use std::io::Write;
 use std::time::Duration;
-use udp_member::{RECEIVES, Runner};
+use udp_member::Runner;
 use udp_net::{Net, Settings};
 use vsync_text::MemberPlan;
 
@@ -83,6 +85,27 @@ fn has_more(
     }
 }
 
+// Waits, unless there is more to do at once, or no more lines come.
+fn wait_unless<N: Net, C: Application>(
+    member: &mut Runner<N, C>,
+    is_over: bool,
+    rest: Duration,
+    went: Result<bool, Cut>,
+) -> Result<(), Cut>
+    ensures waits { Waits N.log member.old member.new }
+    ensures went { OnOk result (IsOk went) }
+{
+    match went {
+        Ok(has_more) => {
+            if !(has_more | is_over) {
+                member.wait(rest);
+            }
+            Ok(())
+        }
+        Err(why) => Err(why),
+    }
+}
+
 // When a round is due behind one that was: a tick after that was due, or after now, if that is half a tick or more ago.
 fn due_after(due: Duration, tick: Duration, now: Duration) -> Duration {
     let late = now.saturating_sub(due);
@@ -144,23 +167,6 @@ impl<'a, N: Net, C: Application> LoneNode<'a, N, C> {
         tally
     }
 
-    /// Gives back the lines that were not sent, or were not delivered, where it finds its group: those first that were sent first.
-    pub(crate) fn give_back<L: Lines>(&self, lines: &mut L)
-        ensures { L.came lines.new ≡ L.came lines.old }
-    {
-        if self.manner.finds {
-            self.teller.unsaid.give_back(lines);
-            lines.back(self.outbox.waiting());
-        }
-    }
-
-    /// Its net, where it is no more used.
-    pub(crate) fn into_net(self) -> N
-        ensures { result ≡ self.entry.member.net }
-    {
-        self.member.into_net()
-    }
-
     // Makes a group, or asks the contact to be let into one.
     fn connect(&mut self, settings: &Settings, contact: Option<Address>) -> Result<(), Cut>
         ensures begins { (gave : Bool) × BeginsBy C.meaning settings.now.group self.old.member (first_call self.old.manner.finds contact) gave self.new.member }
@@ -174,31 +180,24 @@ impl<'a, N: Net, C: Application> LoneNode<'a, N, C> {
             None => Call::Create,
         };
         self.finder = Finder::new(self.manner.tick, contact);
-        self.call(settings, &call)
+        say_nothing(self.alloc, &mut self.member, settings, &call)
     }
 
-    // A round of its runner.
-    fn run_round(&mut self) -> Result<(), Error>
-        ensures drives { (group : List ℕ) (start later : Option (List ℕ)) → Quietly N.log N.failed (MaySay (option_copied self.old.once) start later C.payload_within C.first_said) C.meaning group self.old.member self.new.member }
-        ensures voice { self.new.teller.voice ≡ self.old.teller.voice }
-        ensures texts { AreSame self.old.once self.old.outbox self.old.teller.unsaid self.new.once self.new.outbox self.new.teller.unsaid }
-    {
-        let answer = self.member.round();
-        self.member.meet();
-        answer
-    }
-
-    // A round; it seeks whom its view lacks, where it is time to.
-    fn round(&mut self) -> Result<(), Cut>
-        ensures drives { (group : List ℕ) (start came later : Option (List ℕ)) → Owes start came self.old.outbox self.old.teller.unsaid → IsEarlier came later → Quietly N.log N.failed (MaySay (option_copied self.old.once) start later C.payload_within C.first_said) C.meaning group self.old.member self.new.member }
+    // A round, and then what it does to find its group; where it does not find one, it seeks whom its view lacks, where it is time to.
+    fn round(&mut self, settings: &Settings) -> Result<(), Cut>
+        ensures drives { (start came later : Option (List ℕ)) → Owes start came self.old.outbox self.old.teller.unsaid → IsEarlier came later → Quietly N.log N.failed (MaySay (option_copied self.old.once) start later C.payload_within C.first_said) C.meaning settings.now.group self.old.member self.new.member }
         ensures same { (self.new.teller.voice ≡ self.old.teller.voice) × (self.new.once ≡ self.old.once) }
         ensures owes { OnOk result (Keeps self.old.outbox self.old.teller.unsaid self.new.outbox self.new.teller.unsaid) }
     {
         self.send_all()?;
-        let answer = self.run_round();
+        let answer = self.member.round();
+        self.member.meet();
         goes_on(&mut self.has_ended, answer)?;
+        if self.manner.finds {
+            return self.find(settings);
+        }
         let merge = u64::from(self.manner.merge);
-        if self.has_ended || self.manner.finds || merge == 0 || self.round % merge != 0 {
+        if self.has_ended || merge == 0 || self.round % merge != 0 {
             return Ok(());
         }
         let answer = self.member.seek();
@@ -212,25 +211,10 @@ impl<'a, N: Net, C: Application> LoneNode<'a, N, C> {
         ensures owes { (start : Option (List ℕ)) → Owes start (L.came lines.old) self.old.outbox self.old.teller.unsaid → OnOk result (Owes start (L.came lines.new) self.new.outbox self.new.teller.unsaid) }
         ensures grows { IsEarlier (L.came lines.old) (L.came lines.new) }
     {
-        self.take_lines(lines)?;
+        take_lines(&mut self.outbox, &mut self.teller.tally, lines)?;
         let has_sent = self.send_lines()?;
         let heard = self.member.listen();
         has_more(&mut self.has_ended, has_sent, heard)
-    }
-
-    // Writes what is told of it, and then offers what waits; nothing is offered where that was not written whole.
-    fn tell_then_offer<L: Lines, W: Write>(
-        &mut self,
-        lines: &mut L,
-        writer: &mut W,
-    ) -> Result<(), Cut>
-        ensures tells { WritesTurn C.line_of self.old.teller.voice self.old.member.channel (W.contents writer.old) (W.contents writer.new) result }
-        ensures offers { ThenOffers N.log N.failed self.old.member self.new.member result }
-        ensures same { (self.new.teller.voice ≡ self.old.teller.voice) × (self.new.once ≡ self.old.once) }
-        ensures owes { OnOk result (Keeps self.old.outbox self.old.teller.unsaid self.new.outbox self.new.teller.unsaid) }
-        ensures came { L.came lines.new ≡ L.came lines.old }
-    {
-        self.teller.tell_then_offer(&mut self.member, lines, writer)
     }
 
     // Connects it, and tells what happened.
@@ -248,20 +232,10 @@ impl<'a, N: Net, C: Application> LoneNode<'a, N, C> {
         ensures came { L.came lines.new ≡ L.came lines.old }
     {
         let connected = self.connect(settings, contact);
-        match self.tell_then_offer(lines, writer) {
+        match self.teller.tell_then_offer(&mut self.member, lines, writer) {
             Ok(()) => connected,
             Err(why) => Err(why),
         }
-    }
-
-    // A round, and then what it does to find its group.
-    fn round_and_find(&mut self, settings: &Settings) -> Result<(), Cut>
-        ensures drives { (start came later : Option (List ℕ)) → Owes start came self.old.outbox self.old.teller.unsaid → IsEarlier came later → Quietly N.log N.failed (MaySay (option_copied self.old.once) start later C.payload_within C.first_said) C.meaning settings.now.group self.old.member self.new.member }
-        ensures same { (self.new.teller.voice ≡ self.old.teller.voice) × (self.new.once ≡ self.old.once) }
-        ensures owes { OnOk result (Keeps self.old.outbox self.old.teller.unsaid self.new.outbox self.new.teller.unsaid) }
-    {
-        self.round()?;
-        self.find(settings)
     }
 
     // One of its rounds; it tells what happened by it.
@@ -276,11 +250,11 @@ impl<'a, N: Net, C: Application> LoneNode<'a, N, C> {
         ensures owes { (start : Option (List ℕ)) → Owes start (L.came lines.old) self.old.outbox self.old.teller.unsaid → OnOk result (Owes start (L.came lines.new) self.new.outbox self.new.teller.unsaid) }
         ensures grows { IsEarlier (L.came lines.old) (L.came lines.new) }
     {
-        if let Err(why) = self.take_lines(lines) {
+        if let Err(why) = take_lines(&mut self.outbox, &mut self.teller.tally, lines) {
             return Err(why);
         }
-        let went = self.round_and_find(settings);
-        match self.tell_then_offer(lines, writer) {
+        let went = self.round(settings);
+        match self.teller.tell_then_offer(&mut self.member, lines, writer) {
             Ok(()) => went,
             Err(why) => Err(why),
         }
@@ -299,63 +273,17 @@ impl<'a, N: Net, C: Application> LoneNode<'a, N, C> {
         ensures grows { IsEarlier (L.came lines.old) (L.came lines.new) }
     {
         let went = self.listen(lines);
-        match self.tell_then_offer(lines, writer) {
-            Ok(()) => self.wait_unless(lines.rest(rest), went),
-            Err(why) => Err(why),
-        }
-    }
-
-    // Waits, unless there is more to do at once, or no more lines come.
-    fn wait_unless(&mut self, rest: Duration, went: Result<bool, Cut>) -> Result<(), Cut>
-        ensures waits { Waits N.log self.old.member self.new.member }
-        ensures voice { self.new.teller.voice ≡ self.old.teller.voice }
-        ensures texts { AreSame self.old.once self.old.outbox self.old.teller.unsaid self.new.once self.new.outbox self.new.teller.unsaid }
-        ensures went { OnOk result (IsOk went) }
-    {
-        match went {
-            Ok(true) => Ok(()),
-            Ok(false) => {
-                if !self.outbox.is_over() {
-                    self.member.wait(rest);
-                }
-                Ok(())
+        match self.teller.tell_then_offer(&mut self.member, lines, writer) {
+            Ok(()) => {
+                let is_over = self.outbox.is_over();
+                wait_unless(&mut self.member, is_over, lines.rest(rest), went)
             }
             Err(why) => Err(why),
         }
     }
 
-    // Handles datagrams as they come, until it is time for the next round, or no more lines come.
+    // Handles datagrams as they come between a round and the one before, if there was one, until it is time for the round, or no more lines come.
     fn listen_until<L: Lines, M: NodeMachine, W: Write>(
-        &mut self,
-        due: Duration,
-        lines: &mut L,
-        machine: &mut M,
-        writer: &mut W,
-    ) -> Result<(), Cut>
-        ensures tells { (group : List ℕ) (start later : Option (List ℕ)) → Owes start (L.came lines.old) self.old.outbox self.old.teller.unsaid → IsEarlier (L.came lines.new) later → self.old.member.channel.happened ≡ [] → TellsOn N.log N.failed (MaySay (option_copied self.old.once) start later C.payload_within C.first_said) C.meaning C.line_of group self.old.teller.voice self.old.member self.new.member (W.contents writer.old) (W.contents writer.new) result }
-        ensures same { (self.new.teller.voice ≡ self.old.teller.voice) × (self.new.once ≡ self.old.once) }
-        ensures owes { (start : Option (List ℕ)) → Owes start (L.came lines.old) self.old.outbox self.old.teller.unsaid → OnOk result (Owes start (L.came lines.new) self.new.outbox self.new.teller.unsaid) }
-        ensures grows { IsEarlier (L.came lines.old) (L.came lines.new) }
-        ensures gone { M.gone machine.new ≡ M.gone machine.old }
-    {
-        for _ in 0..LISTENS {
-            self.time = machine.now();
-            self.finder.go_on(milliseconds(self.time));
-            let rest = due.saturating_sub(self.time);
-            if self.has_ended | self.outbox.is_over() | (rest == Duration::ZERO) {
-                return Ok(());
-            }
-            lines.look(self.time);
-            match self.listen_for(rest, lines, writer) {
-                Ok(()) => (),
-                Err(why) => return Err(why),
-            }
-        }
-        Ok(())
-    }
-
-    // Handles datagrams as they come between a round and the one before, if there was one.
-    fn rest<L: Lines, M: NodeMachine, W: Write>(
         &mut self,
         round: u64,
         lines: &mut L,
@@ -372,7 +300,20 @@ impl<'a, N: Net, C: Application> LoneNode<'a, N, C> {
             return Ok(());
         }
         self.due = due_after(self.due, self.manner.tick, machine.now());
-        self.listen_until(self.due, lines, machine, writer)
+        for _ in 0..LISTENS {
+            self.time = machine.now();
+            self.finder.go_on(milliseconds(self.time));
+            let rest = self.due.saturating_sub(self.time);
+            if self.has_ended | self.outbox.is_over() | (rest == Duration::ZERO) {
+                return Ok(());
+            }
+            lines.look(self.time);
+            match self.listen_for(rest, lines, writer) {
+                Ok(()) => (),
+                Err(why) => return Err(why),
+            }
+        }
+        Ok(())
     }
 
     // All of its rounds, until its lines are over; between two it handles datagrams as they come.
@@ -394,7 +335,7 @@ impl<'a, N: Net, C: Application> LoneNode<'a, N, C> {
             if self.has_ended | self.gives_up | self.outbox.is_over() {
                 return Ok(());
             }
-            match self.rest(round, lines, machine, writer) {
+            match self.listen_until(round, lines, machine, writer) {
                 Ok(()) => (),
                 Err(why) => return Err(why),
             }
@@ -423,7 +364,7 @@ impl<'a, N: Net, C: Application> LoneNode<'a, N, C> {
             return Ok(());
         }
         let left = unless_memory(self.member.channel().disconnect());
-        match self.tell_then_offer(lines, writer) {
+        match self.teller.tell_then_offer(&mut self.member, lines, writer) {
             Ok(()) => left,
             Err(why) => Err(why),
         }

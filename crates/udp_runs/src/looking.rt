@@ -4,6 +4,7 @@ ghost use Rattle.std.specs.Prelude.{◌≡◌};
 ghost use Rattle.node_turns.specs.Said.{AreSame};
 
 use crate::lone::LoneNode;
+use crate::sending::few_in;
 use application::Application;
 use node_turns::{NodeMachine, NodeStatus};
 use udp_net::Net;
@@ -25,41 +26,14 @@ impl<'a, N: Net, C: Application> LoneNode<'a, N, C> {
         if self.watch.pass(self.time, is_blocked) {
             self.teller.say_blocked();
         }
-        self.note_few();
+        if self.is_unsent | self.outbox.has_line() {
+            // Lines wait since its view has too few members.
+            if let Some(standing) = few_in(self.member.channel_ref(), self.manner.quorum) {
+                self.watch.wait_for_more(standing.view, standing.members);
+            }
+        }
         if self.watch.shows(self.time) {
             self.show(machine);
-        }
-    }
-
-    // Notes where lines wait since its view has too few members.
-    fn note_few(&mut self)
-        ensures same { (self.new.member ≡ self.old.member) × (self.new.teller.voice ≡ self.old.teller.voice)
-            × AreSame self.old.once self.old.outbox self.old.teller.unsaid self.new.once self.new.outbox self.new.teller.unsaid }
-    {
-        if !self.is_few() || !(self.is_unsent || self.outbox.has_line()) {
-            return;
-        }
-        if let Some(standing) = self.whereabouts().view {
-            self.watch.wait_for_more(standing.view, standing.members);
-        }
-    }
-
-    // How it is.
-    fn status(&self) -> NodeStatus {
-        let strange = self.member.net_ref().strange();
-        let blocked = self.watch.blocked(self.time);
-        let outstanding = self.teller.unsaid.outstanding();
-        let channel = self.member.channel_ref();
-        NodeStatus {
-            address: channel.address(),
-            view: match channel.view() {
-                Some(view) => Some(view.id()),
-                None => None,
-            },
-            blocked,
-            outstanding,
-            stable: channel.stable(),
-            strange,
         }
     }
 
@@ -67,9 +41,20 @@ impl<'a, N: Net, C: Application> LoneNode<'a, N, C> {
     fn show<M: NodeMachine>(&self, machine: &mut M)
         ensures gone { M.gone machine.new ≡ M.gone machine.old }
     {
-        let status = self.status();
-        match self.member.channel_ref().view() {
-            Some(view) => machine.show(&status, view.members().as_slice()),
+        let channel = self.member.channel_ref();
+        let mut status = NodeStatus {
+            address: channel.address(),
+            view: None,
+            blocked: self.watch.blocked(self.time),
+            outstanding: self.teller.unsaid.outstanding(),
+            stable: channel.stable(),
+            strange: self.member.net_ref().strange(),
+        };
+        match channel.view() {
+            Some(view) => {
+                status.view = Some(view.id());
+                machine.show(&status, view.members().as_slice());
+            }
             None => machine.show(&status, &[]),
         }
     }

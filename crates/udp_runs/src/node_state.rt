@@ -23,7 +23,7 @@ use vsync_text::{append_event, append_refusal};
 
 /// A node, and the process that runs there. Each call appends to a text what happened by it.
 pub(crate) struct NodeState<N: Net, C: Application> {
-    node: Node,
+    pub(crate) node: Node,
     // The address of the member that was started there last.
     last: Option<Address>,
     process: Option<Process<N, C>>,
@@ -39,6 +39,17 @@ impl<N: Net, C: Application> Drop for NodeState<N, C> {
     }
 }
 
+// Why nothing is done where no member runs, but this one was started last, if any was.
+fn absence(last: Option<Address>) -> Refusal
+    ensures { number_of result ≡ why_absent last }
+{
+    if last.is_some() {
+        Refusal::Closed
+    } else {
+        Refusal::NotConnected
+    }
+}
+
 impl<N: Net, C: Application> NodeState<N, C> {
     // The node of a place, where no member was started yet.
     pub(crate) fn new(place: &NodePort) -> NodeState<N, C>
@@ -49,13 +60,6 @@ impl<N: Net, C: Application> NodeState<N, C> {
             last: None,
             process: None,
         }
-    }
-
-    // The node.
-    pub(crate) fn node(&self) -> Node
-        ensures { result ≡ self.now.node }
-    {
-        self.node
     }
 
     // The address of the next member there. Refused with 5 where one runs, and with 8 after the last incarnation.
@@ -108,7 +112,7 @@ impl<N: Net, C: Application> NodeState<N, C> {
             (M.gone machine.old) (M.gone machine.new) text.old.items text.new.items result }
     {
         let Some(process) = self.process.take() else {
-            return append_refusal(text, line, self.absence().number());
+            return append_refusal(text, line, absence(self.last).number());
         };
         let address = process.address;
         process.close(machine);
@@ -129,7 +133,7 @@ impl<N: Net, C: Application> NodeState<N, C> {
             (M.gone machine.old) (M.gone machine.new) text.old.items text.new.items result }
     {
         let Some(process) = self.process.as_mut() else {
-            return append_refusal(text, line, self.absence().number());
+            return append_refusal(text, line, absence(self.last).number());
         };
         if !process.call(alloc, group, line, call, text)? {
             self.close(machine);
@@ -174,17 +178,6 @@ impl<N: Net, C: Application> NodeState<N, C> {
     {
         if let Some(process) = self.process.take() {
             process.close(machine);
-        }
-    }
-
-    // Why nothing is done where no member runs.
-    fn absence(&self) -> Refusal
-        ensures { number_of result ≡ why_absent self.now }
-    {
-        if self.last.is_some() {
-            Refusal::Closed
-        } else {
-            Refusal::NotConnected
         }
     }
 }

@@ -146,7 +146,7 @@ impl<N: Net, C: Application> Nodes<N, C> {
         ensures unlisted { IfNone result (list_any (λ x. nat_eq x.node node) self.now.node_states.items ≡ false) }
     {
         for index in 0..self.node_states.len() {
-            if self.node_states[index].node() == node {
+            if self.node_states[index].node == node {
                 return Some(index);
             }
         }

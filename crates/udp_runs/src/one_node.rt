@@ -4,8 +4,7 @@ ghost use Rattle.std.specs.Prelude.{◌≡◌, [], false};
 ghost use Rattle.std.specs.Option.{ForSome, option_copied};
 ghost use Rattle.address.specs.Ids.{IsAddress};
 ghost use Rattle.udp_net.specs.Settings.{port_of};
-ghost use Rattle.endings.specs.Outcomes.{Written};
-ghost use Rattle.udp_runs.specs.Members.{GoesAlone, IsListedText, RunsMember, StartsUp, WritesFirst, WritesStart, way_of};
+ghost use Rattle.udp_runs.specs.Members.{RunsMember, StartsUp, WritesFirst, WritesStart, way_of};
 ghost use Rattle.node_turns.specs.Said.{MaySay};
 
 use crate::lone::LoneNode;
@@ -13,7 +12,9 @@ use address::Address;
 use application::Application;
 use endings::Status;
 use law_runners::runners_are_synchronous;
-use node_turns::{Cut, Lines, NodeMachine, NodeManner, end, end_without_net, member_at, settle};
+use node_turns::{
+    Cut, Lines, NodeMachine, NodeManner, Outbox, Unsaid, end, end_without_net, member_at, settle,
+};
 use std::alloc::Global;
 use std::io::Write;
 use trace_props::Event;
@@ -29,35 +30,6 @@ fn is_real(address: Address)
     let _incarnation = address.incarnation();
 }
 
-// Does what the plan says at a member that was started.
-fn go_on<C: Application, L: Lines, M: NodeMachine, W: Write>(
-    alloc: Global,
-    settings: &Settings,
-    plan: &MemberPlan<'_>,
-    manner: NodeManner,
-    lines: &mut L,
-    machine: &mut M,
-    net: M::Net,
-    writer: &mut W,
-) -> Result<(), Cut>
-    ensures { ForSome (M.Net.log net) (λ l. l ≡ [])
-        → GoesAlone M.Net.log M.Net.failed (MaySay (option_copied plan.now.send) (L.came lines.old) (L.came lines.new) C.payload_within C.first_said) C.meaning C.line_of settings.now.group (M.gone machine.old) (M.gone machine.new) manner.speaks (way_of manner plan.now.contact) plan.now.address
-        (W.contents writer.old) (W.contents writer.new) result }
-{
-    runners_are_synchronous::<M::Net, C>();
-    is_real(plan.address);
-    let member: Runner<M::Net, C> = match member_at(alloc, plan.address, net, settings) {
-        Ok(member) => member,
-        Err(_) => return Err(Cut::Memory),
-    };
-    let mut lone = LoneNode::new(alloc, member, manner, plan.send);
-    let played = lone.play(settings, plan, lines, machine, writer);
-    lone.give_back(lines);
-    machine.tell(&lone.tally());
-    machine.close(plan.address, lone.into_net());
-    played
-}
-
 // Writes that a member was started.
 fn write_start<W: Write>(alloc: Global, member: Address, writer: &mut W) -> Result<(), Cut>
     ensures { WritesStart member (W.contents writer.old) (W.contents writer.new) result }
@@ -67,6 +39,16 @@ fn write_start<W: Write>(alloc: Global, member: Address, writer: &mut W) -> Resu
         return Err(Cut::Memory);
     }
     settle(writer, &mut text)
+}
+
+// Gives back the lines that were not sent, or were not delivered, where a node finds its group: those first that were sent first.
+fn give_back<L: Lines>(finds: bool, unsaid: &Unsaid, outbox: &Outbox, lines: &mut L)
+    ensures { L.came lines.new ≡ L.came lines.old }
+{
+    if finds {
+        unsaid.give_back(lines);
+        lines.back(outbox.waiting());
+    }
 }
 
 // Starts the member of the plan over a net, and does what the plan says.
@@ -87,37 +69,19 @@ fn start<C: Application, L: Lines, M: NodeMachine, W: Write>(
     runners_are_synchronous::<M::Net, C>();
     is_real(plan.address);
     match write_start(alloc, plan.address, writer) {
-        Ok(()) => {
-            go_on::<C, L, M, W>(alloc, settings, plan, manner, lines, machine, net, writer)
-        }
-        Err(why) => Err(why),
+        Ok(()) => (),
+        Err(why) => return Err(why),
     }
-}
-
-// Runs the member of the plan at a node that the settings list.
-fn run_listed<C: Application, L: Lines, M: NodeMachine, W: Write>(
-    alloc: Global,
-    settings: &Settings,
-    plan: &MemberPlan<'_>,
-    manner: NodeManner,
-    lines: &mut L,
-    machine: &mut M,
-    writer: &mut W,
-) -> Status
-    ensures written { Written (IsListedText M.Net.log M.Net.failed (MaySay (option_copied plan.now.send) (L.came lines.old) (L.came lines.new) C.payload_within C.first_said) C.meaning C.line_of settings.now.group (M.gone machine.old) (M.gone machine.new) manner.speaks (way_of manner plan.now.contact) plan.now.address)
-        (W.contents writer.old) (W.contents writer.new) result }
-    ensures first { manner.speaks ≡ false → WritesFirst M.Net.log M.Net.failed (MaySay (option_copied plan.now.send) (L.came lines.old) (L.came lines.new) C.payload_within C.first_said) C.meaning C.line_of settings.now.group (M.gone machine.old) (M.gone machine.new) (way_of manner plan.now.contact)
-        plan.now.address (W.contents writer.old) (W.contents writer.new) }
-{
-    match machine.net(plan.address.node()) {
-        Ok(net) => {
-            let written = start::<C, L, M, W>(
-                alloc, settings, plan, manner, lines, machine, net, writer,
-            );
-            end(writer, written)
-        }
-        Err(error) => end_without_net(alloc, writer, 0, error),
-    }
+    let member: Runner<M::Net, C> = match member_at(alloc, plan.address, net, settings) {
+        Ok(member) => member,
+        Err(_) => return Err(Cut::Memory),
+    };
+    let mut lone = LoneNode::new(alloc, member, manner, plan.send);
+    let played = lone.play(settings, plan, lines, machine, writer);
+    give_back(manner.finds, &lone.teller.unsaid, &lone.outbox, lines);
+    machine.tell(&lone.tally());
+    machine.close(plan.address, lone.member.into_net());
+    played
 }
 
 /// Runs one node of the settings by itself, over its net, with `C` as its receiver: it makes a group or joins its contact's, and has its rounds, between
@@ -151,10 +115,16 @@ pub fn run_member<C: Application, L: Lines, M: NodeMachine, W: Write>(
     ensures first { manner.speaks ≡ false → WritesFirst M.Net.log M.Net.failed (MaySay (option_copied plan.now.send) (L.came lines.old) (L.came lines.new) C.payload_within C.first_said) C.meaning C.line_of settings.now.group (M.gone machine.old) (M.gone machine.new) (way_of manner plan.now.contact)
         plan.now.address (W.contents writer.old) (W.contents writer.new) }
 {
-    match settings.port(plan.address.node()) {
-        Some(_) => {
-            run_listed::<C, L, M, W>(alloc, settings, plan, manner, lines, machine, writer)
+    let Some(_) = settings.port(plan.address.node()) else {
+        return end_without_net(alloc, writer, 0, BindError::Config);
+    };
+    match machine.net(plan.address.node()) {
+        Ok(net) => {
+            let written = start::<C, L, M, W>(
+                alloc, settings, plan, manner, lines, machine, net, writer,
+            );
+            end(writer, written)
         }
-        None => end_without_net(alloc, writer, 0, BindError::Config),
+        Err(error) => end_without_net(alloc, writer, 0, error),
     }
 }

@@ -1,19 +1,26 @@
 //! What a member sends that runs by itself, and when.
 
-ghost use Rattle.std.specs.Prelude.{◌≡◌, ◌++◌, ◌⊎◌, ℕ, List, [], Option, Some, OnOk, IfOk, IfSome};
+ghost use Rattle.std.specs.Prelude.{◌≡◌, ◌⊎◌, ℕ, List, [], Option, Some, OnOk, IfOk, IfSome};
 ghost use Rattle.std.specs.Option.{option_copied};
 ghost use Rattle.view.specs.Members.{View as ViewValue};
 ghost use Rattle.channel.specs.Channels.{view_in};
 ghost use Rattle.node_turns.specs.Telling.{Quietly};
-ghost use Rattle.node_turns.specs.Said.{AreSame, IsId, MaySay};
-ghost use Rattle.node_turns.specs.Outboxes.{without_next};
+ghost use Rattle.node_turns.specs.Said.{IsId, MaySay};
+ghost use Rattle.node_turns.specs.Outboxes.{OutboxModel, without_next};
+ghost use Rattle.node_turns.specs.Unsaid.{UnsaidModel};
 ghost use Rattle.node_turns.specs.Came.{Fills, IsEarlier, IsLineOf, IsSentOf, IsText, Keeps, Owes};
 
 use crate::lone::{LoneNode, unless_memory};
+use crate::searching::whereabouts;
 use crate::watch::Watch;
 use address::{Bytes, ViewId};
 use application::Application;
-use node_turns::{Cut, LineTrouble, Lines, LinesError, Notice, Outbox, OutboxError, Sent, send};
+use channel::Channel;
+use node_finding::Standing;
+use node_turns::{
+    Cut, LineTrouble, Lines, LinesError, Notice, Outbox, OutboxError, Sent, Tally, Unsaid, send,
+};
+use std::alloc::Global;
 use udp_net::Net;
 use vsync_text::{Fault, Unheard};
 
@@ -48,6 +55,71 @@ fn take_said(outbox: &mut Outbox, watch: &mut Watch, said: Said) -> bool
     }
 }
 
+// Notes what was sent, where it is said again if it comes back.
+fn note_sent(unsaid: &mut Unsaid, is_noted: bool, sent: Sent) -> Result<(), Cut>
+    ensures { (start came : Option (List ℕ)) (outbox : OutboxModel) → IsSentOf start came sent → Owes start came outbox unsaid.old → OnOk result (Owes start came outbox unsaid.new) }
+{
+    if is_noted {
+        unsaid.send(sent)?;
+    }
+    Ok(())
+}
+
+// Takes the lines that came back, to send them before all that wait.
+fn take_back(unsaid: &mut Unsaid, outbox: &mut Outbox) -> Result<(), Cut>
+    ensures { OnOk result (Keeps outbox.old unsaid.old outbox.new unsaid.new) }
+{
+    let lines = unsaid.take_lines();
+    outbox.begin_with(lines.as_slice())?;
+    Ok(())
+}
+
+// The line that is to be sent next; none while a line is to be told of that cannot be sent.
+fn next_line(alloc: Global, outbox: &mut Outbox, watch: &mut Watch) -> Result<Option<Vec<u8>>, Cut>
+    ensures owes { OnOk result ((start came : Option (List ℕ)) (unsaid : UnsaidModel) → Owes start came outbox.old unsaid → Owes start came outbox.new unsaid) }
+    ensures line { (start came : Option (List ℕ)) (unsaid : UnsaidModel) → Owes start came outbox.old unsaid → IfOk result (λ line. IfSome line (λ text. IsLineOf start came text.items)) }
+{
+    if watch.has_notice() {
+        return Ok(None);
+    }
+    outbox.see_end();
+    match outbox.next() {
+        Ok(Some(line)) => Ok(Some(Vec::from_slice(alloc, line)?)),
+        Ok(None) => Ok(None),
+        Err(OutboxError::Long) => {
+            outbox.drop_long();
+            watch.note(Notice::LongLine);
+            Ok(None)
+        }
+    }
+}
+
+// Takes the lines that came.
+pub(crate) fn take_lines<L: Lines>(
+    outbox: &mut Outbox,
+    tally: &mut Tally,
+    lines: &mut L,
+) -> Result<(), Cut>
+    ensures { Fills (L.came lines.old) (L.came lines.new) outbox.old outbox.new result }
+{
+    match outbox.fill(lines) {
+        Ok(()) => Ok(()),
+        Err(LinesError::Memory) => Err(Cut::Memory),
+        Err(LinesError::Gone) => {
+            tally.trouble = Some(LineTrouble::NoLines);
+            Err(Cut::Failed)
+        }
+    }
+}
+
+// The view of a channel, where it has too few members to send in it.
+pub(crate) fn few_in<C: Application>(channel: &Channel<C>, quorum: u32) -> Option<Standing> {
+    match whereabouts(channel).view {
+        Some(standing) if standing.members < quorum as usize => Some(standing),
+        _ => None,
+    }
+}
+
 // It does nothing: its clause is what the type of a view's id says of it.
 fn is_id(view: ViewId)
     ensures { IsId view }
@@ -59,61 +131,28 @@ fn is_id(view: ViewId)
 }
 
 impl<'a, N: Net, C: Application> LoneNode<'a, N, C> {
-    // Sends, as the coordinator of its view, what that sends first in the view, if it may.
+    // Sends, as the coordinator of its view, what that sends first in the view, if it may and has not done so yet.
     fn send_first(&mut self) -> Result<(), Cut>
         ensures drives { (group : List ℕ) (start later : Option (List ℕ)) → Quietly N.log N.failed (MaySay (option_copied self.old.once) start later C.payload_within C.first_said) C.meaning group self.old.member self.new.member }
         ensures same { (self.new.teller.voice ≡ self.old.teller.voice) × (self.new.once ≡ self.old.once) }
         ensures owes { OnOk result (Keeps self.old.outbox self.old.teller.unsaid self.new.outbox self.new.teller.unsaid) }
     {
-        let Some(id) = self.unopened() else {
+        let channel = self.member.channel_ref();
+        let Some(view) = channel.view() else {
             return Ok(());
         };
-        if self.opens()? {
-            self.opened = Some(id);
-        }
-        Ok(())
-    }
-
-    // The id of its view, where it is the coordinator there and has not said yet what that says first.
-    fn unopened(&self) -> Option<ViewId> {
-        let channel = self.member.channel_ref();
-        let view = channel.view()?;
         let id = view.id();
-        if view.first() != channel.address() {
-            return None;
+        if (view.first() != channel.address()) | (self.opened == Some(id)) {
+            return Ok(());
         }
-        if self.opened == Some(id) {
-            return None;
-        }
-        Some(id)
-    }
-
-    // Sends what the coordinator of its view sends first there, if it sends anything; answers whether nothing of it is left.
-    fn opens(&mut self) -> Result<bool, Cut>
-        ensures drives { (group : List ℕ) (start later : Option (List ℕ)) → Quietly N.log N.failed (MaySay (option_copied self.old.once) start later C.payload_within C.first_said) C.meaning group self.old.member self.new.member }
-        ensures same { (self.new.teller.voice ≡ self.old.teller.voice) × (self.new.once ≡ self.old.once) }
-        ensures owes { OnOk result (Keeps self.old.outbox self.old.teller.unsaid self.new.outbox self.new.teller.unsaid) }
-    {
-        let Some(view) = self.member.channel_ref().view() else {
-            return Ok(false);
+        is_id(id);
+        let Some(payload) = C::first_message(self.alloc, view)? else {
+            self.opened = Some(id);
+            return Ok(());
         };
-        is_id(view.id());
-        match C::first_message(self.alloc, view)? {
-            Some(payload) => self.sends(&payload, Sent::First),
-            None => Ok(true),
-        }
-    }
-
-    // What it has to send once yet, if anything: what was not sent, or came back.
-    fn next_once(&mut self) -> Option<&'a [u8]>
-        ensures same { (self.new.member ≡ self.old.member) × (self.new.teller.voice ≡ self.old.teller.voice)
-            × AreSame self.old.once self.old.outbox self.old.teller.unsaid self.new.once self.new.outbox self.new.teller.unsaid }
-        ensures text { IfSome result (λ text. option_copied self.old.once ≡ Some text.now) }
-    {
-        if self.teller.unsaid.take_once() {
-            self.is_unsent = true;
-        }
-        if self.is_unsent { self.once } else { None }
+        let is_said = self.sends(&payload, Sent::First)?;
+        self.opened = if is_said { Some(id) } else { self.opened };
+        Ok(())
     }
 
     // Sends what it has to send once, if it may.
@@ -122,7 +161,9 @@ impl<'a, N: Net, C: Application> LoneNode<'a, N, C> {
         ensures same { (self.new.teller.voice ≡ self.old.teller.voice) × (self.new.once ≡ self.old.once) }
         ensures owes { OnOk result (Keeps self.old.outbox self.old.teller.unsaid self.new.outbox self.new.teller.unsaid) }
     {
-        let Some(text) = self.next_once() else {
+        // What came back is sent again.
+        self.is_unsent |= self.teller.unsaid.take_once();
+        let (true, Some(text)) = (self.is_unsent, self.once) else {
             return Ok(());
         };
         match self.says(text, Sent::Once)? {
@@ -169,54 +210,9 @@ impl<'a, N: Net, C: Application> LoneNode<'a, N, C> {
         let answer = send(self.alloc, &mut self.member, payload)?;
         let is_taken = answer.is_ok();
         unless_memory(answer)?;
-        self.note_sent(is_taken, sent)?;
+        let is_noted = is_taken & (self.manner.finds | C::says_again());
+        note_sent(&mut self.teller.unsaid, is_noted, sent)?;
         Ok(is_taken)
-    }
-
-    // Notes what was sent, if it was and is said again where it comes back.
-    fn note_sent(&mut self, is_taken: bool, sent: Sent) -> Result<(), Cut>
-        ensures member { self.new.member ≡ self.old.member }
-        ensures same { (self.new.teller.voice ≡ self.old.teller.voice) × (self.new.once ≡ self.old.once) }
-        ensures owes { (start came : Option (List ℕ)) → IsSentOf start came sent → Owes start came self.old.outbox self.old.teller.unsaid → OnOk result (Owes start came self.new.outbox self.new.teller.unsaid) }
-    {
-        if is_taken && (self.manner.finds || C::says_again()) {
-            self.teller.unsaid.send(sent)?;
-        }
-        Ok(())
-    }
-
-    // Takes the lines that came back, to send them before all that wait.
-    fn take_back(&mut self) -> Result<(), Cut>
-        ensures outbox { OnOk result (self.new.outbox ≡ record (self.old.outbox) { waiting = self.old.teller.unsaid.back ++ self.old.outbox.waiting }) }
-        ensures unsaid { OnOk result (self.new.teller.unsaid ≡ record (self.old.teller.unsaid) { back = [] }) }
-        ensures member { self.new.member ≡ self.old.member }
-        ensures same { (self.new.teller.voice ≡ self.old.teller.voice) × (self.new.once ≡ self.old.once) }
-    {
-        let lines = self.teller.unsaid.take_lines();
-        self.outbox.begin_with(lines.as_slice())?;
-        Ok(())
-    }
-
-    // The line that it is to send next; none while a line is to be told of that cannot be sent.
-    fn next_line(&mut self) -> Result<Option<Vec<u8>>, Cut>
-        ensures member { self.new.member ≡ self.old.member }
-        ensures same { (self.new.teller.voice ≡ self.old.teller.voice) × (self.new.once ≡ self.old.once) }
-        ensures owes { OnOk result (Keeps self.old.outbox self.old.teller.unsaid self.new.outbox self.new.teller.unsaid) }
-        ensures line { (start came : Option (List ℕ)) → Owes start came self.old.outbox self.old.teller.unsaid → IfOk result (λ line. IfSome line (λ text. IsLineOf start came text.items)) }
-    {
-        if self.watch.has_notice() {
-            return Ok(None);
-        }
-        self.outbox.see_end();
-        match self.outbox.next() {
-            Ok(Some(line)) => Ok(Some(Vec::from_slice(self.alloc, line)?)),
-            Ok(None) => Ok(None),
-            Err(OutboxError::Long) => {
-                self.outbox.drop_long();
-                self.watch.note(Notice::LongLine);
-                Ok(None)
-            }
-        }
     }
 
     // Sends the next line, and answers whether it did.
@@ -225,7 +221,7 @@ impl<'a, N: Net, C: Application> LoneNode<'a, N, C> {
         ensures same { (self.new.teller.voice ≡ self.old.teller.voice) × (self.new.once ≡ self.old.once) }
         ensures owes { OnOk result (Keeps self.old.outbox self.old.teller.unsaid self.new.outbox self.new.teller.unsaid) }
     {
-        let Some(line) = self.next_line()? else {
+        let Some(line) = next_line(self.alloc, &mut self.outbox, &mut self.watch)? else {
             return Ok(false);
         };
         let copy = Vec::from_slice(self.alloc, line.as_slice())?;
@@ -239,7 +235,7 @@ impl<'a, N: Net, C: Application> LoneNode<'a, N, C> {
         ensures same { (self.new.teller.voice ≡ self.old.teller.voice) × (self.new.once ≡ self.old.once) }
         ensures owes { OnOk result (Keeps self.old.outbox self.old.teller.unsaid self.new.outbox self.new.teller.unsaid) }
     {
-        self.take_back()?;
+        take_back(&mut self.teller.unsaid, &mut self.outbox)?;
         if self.holds() {
             return Ok(false);
         }
@@ -267,33 +263,9 @@ impl<'a, N: Net, C: Application> LoneNode<'a, N, C> {
         Ok(())
     }
 
-    // Takes the lines that came.
-    pub(crate) fn take_lines<L: Lines>(&mut self, lines: &mut L) -> Result<(), Cut>
-        ensures member { self.new.member ≡ self.old.member }
-        ensures same { (self.new.teller.voice ≡ self.old.teller.voice) × (self.new.once ≡ self.old.once) }
-        ensures unsaid { self.new.teller.unsaid ≡ self.old.teller.unsaid }
-        ensures fills { Fills (L.came lines.old) (L.came lines.new) self.old.outbox self.new.outbox result }
-    {
-        match self.outbox.fill(lines) {
-            Ok(()) => Ok(()),
-            Err(LinesError::Memory) => Err(Cut::Memory),
-            Err(LinesError::Gone) => {
-                self.teller.tally.trouble = Some(LineTrouble::NoLines);
-                Err(Cut::Failed)
-            }
-        }
-    }
-
-    // Whether its view has too few members to send in it.
-    pub(crate) fn is_few(&self) -> bool {
-        match self.whereabouts().view {
-            Some(standing) => standing.members < self.manner.quorum as usize,
-            None => false,
-        }
-    }
-
     // Whether it sends nothing for now.
     pub(crate) fn holds(&self) -> bool {
-        (self.manner.finds && self.finder.holds()) || self.is_few()
+        (self.manner.finds & self.finder.holds())
+            | few_in(self.member.channel_ref(), self.manner.quorum).is_some()
     }
 }

@@ -13,4 +13,4 @@ returns-in-Err-clause-tells g c start later =
 
 pub returns-in-Ok-clause-owes : goal.returns-in-Ok-clause-owes
 returns-in-Ok-clause-owes g c =
-    on-any _ c.connect-connected.result (λ start came owed. c.in-Ok.ensures.owes start came (same-keeps _ _ _ _ _ _ c.connect-connected.ensures.texts start came owed))
+    on-any _ c.connect-connected.result (λ start came owed. c.in-Ok.ensures.unsaid _ start came (same-keeps _ _ _ _ _ _ c.connect-connected.ensures.texts start came owed))

@@ -10,6 +10,6 @@ returns-in-None-clause-begins g c = (false, rw (c.in-None.is, c.if-self.true) Wa
 pub returns-clause-begins : goal.returns-clause-begins
 returns-clause-begins g c =
     elim c.match-contact.branch [
-      | in-Some w ↦ begins-call _ c.args.settings.now.group _ _ _ _ (rw (w.in-Some.is, w.call-is) refl) c.call.ensures.makes
-      | in-None-2 w ↦ begins-call _ c.args.settings.now.group _ _ _ _ (rw (w.in-None.is, w.if-self.false, w.call-is) refl) c.call.ensures.makes
+      | in-Some w ↦ begins-call _ c.args.settings.now.group _ _ _ _ (rw (w.in-Some.is, w.call-is) refl) c.say_nothing.ensures.makes
+      | in-None-2 w ↦ begins-call _ c.args.settings.now.group _ _ _ _ (rw (w.in-None.is, w.if-self.false, w.call-is) refl) c.say_nothing.ensures.makes
     ]

@@ -1,6 +1,6 @@
 use Rattle.node_turns.proofs.NodesTell.{tells-turn, tells-waits}
 use Rattle.node_turns.specs.Came.{Owes}
-use Rattle.node_turns.proofs.LinesOwed.{on-map, on-went, same-keeps}
+use Rattle.node_turns.proofs.LinesOwed.{on-map, on-went}
 use Rattle.udp_runs.proofs.lone.LoneNode.listen_for.Goals as goal
 
 pub returns-in-Ok-clause-tells : goal.returns-in-Ok-clause-tells
@@ -16,10 +16,10 @@ returns-in-Err-clause-tells g c group start later owed earlier =
 pub returns-in-Ok-clause-owes : goal.returns-in-Ok-clause-owes
 returns-in-Ok-clause-owes g c start owed =
     let was = Owes start (g.L.Lines.came c.listen-went.new.lines) c.listen-went.new.self.outbox c.listen-went.new.self.teller.unsaid in
-    let is = Owes start (g.L.Lines.came c.tell_then_offer.new.lines) c.wait_unless.new.self.outbox c.wait_unless.new.self.teller.unsaid in
+    let is = Owes start (g.L.Lines.came c.tell_then_offer.new.lines) c.listen-went.new.self.outbox c.tell_then_offer.new.self.unsaid in
     on-went is c.wait_unless.result c.listen-went.result c.wait_unless.ensures.went
     (on-map was is c.listen-went.result (c.listen-went.ensures.owes start owed)
-    (λ x. rw c.tell_then_offer.ensures.came (same-keeps _ _ _ _ _ _ c.wait_unless.ensures.texts start _ (c.in-Ok.ensures.owes start _ x))))
+    (λ x. rw c.tell_then_offer.ensures.came (c.in-Ok.ensures.unsaid _ start _ x)))
 
 pub returns-in-Ok-clause-grows : goal.returns-in-Ok-clause-grows
 returns-in-Ok-clause-grows g c = rw c.tell_then_offer.ensures.came c.listen-went.ensures.grows

@@ -3,8 +3,11 @@ use Rattle.node_turns.proofs.LinesKept.{earlier-refl, earlier-trans}
 use Rattle.node_turns.proofs.NodesTell.{tells-none, tells-then}
 use Rattle.udp_runs.proofs.lone.LoneNode.listen_until.Goals as goal
 
+pub returns-then-round-eq0-clause-tells : goal.returns-then-round-eq0-clause-tells
+returns-then-round-eq0-clause-tells g c group start later owed earlier none = tells-none _ _ _ _ group _ _ _ _ none
+
 pub loop-init : goal.loop-init
-loop-init g c = (λ group start later owed earlier none. tells-none _ _ _ _ group _ _ _ _ none, refl, refl, refl, earlier-refl _, λ start owed. owed)
+loop-init g c = (λ group start later owed earlier none. tells-none _ _ _ _ group _ _ _ _ none, refl, c.now.ensures, refl, earlier-refl _, λ start owed. owed)
 
 pub returns-in-Err-clause-tells : goal.returns-in-Err-clause-tells
 returns-in-Err-clause-tells g c group start later owed earlier none =

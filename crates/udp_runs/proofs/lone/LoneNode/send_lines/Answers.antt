@@ -1,27 +1,25 @@
 use Rattle.std.proofs.Common.{◌∙◌}
-use Rattle.node_turns.proofs.NodesTell.{quiet-as, quiet-then}
-use Rattle.node_turns.proofs.LinesOwed.{back-keeps}
+use Rattle.node_turns.proofs.NodesTell.{quiet-none, quiet-then}
 use Rattle.udp_runs.proofs.lone.LoneNode.send_lines.Goals as goal
 
 pub returns-in_err-take_back-clause-drives : goal.returns-in_err-take_back-clause-drives
-returns-in_err-take_back-clause-drives g c group start came later owed earlier = quiet-as _ _ _ _ group _ _ c.take_back.ensures.member
+returns-in_err-take_back-clause-drives g c group start came later owed earlier = quiet-none _ _ _ _ group _
 
 pub returns-then-holds-clause-drives : goal.returns-then-holds-clause-drives
-returns-then-holds-clause-drives g c group start came later owed earlier = quiet-as _ _ _ _ group _ _ c.take_back.ensures.member
+returns-then-holds-clause-drives g c group start came later owed earlier = quiet-none _ _ _ _ group _
 
 pub returns-then-holds-clause-owes : goal.returns-then-holds-clause-owes
-returns-then-holds-clause-owes g c start came owed =
-    back-keeps _ _ _ _ c.in_ok-take_back.ensures.outbox c.in_ok-take_back.ensures.unsaid start came owed
+returns-then-holds-clause-owes g c = c.in_ok-take_back.ensures
 
 pub returns-in_err-send_first-clause-drives : goal.returns-in_err-send_first-clause-drives
-returns-in_err-send_first-clause-drives g c group start came later owed earlier = rw (c.take_back.ensures.member, c.take_back.ensures.same.1) at c.send_first.ensures.drives group start later
+returns-in_err-send_first-clause-drives g c group start came later owed earlier = c.send_first.ensures.drives group start later
 
 pub loop-sent-init : goal.loop-sent-init
 loop-sent-init g c = (
-  λ group start came later owed earlier. rw (c.take_back.ensures.member, c.take_back.ensures.same.1) at c.send_first.ensures.drives group start later,
-  c.send_first.ensures.same.0 ∙ c.take_back.ensures.same.0,
-  c.send_first.ensures.same.1 ∙ c.take_back.ensures.same.1,
-  λ start came owed. c.in_ok-send_first.ensures.owes start came (back-keeps _ _ _ _ c.in_ok-take_back.ensures.outbox c.in_ok-take_back.ensures.unsaid start came owed),
+  λ group start came later owed earlier. c.send_first.ensures.drives group start later,
+  c.send_first.ensures.same.0,
+  c.send_first.ensures.same.1,
+  λ start came owed. c.in_ok-send_first.ensures.owes start came (c.in_ok-take_back.ensures start came owed),
 )
 
 pub returns-in_err-send_line-clause-drives : goal.returns-in_err-send_line-clause-drives

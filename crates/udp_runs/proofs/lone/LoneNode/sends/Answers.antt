@@ -8,7 +8,7 @@ pub returns-in_err-unless_memory-clause-drives : goal.returns-in_err-unless_memo
 returns-in_err-unless_memory-clause-drives g c group start later may = quiet-sent _ _ _ _ group _ (that-said _ _ _ may) _ _ _ (c.send.ensures.called group) c.send.ensures.uncalled
 
 pub returns-in_err-note_sent-clause-drives : goal.returns-in_err-note_sent-clause-drives
-returns-in_err-note_sent-clause-drives g c group start later may = rw c.note_sent.ensures.member (quiet-sent _ _ _ _ group _ (that-said _ _ _ may) _ _ _ (c.send.ensures.called group) c.send.ensures.uncalled)
+returns-in_err-note_sent-clause-drives g c group start later may = quiet-sent _ _ _ _ group _ (that-said _ _ _ may) _ _ _ (c.send.ensures.called group) c.send.ensures.uncalled
 
 pub returns-clause-drives : goal.returns-clause-drives
-returns-clause-drives g c group start later may = rw c.note_sent.ensures.member (quiet-sent _ _ _ _ group _ (that-said _ _ _ may) _ _ _ (c.send.ensures.called group) c.send.ensures.uncalled)
+returns-clause-drives g c group start later may = quiet-sent _ _ _ _ group _ (that-said _ _ _ may) _ _ _ (c.send.ensures.called group) c.send.ensures.uncalled

@@ -10,39 +10,39 @@ loop-round-init g c = (λ start later owed earlier none. tells-none _ _ _ _ c.ar
 pub returns-in-Err-clause-tells : goal.returns-in-Err-clause-tells
 returns-in-Err-clause-tells g c start later owed earlier none =
     let (told, voice, gone, once, grows, owes) = c.loop-round.invariant in
-    let so_far = told start later owed (earlier-trans _ _ _ c.rest.ensures.grows earlier) none in
+    let so_far = told start later owed (earlier-trans _ _ _ c.listen_until.ensures.grows earlier) none in
     tells-then _ _ _ _ c.args.settings.now.group _ _ _ _ _ _ _ _ _ so_far (rw (voice, once) at c.in-Err.ensures.tells c.args.settings.now.group start later (owes start owed) earlier (told-all _ _ _ _ c.args.settings.now.group _ _ _ _ _ _ so_far))
 
 pub returns-in-Err-clause-grows : goal.returns-in-Err-clause-grows
 returns-in-Err-clause-grows g c =
     let (told, voice, gone, once, grows, owes) = c.loop-round.invariant in
-    earlier-trans _ _ _ grows c.rest.ensures.grows
+    earlier-trans _ _ _ grows c.listen_until.ensures.grows
 
 pub returns-in-Err-turn-clause-tells : goal.returns-in-Err-turn-clause-tells
 returns-in-Err-turn-clause-tells g c start later owed earlier none =
     let (told, voice, gone, once, grows, owes) = c.loop-round.invariant in
     let onward = earlier-trans _ _ _ c.turn.ensures.grows earlier in
-    let so_far = told start later owed (earlier-trans _ _ _ c.rest.ensures.grows onward) none in
+    let so_far = told start later owed (earlier-trans _ _ _ c.listen_until.ensures.grows onward) none in
     let rested = tells-then _ _ _ _ c.args.settings.now.group _ _ _ _ _ _ _ _ _ so_far (rw (voice, once) at c.in-Ok.ensures.tells c.args.settings.now.group start later (owes start owed) onward (told-all _ _ _ _ c.args.settings.now.group _ _ _ _ _ _ so_far)) in
-    tells-then _ _ _ _ c.args.settings.now.group _ _ _ _ _ _ _ _ _ rested (rw (c.rest.ensures.same.0, voice, c.rest.ensures.same.1, once) at c.in-Err-turn.ensures.tells start later (c.in-Ok.ensures.owes start (owes start owed)) earlier)
+    tells-then _ _ _ _ c.args.settings.now.group _ _ _ _ _ _ _ _ _ rested (rw (c.listen_until.ensures.same.0, voice, c.listen_until.ensures.same.1, once) at c.in-Err-turn.ensures.tells start later (c.in-Ok.ensures.owes start (owes start owed)) earlier)
 
 pub returns-in-Err-turn-clause-grows : goal.returns-in-Err-turn-clause-grows
 returns-in-Err-turn-clause-grows g c =
     let (told, voice, gone, once, grows, owes) = c.loop-round.invariant in
-    earlier-trans _ _ _ (earlier-trans _ _ _ grows c.rest.ensures.grows) c.turn.ensures.grows
+    earlier-trans _ _ _ (earlier-trans _ _ _ grows c.listen_until.ensures.grows) c.turn.ensures.grows
 
 pub loop-round-preserved : goal.loop-round-preserved
 loop-round-preserved g c =
     let (told, voice, gone, once, grows, owes) = c.loop-round.invariant in (
       λ start later owed earlier none. rw c.look.ensures.same.0 (
           let onward = earlier-trans _ _ _ c.turn.ensures.grows earlier in
-          let so_far = told start later owed (earlier-trans _ _ _ c.rest.ensures.grows onward) none in
+          let so_far = told start later owed (earlier-trans _ _ _ c.listen_until.ensures.grows onward) none in
           let rested = tells-then _ _ _ _ c.args.settings.now.group _ _ _ _ _ _ _ _ _ so_far (rw (voice, once) at c.in-Ok.ensures.tells c.args.settings.now.group start later (owes start owed) onward (told-all _ _ _ _ c.args.settings.now.group _ _ _ _ _ _ so_far)) in
-          tells-then _ _ _ _ c.args.settings.now.group _ _ _ _ _ _ _ _ _ rested (rw (c.rest.ensures.same.0, voice, c.rest.ensures.same.1, once) at c.in-Ok-turn.ensures.tells start later (c.in-Ok.ensures.owes start (owes start owed)) earlier)),
-      c.look.ensures.same.1 ∙ c.turn.ensures.same.0 ∙ c.rest.ensures.same.0 ∙ voice,
-      c.look.ensures.gone ∙ c.rest.ensures.gone ∙ gone,
-      c.look.ensures.same.2.0 ∙ c.turn.ensures.same.1 ∙ c.rest.ensures.same.1 ∙ once,
-      earlier-trans _ _ _ (earlier-trans _ _ _ grows c.rest.ensures.grows) c.turn.ensures.grows,
+          tells-then _ _ _ _ c.args.settings.now.group _ _ _ _ _ _ _ _ _ rested (rw (c.listen_until.ensures.same.0, voice, c.listen_until.ensures.same.1, once) at c.in-Ok-turn.ensures.tells start later (c.in-Ok.ensures.owes start (owes start owed)) earlier)),
+      c.look.ensures.same.1 ∙ c.turn.ensures.same.0 ∙ c.listen_until.ensures.same.0 ∙ voice,
+      c.look.ensures.gone ∙ c.listen_until.ensures.gone ∙ gone,
+      c.look.ensures.same.2.0 ∙ c.turn.ensures.same.1 ∙ c.listen_until.ensures.same.1 ∙ once,
+      earlier-trans _ _ _ (earlier-trans _ _ _ grows c.listen_until.ensures.grows) c.turn.ensures.grows,
       λ start owed. same-keeps _ _ _ _ _ _ c.look.ensures.same.2 start _ (c.in-Ok-turn.ensures.owes start (c.in-Ok.ensures.owes start (owes start owed))),
     )
 
