@@ -1,7 +1,9 @@
 -- Lines one behind the other, and events that are taken one by one.
-use Rattle.std.proofs.Common.{◌≡◌, ℕ, zero, suc, true, false, Result, Ok, Err, OnErr, IsErr, List, [], ◌∷◌, ◌++◌, map, take, length, refl, sym, ap, ◌∙◌}
+use Rattle.std.proofs.Common.{◌≡◌, ℕ, ◌+◌, zero, suc, true, false, Result, Ok, Err, OnErr, IsErr, List, [], ◌∷◌, ◌++◌, map, take, length, refl, sym, ap, ◌∙◌}
 use Rattle.std.specs.List.{concat}
-use Rattle.std.proofs.lemmas.List.{append-nil, append_assoc}
+use Rattle.std.proofs.lemmas.List.{append-nil, append_assoc, map-append}
+use Rattle.std.proofs.lemmas.List.Folds.{concat-append}
+use Rattle.std.proofs.Math.Seq.{take-append-add, take-append_seam}
 use Rattle.trace_props.specs.declared.event.Event.{Event}
 use Rattle.vsync_text.specs.TraceText.{line_of}
 use Rattle.channel.specs.Channels.{ChannelModel}
@@ -9,27 +11,24 @@ use Rattle.node_turns.specs.Processes.{all_told}
 use Rattle.node_turns.specs.Texts.{Line, Happens, Appended, texts_of, text_of_line}
 
 pub texts-then : (xs ys : List Line) → texts_of (xs ++ ys) ≡ texts_of xs ++ texts_of ys
-texts-then [] ys = refl
-texts-then (x ∷ xs) ys = ap (λ (l : List (List ℕ)). text_of_line x ∷ l) (texts-then xs ys)
-
-pub happen-then : (xs ys : List Event) → map Happens (xs ++ ys) ≡ map Happens xs ++ map Happens ys
-happen-then [] ys = refl
-happen-then (x ∷ xs) ys = ap (λ (l : List Line). Happens x ∷ l) (happen-then xs ys)
+texts-then xs ys = map-append text_of_line xs ys
 
 pub concat-then : (xs ys : List (List ℕ)) → concat (xs ++ ys) ≡ concat xs ++ concat ys
-concat-then [] ys = refl
-concat-then (x ∷ xs) ys = ap (λ (l : List ℕ). x ++ l) (concat-then xs ys) ∙ sym (append_assoc x (concat xs) (concat ys))
+concat-then xs ys = concat-append xs ys
 
 -- the text of lines, and then of more
 pub text-then : (old mid new : List ℕ) (xs ys : List Line) → mid ≡ old ++ concat (texts_of xs) → new ≡ mid ++ concat (texts_of ys) → new ≡ old ++ concat (texts_of (xs ++ ys))
 text-then old mid new xs ys first more =
     more ∙ ap (λ (l : List ℕ). l ++ concat (texts_of ys)) first ∙ append_assoc old (concat (texts_of xs)) (concat (texts_of ys))
-    ∙ ap (λ (l : List ℕ). old ++ l) (sym (concat-then (texts_of xs) (texts_of ys)) ∙ ap concat (sym (texts-then xs ys)))
+    ∙ ap (λ (l : List ℕ). old ++ l) (sym (concat-append (texts_of xs) (texts_of ys)) ∙ ap concat (sym (map-append text_of_line xs ys)))
 
 module _ {X : Type 0} where
   pub take-front : (xs ys : List X) → take (length xs) (xs ++ ys) ≡ xs
-  take-front [] ys = refl
-  take-front (x ∷ xs) ys = ap (λ (l : List X). x ∷ l) (take-front xs ys)
+  take-front xs ys = take-append_seam xs ys
+
+  -- all of some, and the first few of others behind them
+  pub take-behind : (count : ℕ) (xs ys : List X) → (n : ℕ) × (take n (xs ++ ys) ≡ xs ++ take count ys)
+  take-behind count xs ys = (length xs + count, take-append-add xs ys count)
 
   -- the first few are the first few of more
   pub take-some : (count : ℕ) (xs ys : List X) → (n : ℕ) × (take n (xs ++ ys) ≡ take count xs)
@@ -41,26 +40,22 @@ module _ {X : Type 0} where
 pub cut-some : (old new : List ℕ) (xs ys : List Line) → (count : ℕ) × (new ≡ old ++ concat (take count (texts_of xs))) → (count : ℕ) × (new ≡ old ++ concat (take count (texts_of (xs ++ ys))))
 cut-some old new xs ys (count, is) =
     let r = take-some count (texts_of xs) (texts_of ys) in
-    (r.0, is ∙ ap (λ (l : List (List ℕ)). old ++ concat l) (sym r.1 ∙ ap (take r.0) (sym (texts-then xs ys))))
+    (r.0, is ∙ ap (λ (l : List (List ℕ)). old ++ concat l) (sym r.1 ∙ ap (take r.0) (sym (map-append text_of_line xs ys))))
 
 -- the text of lines is a beginning of that of more
 pub cut-whole : (old new : List ℕ) (xs ys : List Line) → new ≡ old ++ concat (texts_of xs) → (count : ℕ) × (new ≡ old ++ concat (take count (texts_of (xs ++ ys))))
 cut-whole old new xs ys is =
-    (length (texts_of xs), is ∙ ap (λ (l : List (List ℕ)). old ++ concat l) (sym (take-front (texts_of xs) (texts_of ys)) ∙ ap (take (length (texts_of xs))) (sym (texts-then xs ys))))
+    (length (texts_of xs), is ∙ ap (λ (l : List (List ℕ)). old ++ concat l) (sym (take-append_seam (texts_of xs) (texts_of ys)) ∙ ap (take (length (texts_of xs))) (sym (map-append text_of_line xs ys))))
 
 -- the same behind other lines
 pub cut-behind : (old mid new : List ℕ) (xs ys : List Line) → mid ≡ old ++ concat (texts_of xs) → (count : ℕ) × (new ≡ mid ++ concat (take count (texts_of ys)))
     → (count : ℕ) × (new ≡ old ++ concat (take count (texts_of (xs ++ ys))))
 cut-behind old mid new xs ys first (count, is) =
-    let r = behind (texts_of xs) (texts_of ys) in (
+    let r = take-behind count (texts_of xs) (texts_of ys) in (
       r.0,
       is ∙ ap (λ (l : List ℕ). l ++ concat (take count (texts_of ys))) first ∙ append_assoc old (concat (texts_of xs)) (concat (take count (texts_of ys)))
-          ∙ ap (λ (l : List ℕ). old ++ l) (sym (concat-then (texts_of xs) (take count (texts_of ys))) ∙ ap concat (sym r.1 ∙ ap (take r.0) (sym (texts-then xs ys)))),
+          ∙ ap (λ (l : List ℕ). old ++ l) (sym (concat-append (texts_of xs) (take count (texts_of ys))) ∙ ap concat (sym r.1 ∙ ap (take r.0) (sym (map-append text_of_line xs ys)))),
     )
-  where
-    behind : (us vs : List (List ℕ)) → (n : ℕ) × (take n (us ++ vs) ≡ us ++ take count vs)
-    behind [] vs = (count, refl)
-    behind (u ∷ us) vs = let r = behind us vs in (suc r.0, ap (λ (l : List (List ℕ)). u ∷ l) r.1)
 
 -- ---- events that are taken
 
@@ -76,7 +71,7 @@ module _ {S : Type 0} where
     done ++ event ∷ [],
     taken ∙ ap (λ (l : List Event). done ++ l) first ∙ sym (append_assoc done (event ∷ []) new.happened),
     text-then text text' text'' (map Happens done) (Happens event ∷ []) said (line ∙ ap (λ (l : List ℕ). text' ++ l) (sym (append-nil (line_of event))))
-        ∙ ap (λ (l : List Line). text ++ concat (texts_of l)) (sym (happen-then done (event ∷ []))),
+        ∙ ap (λ (l : List Line). text ++ concat (texts_of l)) (sym (map-append Happens done (event ∷ []))),
     others ∙ ap (λ (c : ChannelModel S). record c { happened = new.happened }) same,
   )
 
@@ -84,10 +79,15 @@ module _ {S : Type 0} where
       → (count : ℕ) × (text' ≡ text ++ concat (take count (texts_of (map Happens old.happened))))
   took-some old now text mid text' (done, taken, said, same) kept =
       let r = cut-whole text text' (map Happens done) (map Happens now.happened) (kept ∙ said) in
-      (r.0, r.1 ∙ ap (λ (l : List Line). text ++ concat (take r.0 (texts_of l))) (sym (happen-then done now.happened) ∙ ap (map Happens) (sym taken)))
+      (r.0, r.1 ∙ ap (λ (l : List Line). text ++ concat (take r.0 (texts_of l))) (sym (map-append Happens done now.happened) ∙ ap (map Happens) (sym taken)))
 
-  pub told-all : (old now : ChannelModel S) (text text' : List ℕ) → Took old now text text' → now.happened ≡ [] → now ≡ all_told old
-  told-all old now text text' (done, taken, said, same) none = same ∙ ap (λ (l : List Event). record old { happened = l }) none
+  -- and no more can be
+  pub took-last : (old mid now : ChannelModel S) (text text' : List ℕ) → Took old mid text text' → (mid.happened ≡ []) × (now.happened ≡ []) → now ≡ record mid { happened = now.happened }
+      → (text' ≡ text ++ concat (texts_of (map Happens old.happened))) × (now ≡ all_told old)
+  took-last old mid now text text' (done, taken, said, same) (none, left) others = (
+    said ∙ ap (λ (l : List Event). text ++ concat (texts_of (map Happens l))) (sym (append-nil done) ∙ ap (λ (l : List Event). done ++ l) (sym none) ∙ sym taken),
+    others ∙ ap (λ (c : ChannelModel S). record c { happened = now.happened }) same ∙ ap (λ (l : List Event). record old { happened = l }) left,
+  )
 
 pub on-err : {A E P : Type 0} (result : Result A E) → P → OnErr result P
 on-err (Ok x) p = tt

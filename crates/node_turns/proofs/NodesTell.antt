@@ -1,7 +1,8 @@
 -- What a node that runs by itself does and tells, one thing after another.
-use Rattle.std.proofs.Common.{◌≡◌, ℕ, suc, Bool, true, false, ◌||◌, ◌⊎◌, inl, inr, Option, None, Some, Result, Ok, Err, IfOk, IfErr, OnOk, OnErr, List, [], ◌∷◌, ◌++◌, map, take, length, refl, sym, ap, ◌∙◌, subst, arith, option_map}
+use Rattle.std.proofs.Common.{◌≡◌, ℕ, Bool, true, false, ◌||◌, ◌⊎◌, inl, inr, Option, None, Some, Result, Ok, Err, IfOk, IfErr, OnOk, OnErr, List, [], ◌∷◌, ◌++◌, map, take, length, refl, sym, ap, ◌∙◌, subst, arith, option_map}
 use Rattle.std.specs.List.{concat, AllByRecursion}
-use Rattle.std.specs.Result.{result_err}
+use Rattle.std.specs.Result.{IsErr, result_err}
+use Rattle.std.proofs.lemmas.List.Folds.{concat-append}
 use Rattle.std.proofs.lemmas.List.{append-nil, append_assoc, map-append, take_all}
 use Rattle.std.specs.Io.KnownBytes.{Appends}
 use Rattle.address.specs.Ids.{Address, ViewId}
@@ -32,14 +33,10 @@ use Rattle.node_turns.specs.Said.{IsThat, SaidBy, says_nothing}
 use Rattle.node_turns.specs.Telling.{Waits, Shows, ShowsBegun, Writes, Shown, Quietly, TellsFirst, Begins, TellsAll, AddsLine, OffersAll, BeginsWith, IsTurn, AppendsTurn, WritesTurn, ThenOffers, Tells, TellsOn, TellsFrom, TellsEnd, BeginsBy, Calling, Leaves, Stays, PlaysAlone, AppendsSaid}
 use Rattle.node_turns.specs.Texts.{Happens, texts_of}
 use Rattle.node_turns.proofs.RunTextsEnd.{takes-then, takes-none}
-use Rattle.node_turns.proofs.LinesAndEvents.{Took, took-one, concat-then, take-some}
+use Rattle.node_turns.proofs.LinesAndEvents.{Took, took-one, take-behind, take-some}
 use Rattle.node_turns.proofs.TellsBeforeOffers.{all-then, happen-plain, held-then, held-one, held-told, first-then, first-said}
 
 -- ---- texts that are written
-
-take-behind : {X : Type 0} (count : ℕ) (xs ys : List X) → (n : ℕ) × (take n (xs ++ ys) ≡ xs ++ take count ys)
-take-behind count [] ys = (count, refl)
-take-behind {X} count (x ∷ xs) ys = let r = take-behind count xs ys in (suc r.0, ap (λ (l : List X). x ∷ l) r.1)
 
 -- a beginning of texts is one of more texts
 pub begun-front : (speaks : Bool) (why : Why) (xs ys : List (List ℕ)) (a b : Option (List ℕ)) → ShowsBegun speaks xs a b why → ShowsBegun speaks (xs ++ ys) a b why
@@ -56,13 +53,13 @@ pub begun-behind : (speaks : Bool) (why : Why) (xs ys : List (List ℕ)) (a b c 
 begun-behind true why xs ys a b c s t = takes-then a b c s t
 begun-behind false cut.Memory xs ys a b c s (count, t) =
     let r = take-behind count xs ys in
-    (r.0, subst (λ (l : List ℕ). Appends a c l) (sym (ap concat r.1 ∙ concat-then xs (take count ys))) (appends_then a b c (concat xs) (concat (take count ys)) s t))
+    (r.0, subst (λ (l : List ℕ). Appends a c l) (sym (ap concat r.1 ∙ concat-append xs (take count ys))) (appends_then a b c (concat xs) (concat (take count ys)) s t))
 begun-behind false cut.Failed xs ys a b c s (count, bytes, t) =
     let r = take-behind count xs ys in
     let n = take-behind bytes (concat xs) (concat (take count ys)) in (
       r.0,
       n.0,
-      subst (λ (l : List ℕ). Appends a c l) (sym (ap (take n.0) (ap concat r.1 ∙ concat-then xs (take count ys)) ∙ n.1))
+      subst (λ (l : List ℕ). Appends a c l) (sym (ap (take n.0) (ap concat r.1 ∙ concat-append xs (take count ys)) ∙ n.1))
           (appends_then a b c (concat xs) (take bytes (concat (take count ys))) s t),
     )
 
@@ -86,7 +83,7 @@ begun-none false cut.Failed xs a = (0, 0, appends_nothing a)
 
 pub shows-then : (speaks : Bool) (xs ys : List (List ℕ)) (a b c : Option (List ℕ)) → Shows speaks xs a b → Shows speaks ys b c → Shows speaks (xs ++ ys) a c
 shows-then true xs ys a b c s t = takes-then a b c s t
-shows-then false xs ys a b c s t = subst (λ (l : List ℕ). Appends a c l) (sym (concat-then xs ys)) (appends_then a b c (concat xs) (concat ys) s t)
+shows-then false xs ys a b c s t = subst (λ (l : List ℕ). Appends a c l) (sym (concat-append xs ys)) (appends_then a b c (concat xs) (concat ys) s t)
 
 pub shows-none : (speaks : Bool) (a : Option (List ℕ)) → Shows speaks [] a a
 shows-none true a = takes-none a
@@ -172,7 +169,7 @@ module _ {S : Type 0} (line_of_state : Address → S → List ℕ) where
   events-turn stable channel = ([], tt, tt, sym (append-nil (map Happened channel.happened)))
 
   -- the first of the lines of its events
-  pub begun-events : (stable : Bool) (channel : ChannelModel S) (text text' : List ℕ)
+  begun-events : (stable : Bool) (channel : ChannelModel S) (text text' : List ℕ)
       → (count : ℕ) × (text' ≡ text ++ concat (take count (texts_of (map Happens channel.happened))))
       → (lines : List (OwnLine S)) × IsTurn stable channel lines × ((count : ℕ) × (text' ≡ text ++ concat (take count (own_texts line_of_state lines))))
   begun-events stable channel text text' (count, begun) = (
@@ -180,6 +177,12 @@ module _ {S : Type 0} (line_of_state : Address → S → List ℕ) where
     events-turn stable channel,
     (count, begun ∙ ap (λ (l : List (List ℕ)). text ++ concat (take count l)) (sym (same-texts channel.happened))),
   )
+
+  -- they were appended, and then memory was refused
+  pub appends-begun : {A E : Type 0} (stable : Bool) (channel : ChannelModel S) (text text' : List ℕ) (result : Result A E) → IsErr result
+      → (count : ℕ) × (text' ≡ text ++ concat (take count (texts_of (map Happens channel.happened)))) → AppendsTurn line_of_state stable channel text text' result
+  appends-begun stable channel text text' (Ok x) is begun = absurd (let bad : false ≡ true = is in cc)
+  appends-begun stable channel text text' (Err e) is begun = begun-events stable channel text text' begun
 
   -- how many messages are stable
   pub appends-known : (stable : Bool) (channel : ChannelModel S) (p : Address) (view : ViewId) (count : ℕ) (text text' : List ℕ) → stable ≡ true → p ≡ channel.address
@@ -208,7 +211,7 @@ module _ {S : Type 0} (line_of_state : Address → S → List ℕ) where
     (said, told-says stable channel said (subst (λ (c : ChannelModel S). AllByRecursion (Says stable c) said) told says), plain, refl),
     is ∙ ap (λ (l : List ℕ). l ++ concat (own_texts line_of_state said)) (first ∙ ap (λ (l : List (List ℕ)). text ++ concat l) (sym (same-texts channel.happened)))
         ∙ append_assoc text (concat (own_texts line_of_state (map Happened channel.happened))) (concat (own_texts line_of_state said))
-        ∙ ap (λ (l : List ℕ). text ++ l) (sym (concat-then (own_texts line_of_state (map Happened channel.happened)) (own_texts line_of_state said))
+        ∙ ap (λ (l : List ℕ). text ++ l) (sym (concat-append (own_texts line_of_state (map Happened channel.happened)) (own_texts line_of_state said))
         ∙ ap concat (sym (map-append (text_of line_of_state) (map Happened channel.happened) said))),
   )
   appends-said stable channel channel' text mid text' (Err e) first told said kept = (
@@ -344,7 +347,7 @@ module _ {N S : Type 0} (log : N → Option Log) (failed : N → ℕ) (May : Vie
     least-behind xs l u v w f (rest, g) = (
       rest,
       subst (λ (k : List ℕ). Appends u w k)
-          (sym (append_assoc (concat (texts xs)) (concat (texts l)) rest) ∙ ap (λ (k : List ℕ). k ++ rest) (sym (concat-then (texts xs) (texts l)) ∙ ap concat (sym (texts-then xs l))))
+          (sym (append_assoc (concat (texts xs)) (concat (texts l)) rest) ∙ ap (λ (k : List ℕ). k ++ rest) (sym (concat-append (texts xs) (texts l)) ∙ ap concat (sym (texts-then xs l))))
           (appends_then u v w (concat (texts xs)) (concat (texts l) ++ rest) f g),
     )
 

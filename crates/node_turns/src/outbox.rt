@@ -51,26 +51,6 @@ fn first_line(text: &[u8]) -> Option<(&[u8], &[u8])>
     Some((line, rest?))
 }
 
-// Whether the first line of a text is the one that ends a node's rounds.
-fn is_end(text: &[u8]) -> bool {
-    match first_line(text) {
-        Some((line, _)) => line == END,
-        None => false,
-    }
-}
-
-// The first line of a text, if it is whole and can be sent.
-fn line_to_send(text: &[u8]) -> Result<Option<&[u8]>, OutboxError>
-    ensures { IfOk result (λ line. IfSome line (λ found. (found.now ≡ before_byte 10 text.now) × (is_whole text.now ≡ true))) }
-{
-    match first_line(text) {
-        Some((line, _)) if line.len() > PAYLOAD => Err(OutboxError::Long),
-        Some((line, _)) => Ok(Some(line)),
-        None if text.len() > PAYLOAD => Err(OutboxError::Long),
-        None => Ok(None),
-    }
-}
-
 // What is left of what came, without the rest of a line of which the beginning was dropped.
 fn uncut(is_cut: bool, came: &[u8]) -> &[u8]
     ensures { result.now ≡ left_of is_cut came.now }
@@ -145,8 +125,9 @@ impl Outbox {
     pub fn see_end(&mut self)
         ensures { self.new ≡ self.old }
     {
-        if is_end(self.waiting()) {
-            self.is_over = true;
+        match first_line(self.waiting()) {
+            Some((line, _)) if line == END => self.is_over = true,
+            _ => (),
         }
     }
 
@@ -157,7 +138,12 @@ impl Outbox {
         if self.is_over {
             return Ok(None);
         }
-        line_to_send(self.waiting())
+        let text = self.waiting();
+        match first_line(text) {
+            Some((line, _)) if line.len() <= PAYLOAD => Ok(Some(line)),
+            None if text.len() <= PAYLOAD => Ok(None),
+            _ => Err(OutboxError::Long),
+        }
     }
 
     /// Whether a whole line waits.

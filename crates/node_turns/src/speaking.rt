@@ -2,7 +2,7 @@
 
 use address::Address;
 use std::alloc::{AllocError, Global};
-use trace_props::{Delivery, Event, Install};
+use trace_props::{Event, Install};
 use vsync_text::{Part, Text, put};
 
 /// Writes what is said, and who comes and goes (docs/CLI.md, "What a node says as text").
@@ -23,16 +23,21 @@ fn put_byte(text: &mut Text, byte: u8) {
     }
 }
 
-// Whether a character is to be shown as it is: not one that moves a terminal's cursor.
-fn is_shown(character: char) -> bool {
-    let code = character as u32;
-    code >= 160 || (32..127).contains(&code)
+// Whether each character is to be shown as it is: none that moves a terminal's cursor.
+fn are_shown(said: &str) -> bool {
+    for character in said.chars() {
+        let code = character as u32;
+        if (code < 32) | ((127 <= code) & (code < 160)) {
+            return false;
+        }
+    }
+    true
 }
 
 // Appends a payload as text: as it is where it is UTF-8 without control characters, else with each byte but those of ASCII that are shown as `\x` and two digits.
 fn put_payload(text: &mut Text, payload: &[u8]) {
     if let Ok(said) = str::from_utf8(payload) {
-        if said.chars().all(is_shown) {
+        if are_shown(said) {
             text.put(payload);
             return;
         }
@@ -51,13 +56,6 @@ fn put_change(text: &mut Text, member: Address, what: &[u8]) {
         Part::Text(what),
         Part::Text(b"\n"),
     ]);
-}
-
-// Appends what was said.
-fn put_said(text: &mut Text, said: &Delivery) {
-    text.put_parts(&[Part::Address(said.message.sender), Part::Text(b": ")]);
-    put_payload(text, said.message.payload.as_slice());
-    text.put(b"\n");
 }
 
 // Appends a change of those of the first list that are not in the second.
@@ -82,7 +80,12 @@ impl Speaker {
     pub(crate) fn append(&mut self, text: &mut Vec<u8>, event: &Event) -> Result<(), AllocError> {
         let mut said = Text::new(self.alloc);
         match event {
-            Event::Delivered(delivery) => put_said(&mut said, delivery),
+            Event::Delivered(delivery) => {
+                let message = &delivery.message;
+                said.put_parts(&[Part::Address(message.sender), Part::Text(b": ")]);
+                put_payload(&mut said, message.payload.as_slice());
+                said.put(b"\n");
+            }
             Event::Installed(install) => self.put_install(&mut said, install.get()),
             Event::Left(member) => put_change(&mut said, *member, b"left"),
             Event::Crashed(member) => put_change(&mut said, *member, b"crashed"),

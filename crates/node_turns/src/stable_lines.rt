@@ -1,36 +1,11 @@
 //! The line by which a node tells how many messages of its view are stable.
 
 ghost use Rattle.std.specs.Prelude.{◌≡◌, ◌++◌, OnOk, OnErr};
-ghost use Rattle.vsync_text.specs.TraceText.{GoesOnFrom};
 ghost use Rattle.node_turns.specs.OwnLines.{stable_line};
 
 use address::{Address, ViewId};
 use std::alloc::AllocError;
 use vsync_text::{Part, put_parts};
-
-// Appends the line, or a part of it.
-fn put_stable(
-    out: &mut Vec<u8>,
-    member: &Address,
-    view: &ViewId,
-    count: u64,
-) -> Result<(), AllocError>
-    ensures text { OnOk result (out.new.items ≡ out.old.items ++ stable_line member.now view.now count) }
-    ensures kept { GoesOnFrom out.old.items out.new.items }
-{
-    put_parts(
-        out,
-        &[
-            Part::Text(b"stable "),
-            Part::Address(*member),
-            Part::Text(b" "),
-            Part::View(*view),
-            Part::Text(b" "),
-            Part::Number(count),
-            Part::Text(b"\n"),
-        ],
-    )
-}
 
 /// Appends `stable MEMBER VIEW COUNT` with its line feed: so many messages of its view are stable, as far as the member knows.
 ///
@@ -47,7 +22,18 @@ pub(crate) fn append_stable(
     ensures err { OnErr result (out.new.items ≡ out.old.items) }
 {
     let before = out.len();
-    let result = put_stable(out, member, view, count);
+    let result = put_parts(
+        out,
+        &[
+            Part::Text(b"stable "),
+            Part::Address(*member),
+            Part::Text(b" "),
+            Part::View(*view),
+            Part::Text(b" "),
+            Part::Number(count),
+            Part::Text(b"\n"),
+        ],
+    );
     if result.is_err() {
         out.truncate(before);
     }

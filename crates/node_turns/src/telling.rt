@@ -78,6 +78,20 @@ fn count(tally: &mut Tally, event: &Event) {
     }
 }
 
+// Appends that a member is blocked, where its node says what happens and this is to be said.
+fn append_blocked(speaks: bool, is_blocked: &mut bool, text: &mut Vec<u8>) -> Result<(), AllocError>
+    ensures { speaks ≡ false → text.new.items ≡ text.old.items }
+{
+    if speaks && *is_blocked {
+        *is_blocked = false;
+        put(
+            text,
+            b"* blocked: nothing can be sent before the next view\n",
+        )?;
+    }
+    Ok(())
+}
+
 // Writes a text, so that it is seen at once; it is the beginning of one where memory was refused for the rest.
 fn show<W: Write>(
     writer: &mut W,
@@ -188,22 +202,6 @@ impl Teller {
         self.is_blocked = true;
     }
 
-    // Appends that its member is blocked, if it is to say so.
-    fn append_blocked(&mut self) -> Result<(), AllocError>
-        ensures text { self.old.voice.speaks ≡ false → self.new.text.items ≡ self.old.text.items }
-        ensures voice { self.new.voice ≡ self.old.voice }
-        ensures unsaid { self.new.unsaid ≡ self.old.unsaid }
-    {
-        if self.voice.speaks && self.is_blocked {
-            self.is_blocked = false;
-            put(
-                &mut self.text,
-                b"* blocked: nothing can be sent before the next view\n",
-            )?;
-        }
-        Ok(())
-    }
-
     // Appends what is to be told of an event, and counts it.
     fn append(&mut self, event: &Event) -> Result<(), AllocError>
         ensures text { self.old.voice.speaks ≡ false → OnOk result (self.new.text.items ≡ self.old.text.items ++ line_of event.now) }
@@ -220,29 +218,6 @@ impl Teller {
         }
     }
 
-    // Appends what is to be told of a channel.
-    fn append_turn<C: Application, L: Lines>(
-        &mut self,
-        channel: &mut Channel<C>,
-        lines: &mut L,
-    ) -> Result<(), AllocError>
-        ensures text { self.old.voice.speaks ≡ false → AppendsTurn C.line_of self.old.voice.stable channel.old self.old.text.items self.new.text.items result }
-        ensures told { OnOk result (channel.new ≡ all_told channel.old) }
-        ensures voice { self.new.voice ≡ self.old.voice }
-        ensures unsaid { OnOk result (KeepsUnsaid self.old.unsaid self.new.unsaid) }
-        ensures came { L.came lines.new ≡ L.came lines.old }
-    {
-        match self.append_all(channel, lines) {
-            Ok(()) => self.append_known(channel),
-            Err(refused) => Err(refused),
-        }
-    }
-
-    // Whether so many stable messages of a view are more than it told last.
-    fn is_more(&self, view: ViewId, count: u64) -> bool {
-        count > 0 && (self.known_view != Some(view) || count > self.known)
-    }
-
     // Appends how many messages of its view a channel knows to be stable, where it tells so and these are more than it told last.
     fn append_known<C: Application>(&mut self, channel: &Channel<C>) -> Result<(), AllocError>
         ensures text { OnOk result (AppendsSaid C.line_of self.old.voice.stable channel.now self.old.text.items self.new.text.items) }
@@ -257,7 +232,8 @@ impl Teller {
             return Ok(());
         };
         let (id, count) = (view.id(), channel.stable());
-        if !self.is_more(id, count) {
+        // It tells of no more messages than it told last.
+        if (count == 0) | ((self.known_view == Some(id)) & (count <= self.known)) {
             return Ok(());
         }
         append_stable(&mut self.text, &channel.address(), &id, count)?;
@@ -266,25 +242,23 @@ impl Teller {
         Ok(())
     }
 
-    // Appends what is to be told of the events of a channel that were not taken yet, and counts them.
-    fn append_all<C: Application, L: Lines>(
+    // Appends what is to be told of a channel: of its events that were not taken yet, which it counts, and what it knows.
+    fn append_turn<C: Application, L: Lines>(
         &mut self,
         channel: &mut Channel<C>,
         lines: &mut L,
     ) -> Result<(), AllocError>
-        ensures text { self.old.voice.speaks ≡ false → OnOk result (self.new.text.items ≡ self.old.text.items ++ concat (texts_of (map Happens channel.old.happened))) }
-        ensures err { self.old.voice.speaks ≡ false
-            → OnErr result ((count : ℕ) × (self.new.text.items ≡ self.old.text.items ++ concat (take count (texts_of (map Happens channel.old.happened))))) }
+        ensures text { self.old.voice.speaks ≡ false → AppendsTurn C.line_of self.old.voice.stable channel.old self.old.text.items self.new.text.items result }
         ensures told { OnOk result (channel.new ≡ all_told channel.old) }
         ensures voice { self.new.voice ≡ self.old.voice }
         ensures unsaid { OnOk result (KeepsUnsaid self.old.unsaid self.new.unsaid) }
         ensures came { L.came lines.new ≡ L.came lines.old }
     {
-        self.append_blocked()?;
+        append_blocked(self.voice.speaks, &mut self.is_blocked, &mut self.text)?;
         while let Some(event) = channel.happened() {
             self.append(&event)?;
             lines.hear(&event);
         }
-        Ok(())
+        self.append_known(channel)
     }
 }

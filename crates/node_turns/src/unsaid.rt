@@ -1,14 +1,14 @@
 //! What a node sent of its lines and has not seen delivered: what a view hands back is said again, in the same words (docs/RUNNER.md, "Giving way";
 //! docs/CLI.md, "Nodes over UDP").
 
-ghost use Rattle.std.specs.Prelude.{◌≡◌, ◌++◌, ◌∷◌, [], ℕ, OnOk, MatchOption, take, drop, flat_map, length};
+ghost use Rattle.std.specs.Prelude.{◌≡◌, ◌++◌, ◌∷◌, [], ℕ, OnOk, MatchOption, take, drop, flat_map};
 ghost use Rattle.node_turns.specs.Unsaid.{coming_back, noted, line_in};
 
 use crate::Lines;
 use std::alloc::{AllocError, Global};
 use std::marker::Model;
 use std::mem;
-use trace_props::{Event, Install};
+use trace_props::Event;
 
 /// What a message was that a node sent.
 #[derive(Drop)]
@@ -99,7 +99,12 @@ impl Unsaid {
                 let _ = self.take_oldest();
                 Ok(())
             }
-            Event::Installed(install) => self.take_back(install.get()),
+            Event::Installed(install) => {
+                // What it hands back came back.
+                let count = install.get().handed_back.as_slice().len();
+                self.outstanding = self.outstanding.saturating_sub(count as u64);
+                self.take_back_first(count)
+            }
             _ => Ok(()),
         }
     }
@@ -130,7 +135,12 @@ impl Unsaid {
 
     /// Whether what it sends once is outstanding, or came back.
     pub fn has_once(&self) -> bool {
-        self.is_once_back || self.sent.iter().any(|sent| matches!(sent, Sent::Once))
+        for sent in self.sent.as_slice() {
+            if matches!(sent, Sent::Once) {
+                return true;
+            }
+        }
+        self.is_once_back
     }
 
     /// Gives the lines back that are outstanding, the oldest first, and then those that came back.
@@ -155,15 +165,6 @@ impl Unsaid {
             return None;
         }
         Some(self.sent.remove(0))
-    }
-
-    // A view was installed: what it hands back came back.
-    fn take_back(&mut self, install: &Install) -> Result<(), AllocError>
-        ensures { OnOk result (self.new ≡ coming_back (length install.now.handed_back) self.old) }
-    {
-        let count = install.handed_back.as_slice().len();
-        self.outstanding = self.outstanding.saturating_sub(count as u64);
-        self.take_back_first(count)
     }
 
     // The oldest message came back: its line stands behind these.

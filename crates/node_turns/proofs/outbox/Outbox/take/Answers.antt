@@ -1,5 +1,4 @@
-use Rattle.std.proofs.Common.{◌≡◌, ℕ, ◌+◌, refl, sym, ap, ◌∙◌, arith, length, List, Some}
-use Rattle.vsync_text.specs.Lines.{before_byte, behind_byte}
+use Rattle.std.proofs.Common.{ℕ, ◌+◌, sym, ap, ◌∙◌, arith, length, List}
 use Rattle.node_turns.specs.Outboxes.{without_next}
 use Rattle.node_turns.proofs.FirstLines.{taken-past, next-is}
 use Rattle.node_turns.proofs.outbox.Outbox.take.Goals as goal

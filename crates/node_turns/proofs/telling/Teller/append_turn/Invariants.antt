@@ -1,7 +1,7 @@
 use Rattle.std.proofs.Common.{◌≡◌, false, length}
 use Rattle.node_turns.specs.Came.{KeepsUnsaid}
 use Rattle.node_turns.proofs.LinesAndEvents.{Took}
-use Rattle.node_turns.proofs.telling.Teller.append_all.Given as goal
+use Rattle.node_turns.proofs.telling.Teller.append_turn.Given as goal
 
 -- some events were taken, and their lines were appended, unless it speaks
 abbrev pub invariant-loop-event : goal.invariant-loop-event
