@@ -86,8 +86,5 @@ pub noted-keeps : (u v w : UnsaidModel) (event : Event) → KeepsUnsaid u v → 
 noted-keeps u v w event k is o start came x =
     subst (λ (z : UnsaidModel). Owes start came o z) (sym is) (owes-noted start came o v event (k o start came x))
 
-pub unsaid-same : (u v : UnsaidModel) → v ≡ u → KeepsUnsaid u v
-unsaid-same u v is o start came x = subst (λ (z : UnsaidModel). Owes start came o z) (sym is) x
-
 pub unsaid-then-same : (u v w : UnsaidModel) → KeepsUnsaid u v → w ≡ v → KeepsUnsaid u w
 unsaid-then-same u v w k is o start came x = subst (λ (z : UnsaidModel). Owes start came o z) (sym is) (k o start came x)

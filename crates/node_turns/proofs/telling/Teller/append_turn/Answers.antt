@@ -1,5 +1,5 @@
 use Rattle.std.proofs.Common.{◌≡◌, ℕ, [], ◌++◌, map, take, refl, sym, ap, ◌∙◌}
-use Rattle.node_turns.proofs.LinesOwed.{noted-keeps, on-any, unsaid-same, unsaid-then-same}
+use Rattle.node_turns.proofs.LinesOwed.{noted-keeps, on-any, unsaid-then-same}
 use Rattle.std.specs.List.{concat}
 use Rattle.std.proofs.lemmas.List.{append-nil}
 use Rattle.node_turns.specs.Texts.{Happens, texts_of}
@@ -23,9 +23,6 @@ loop-event-preserved g c = (
   (noted-keeps _ _ _ c.in-Some.event c.loop-event.invariant.1.0 c.in_ok-append.ensures.unsaid, c.hear.ensures ∙ c.loop-event.invariant.1.1),
 )
 
-pub returns-in_err-append-clause-came : goal.returns-in_err-append-clause-came
-returns-in_err-append-clause-came g c = c.loop-event.invariant.1.1
-
 pub returns-clause-text : goal.returns-clause-text
 returns-clause-text g c is =
     let last = took-last _ _ _ _ _ (c.loop-event.invariant.0.0 is) c.in_default.ensures.first c.happened.ensures.others in
@@ -34,8 +31,5 @@ returns-clause-text g c is =
 pub returns-clause-unsaid : goal.returns-clause-unsaid
 returns-clause-unsaid g c = on-any _ c.append_known.result (unsaid-then-same _ _ _ c.loop-event.invariant.1.0 c.append_known.ensures.unsaid)
 
-pub returns-clause-came : goal.returns-clause-came
-returns-clause-came g c = c.loop-event.invariant.1.1
-
 pub loop-event-init : goal.loop-event-init
-loop-event-init g c = ((λ is. ([], refl, c.append_blocked.ensures is ∙ sym (append-nil c.args.self.now.text.items), refl), refl, refl), (unsaid-same _ _ refl, refl))
+loop-event-init g c = ((λ is. ([], refl, c.append_blocked.ensures is ∙ sym (append-nil c.args.self.now.text.items), refl), refl, refl), (λ o start came x. x, refl))

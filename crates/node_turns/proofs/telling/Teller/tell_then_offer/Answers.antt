@@ -8,9 +8,6 @@ returns-in-Ok-clause-tells g c = rw c.channel.ensures.value at c.in-Ok.ensures.t
 pub returns-in-Ok-clause-offers : goal.returns-in-Ok-clause-offers
 returns-in-Ok-clause-offers g c = rw (c.in-Ok.ensures.told ∙ ap all_told c.channel.ensures.value) at c.offer.ensures.offers
 
-pub returns-in-Ok-clause-unsaid : goal.returns-in-Ok-clause-unsaid
-returns-in-Ok-clause-unsaid g c = c.in-Ok.ensures.unsaid
-
 pub returns-in-Err-clause-tells : goal.returns-in-Err-clause-tells
 returns-in-Err-clause-tells g c = rw c.channel.ensures.value at c.in-Err.ensures.tells
 
