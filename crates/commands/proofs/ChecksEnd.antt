@@ -7,14 +7,14 @@ use Rattle.trace_props.specs.Verdicts.{IsVerdict}
 use Rattle.vsync_text.specs.declared.fault.Fault.{Fault}
 use Rattle.vsync_text.specs.Script.{fault_number}
 use Rattle.vsync_text.specs.Pieces.{Told}
-use Rattle.endings.specs.declared.status.Status.{Status}
-use Rattle.endings.specs.declared.status.Status.TheVariants.{Memory}
-use Rattle.endings.specs.Outcomes.{Ends, Written, IsFaultText, memory_line}
-use Rattle.endings.specs.Outcomes.IsAnswer.{Answers}
+use Rattle.vsync_text.specs.declared.status.Status.{Status}
+use Rattle.vsync_text.specs.declared.status.Status.TheVariants.{Memory}
+use Rattle.vsync_text.specs.Outcomes.{Ends, Written, IsFaultText, memory_line}
+use Rattle.vsync_text.specs.Outcomes.IsAnswer.{Answers}
 use Rattle.commands.specs.Checks.{IsVerdictText, IsJudgedText, IsCheckText, ChecksTrace}
 use Rattle.commands.specs.Checks.IsJudgedText.{Judged, Unjudged}
 use Rattle.commands.specs.Checks.IsCheckText.{Checks, Faulty, Unread}
-use Rattle.endings.proofs.TextsFollow.{written-as, left-of}
+use Rattle.vsync_text.proofs.TextsFollow.{written-as, left-of}
 
 -- a verdict was printed
 pub judged-text : {S : Type 0} (meaning : Meaning S) (t : List Event) (v : Verdict) (a b : Option (List ℕ)) (status : Status)

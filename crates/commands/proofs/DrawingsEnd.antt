@@ -9,15 +9,15 @@ use Rattle.vsync_text.specs.declared.script.Script.{Script}
 use Rattle.vsync_text.specs.declared.fault.Fault.{Fault}
 use Rattle.vsync_text.specs.Script.{script_of, fault_number}
 use Rattle.trace_drawing.specs.Picture.{picture_of}
-use Rattle.endings.specs.declared.status.Status.{Status}
-use Rattle.endings.specs.declared.status.Status.TheVariants.{Done, Refused, Memory}
-use Rattle.endings.specs.Outcomes.{Ends, Written, IsAnswer, fault_line}
-use Rattle.endings.specs.Outcomes.IsAnswer.{Answers}
+use Rattle.vsync_text.specs.declared.status.Status.{Status}
+use Rattle.vsync_text.specs.declared.status.Status.TheVariants.{Done, Refused, Memory}
+use Rattle.vsync_text.specs.Outcomes.{Ends, Written, IsAnswer, fault_line}
+use Rattle.vsync_text.specs.Outcomes.IsAnswer.{Answers}
 use Rattle.commands.specs.Draws.{IsPictureText, IsRefusalText, IsDrawingText, TellsRun, IsJudgedAs, IsDrawnScript, IsDrawnTrace}
 use Rattle.commands.specs.Draws.IsPictureText.{Drawn, Undrawn}
 use Rattle.commands.specs.Draws.IsRefusalText.{Said, Unsaid}
 use Rattle.commands.specs.Draws.IsDrawingText.{Draws, Faulty, Unread}
-use Rattle.endings.proofs.TextsFollow.{written-as, left-of}
+use Rattle.vsync_text.proofs.TextsFollow.{written-as, left-of}
 
 -- a picture was written
 pub drawn-picture : (t : List Event) (rs : List Aside) (ps : List (List ℕ)) (v : Verdict) (a b : Option (List ℕ)) (status : Status) (picture taken : List ℕ) → picture ≡ picture_of t rs ps v → taken ≡ picture → Ends a b taken Done status → Written (IsPictureText t rs ps v) a b status

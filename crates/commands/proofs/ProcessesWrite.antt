@@ -17,9 +17,9 @@ use Rattle.vsync_text.specs.declared.fault.Unread.{Unread}
 use Rattle.vsync_text.specs.declared.fault.Unread.TheVariants as one
 use Rattle.vsync_text.specs.Texts.{IsUnread}
 use Rattle.vsync_text.specs.Script.{fault_number}
-use Rattle.endings.specs.declared.status.Status.{Status}
-use Rattle.endings.specs.declared.status.Status.TheVariants.{Memory}
-use Rattle.endings.specs.Outcomes.{Ends, Written, memory_line}
+use Rattle.vsync_text.specs.declared.status.Status.{Status}
+use Rattle.vsync_text.specs.declared.status.Status.TheVariants.{Memory}
+use Rattle.vsync_text.specs.Outcomes.{Ends, Written, memory_line}
 use Rattle.commands.specs.Processes.{bytes_in, texts_of, IsTraceOf, IsPlacedText, IsUnorderedText, IsFaultyText, IsJoinedText, HasFault, AreTracesOf, IsUnreadIn, unread_at, IsProcessesText}
 use Rattle.commands.specs.Processes.IsJoinedText.{Judged, Unordered, Unjudged}
 use Rattle.commands.specs.Processes.IsProcessesText.{Reads, Faulty, Lacking}

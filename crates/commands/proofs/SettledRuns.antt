@@ -9,13 +9,13 @@ use Rattle.world_model.specs.Histories.{History}
 use Rattle.world_step.specs.Worlds.{WorldModel, no_world, IsLonger}
 use Rattle.vsync_text.specs.declared.script.Script.{Script}
 use Rattle.vsync_text.specs.Runs.{lines_of_run}
-use Rattle.endings.specs.declared.status.Status.{Status}
-use Rattle.endings.specs.declared.status.Status.TheVariants.{Memory}
-use Rattle.endings.specs.Outcomes.{Ends, IsLinesText, Written, memory_line}
-use Rattle.endings.specs.Outcomes.IsLinesText.{Printed, Unprinted}
+use Rattle.vsync_text.specs.declared.status.Status.{Status}
+use Rattle.vsync_text.specs.declared.status.Status.TheVariants.{Memory}
+use Rattle.vsync_text.specs.Outcomes.{Ends, IsLinesText, Written, memory_line}
+use Rattle.vsync_text.specs.Outcomes.IsLinesText.{Printed, Unprinted}
 use Rattle.commands.specs.Settled.{KeepsRules, RunsAndSettles, RunsInPart, padded, IsSettledText}
 use Rattle.commands.specs.Settled.IsSettledText.{All, Part}
-use Rattle.endings.proofs.TextsFollow.{written-as}
+use Rattle.vsync_text.proofs.TextsFollow.{written-as}
 
 -- ---- longer histories
 

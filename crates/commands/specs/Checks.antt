@@ -11,9 +11,9 @@ use Rattle.trace_props.specs.Verdicts.{IsVerdict}
 use Rattle.vsync_text.specs.declared.fault.Fault.{Fault}
 use Rattle.vsync_text.specs.Script.{fault_number}
 use Rattle.vsync_text.specs.Traces.{trace_of}
-use Rattle.endings.specs.declared.status.Status.{Status}
-use Rattle.endings.specs.declared.status.Status.TheVariants.{Done, Broken, Memory}
-use Rattle.endings.specs.Outcomes.{IsFaultText, IsAnswer, memory_line}
+use Rattle.vsync_text.specs.declared.status.Status.{Status}
+use Rattle.vsync_text.specs.declared.status.Status.TheVariants.{Done, Broken, Memory}
+use Rattle.vsync_text.specs.Outcomes.{IsFaultText, IsAnswer, memory_line}
 
 -- the code of a rule
 abbrev pub rule_code : Rule → List ℕ

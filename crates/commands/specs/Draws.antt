@@ -12,10 +12,10 @@ use Rattle.vsync_text.specs.declared.fault.Fault.{Fault}
 use Rattle.vsync_text.specs.Script.{script_of, fault_number}
 use Rattle.vsync_text.specs.Traces.{trace_of}
 use Rattle.world_step.specs.Worlds.{WorldModel}
-use Rattle.endings.specs.declared.status.Status.{Status}
-use Rattle.endings.specs.declared.status.Status.TheVariants.{Done, Refused, Memory}
+use Rattle.vsync_text.specs.declared.status.Status.{Status}
+use Rattle.vsync_text.specs.declared.status.Status.TheVariants.{Done, Refused, Memory}
 use Rattle.commands.specs.Asides.{HasAsides}
-use Rattle.endings.specs.Outcomes.{IsAnswer, fault_line}
+use Rattle.vsync_text.specs.Outcomes.{IsAnswer, fault_line}
 use Rattle.script_runs.specs.Outcomes.{Ran}
 
 -- the texts of what happened: its picture, with what stands beside it, and with a mark where a rule breaks; or nothing, where memory is refused

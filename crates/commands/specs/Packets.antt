@@ -3,9 +3,9 @@ use Rattle.std.specs.Prelude.{ℕ, List, Option}
 use Rattle.state_transfer.specs.Meanings.{Meaning}
 use Rattle.vsync_text.specs.PacketText.{packet_lines}
 use Rattle.vsync_text.specs.declared.script.Script.{Script}
-use Rattle.endings.specs.declared.status.Status.{Status}
+use Rattle.vsync_text.specs.declared.status.Status.{Status}
 use Rattle.vsync_text.specs.Script.{as_written}
-use Rattle.endings.specs.Outcomes.{IsScriptText, IsAnswer}
+use Rattle.vsync_text.specs.Outcomes.{IsScriptText, IsAnswer}
 use Rattle.script_runs.specs.Outcomes.{IsEndText}
 
 -- the texts of the packets that were put out in a script's run, in order

@@ -17,9 +17,9 @@ use Rattle.vsync_text.specs.Script.{fault_number}
 use Rattle.vsync_text.specs.TraceText.{line_of}
 use Rattle.commands.specs.declared.processes.UnreadIn.{UnreadIn}
 use Rattle.commands.specs.declared.processes.UnreadIn.TheVariants as unread
-use Rattle.endings.specs.declared.status.Status.{Status}
-use Rattle.endings.specs.declared.status.Status.TheVariants.{Done, Broken, Refused, Memory}
-use Rattle.endings.specs.Outcomes.{Written, memory_line}
+use Rattle.vsync_text.specs.declared.status.Status.{Status}
+use Rattle.vsync_text.specs.declared.status.Status.TheVariants.{Done, Broken, Refused, Memory}
+use Rattle.vsync_text.specs.Outcomes.{Written, memory_line}
 use Rattle.commands.specs.Checks.{broken_line}
 use Rattle.commands.specs.MemberTexts.{member_trace_of}
 

@@ -13,9 +13,9 @@ use Rattle.vsync_text.specs.declared.script.Script.{Script}
 use Rattle.vsync_text.specs.Script.{as_written}
 use Rattle.vsync_text.specs.Runs.{lines_of_run, text_of_run}
 use Rattle.address.specs.declared.limits.TheConstants.{GREATEST_NODE}
-use Rattle.endings.specs.declared.status.Status.{Status}
-use Rattle.endings.specs.declared.status.Status.TheVariants.{Done, Memory}
-use Rattle.endings.specs.Outcomes.{IsScriptText, IsAnswer, memory_line}
+use Rattle.vsync_text.specs.declared.status.Status.{Status}
+use Rattle.vsync_text.specs.declared.status.Status.TheVariants.{Done, Memory}
+use Rattle.vsync_text.specs.Outcomes.{IsScriptText, IsAnswer, memory_line}
 
 -- what holds of every world
 pub record KeepsRules {S : Type 0} (meaning : Meaning S) (w : WorldModel S) : Type 0 where

@@ -9,8 +9,8 @@ use Rattle.trace_props.specs.State.{state_of}
 use Rattle.world_model.specs.Histories.{running}
 use Rattle.vsync_text.specs.declared.script.Script.{Script}
 use Rattle.vsync_text.specs.declared.fault.Fault.{Fault}
-use Rattle.endings.specs.declared.status.Status.{Status}
-use Rattle.endings.specs.Outcomes.{IsScriptText, IsAnswer}
+use Rattle.vsync_text.specs.declared.status.Status.{Status}
+use Rattle.vsync_text.specs.Outcomes.{IsScriptText, IsAnswer}
 use Rattle.script_runs.specs.Outcomes.{IsEndText}
 use Rattle.address.specs.declared.limits.TheConstants.{GREATEST_NODE}
 

@@ -1,14 +1,16 @@
 ghost use Rattle.std.specs.Prelude.{◌≡◌, ◌++◌, OnOk};
-ghost use Rattle.endings.specs.Outcomes.{Written};
+ghost use Rattle.vsync_text.specs.Outcomes.{Written};
 ghost use Rattle.commands.specs.Checks.{rule_code, broken_line, IsVerdictText, IsJudgedText, ChecksTrace};
 
-use endings::{Status, Unreadable, end_in_fault, end_in_memory, end_with, read_all};
 use state_transfer::Receiver;
 use std::alloc::{AllocError, Global};
 use std::io::{Read, Write};
 use trace_checker::check;
 use trace_props::{Rule, Trace, Verdict};
-use vsync_text::{Part, Untold, put_parts, read_trace_from};
+use vsync_text::{
+    Part, Status, Unreadable, Untold, end_in_fault, end_in_memory, end_with, put_parts, read_all,
+    read_trace_from,
+};
 
 /// The code under which a broken rule is printed (docs/GUARANTEES.md, "What check prints").
 pub fn code_of(rule: Rule) -> &'static str

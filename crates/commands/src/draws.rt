@@ -2,19 +2,20 @@
 
 ghost use Rattle.std.specs.Prelude.{[]};
 ghost use Rattle.vsync_text.specs.Script.{fault_number};
-ghost use Rattle.endings.specs.Outcomes.{Ends, Written};
+ghost use Rattle.vsync_text.specs.Outcomes.{Ends, Written};
 ghost use Rattle.commands.specs.Draws.{IsPictureText, IsRefusalText, IsDrawingText, TellsRun, IsJudgedAs, DrawsScript, DrawsTrace};
 
 use crate::asides::play_events;
 use address::Bytes;
-use endings::{Status, Unreadable, end_with, read_all};
 use state_transfer::Receiver;
 use std::alloc::Global;
 use std::io::{Read, Write};
 use trace_checker::check;
 use trace_drawing::{Aside, draw};
 use trace_props::{Event, Trace, Verdict};
-use vsync_text::{Fault, Script, Unread, read_script, read_trace};
+use vsync_text::{
+    Fault, Script, Status, Unread, Unreadable, end_with, read_all, read_script, read_trace,
+};
 use world::World;
 
 /// Ends with nothing written, for want of memory.

@@ -1,14 +1,13 @@
 ghost use Rattle.std.specs.Prelude.{true};
 ghost use Rattle.vsync_text.specs.PacketText.{packet_lines};
-ghost use Rattle.endings.specs.Outcomes.{Written, IsLinesText};
+ghost use Rattle.vsync_text.specs.Outcomes.{Written, IsLinesText};
 ghost use Rattle.commands.specs.Packets.{IsPacketText, RunsPackets};
 
-use endings::{Status, end_in_memory, end_with_lines};
 use script_runs::script_from;
 use state_transfer::Receiver;
 use std::alloc::Global;
 use std::io::{Read, Write};
-use vsync_text::{AsWritten, Script, append_packets};
+use vsync_text::{AsWritten, Script, Status, append_packets, end_in_memory, end_with_lines};
 use world::World;
 
 /// Writes the packets of a world.

@@ -4,20 +4,19 @@ ghost use Rattle.std.specs.Prelude.{◌≡◌, ◌++◌, IfOk, MatchResult};
 ghost use Rattle.std.specs.Option.{option_copied};
 ghost use Rattle.trace_merge.specs.Merges.{lists_of};
 ghost use Rattle.vsync_text.specs.Script.{fault_number};
-ghost use Rattle.endings.specs.Outcomes.{Written};
+ghost use Rattle.vsync_text.specs.Outcomes.{Written};
 ghost use Rattle.commands.specs.Checks.{broken_line};
 ghost use Rattle.commands.specs.Processes.{texts_of, AreTracesOf, unread_at, IsPlacedText, event_at, line_with, IsUnorderedText, IsFaultyText, IsJoinedText, IsUnreadIn, IsProcessesText, ChecksProcesses};
 
 use crate::checks::put_broken_line;
 use crate::member_texts::read_member_trace;
-use endings::{Status, end_in_memory, end_with};
 use state_transfer::Receiver;
 use std::alloc::{AllocError, Global};
 use std::io::Write;
 use trace_checker::check;
 use trace_merge::{MergeError, merge};
 use trace_props::{Event, Rule, Trace, Verdict};
-use vsync_text::{Fault, Unread, append_event};
+use vsync_text::{Fault, Status, Unread, append_event, end_in_memory, end_with};
 
 /// Why texts are not read.
 #[derive(Clone, Copy)]

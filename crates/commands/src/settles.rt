@@ -2,17 +2,16 @@
 
 ghost use Rattle.std.specs.Prelude.{◌≡◌, ◌≤◌, length, IfOk, OnOk, OnErr};
 ghost use Rattle.world_step.specs.Worlds.{shown, IsLonger};
-ghost use Rattle.endings.specs.Outcomes.{Written};
+ghost use Rattle.vsync_text.specs.Outcomes.{Written};
 ghost use Rattle.world.specs.Settled.{SettlesAt};
 ghost use Rattle.commands.specs.Settled.{KeepsRules, RunsAndSettles, RunsInPart, padded, IsSettledText, SettlesScript};
 
 use address::Node;
-use endings::{Status, end_in_memory};
 use script_runs::{print_run, script_from};
 use state_transfer::Receiver;
 use std::alloc::{AllocError, Global};
 use std::io::{Read, Write};
-use vsync_text::{AsWritten, Script};
+use vsync_text::{AsWritten, Script, Status, end_in_memory};
 use world::World;
 use world_model::WorldEvent;
 

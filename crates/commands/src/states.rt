@@ -2,16 +2,15 @@
 
 ghost use Rattle.std.specs.Prelude.{◌≡◌, ◌≤◌, ◌++◌, ℕ, take, true, OnOk, OnErr, option_to_list};
 ghost use Rattle.std.specs.List.{concat};
-ghost use Rattle.endings.specs.Outcomes.{Written, IsLinesText};
+ghost use Rattle.vsync_text.specs.Outcomes.{Written, IsLinesText};
 ghost use Rattle.commands.specs.States.{state_line_at, state_lines_of, IsStatesText, RunsStates};
 
 use address::Node;
 use application::{Application, append_line};
-use endings::{Status, end_in_memory, end_with_lines};
 use script_runs::script_from;
 use std::alloc::{AllocError, Global};
 use std::io::{Read, Write};
-use vsync_text::Script;
+use vsync_text::{Script, Status, end_in_memory, end_with_lines};
 use world::World;
 
 /// Appends the line of the member that runs at the node of a number, if one does.

@@ -5,11 +5,11 @@ use Rattle.std.specs.Io.KnownBytes.{Appends}
 use Rattle.udp_net.specs.declared.error.BindError.{BindError}
 use Rattle.udp_net.specs.declared.error.BindError.TheVariants as bind
 use Rattle.udp_net.specs.Errors.{bind_number}
-use Rattle.endings.specs.declared.status.Status.{Status}
-use Rattle.endings.specs.declared.status.Status.TheVariants.{Done, Refused, Memory, Outside}
-use Rattle.endings.specs.Outcomes.{Ends, Written, memory_line, fault_line}
-use Rattle.endings.specs.Outcomes.Ends.{Whole, Cut}
-use Rattle.endings.proofs.TextsFollow.{ends-then}
+use Rattle.vsync_text.specs.declared.status.Status.{Status}
+use Rattle.vsync_text.specs.declared.status.Status.TheVariants.{Done, Refused, Memory, Outside}
+use Rattle.vsync_text.specs.Outcomes.{Ends, Written, memory_line, fault_line}
+use Rattle.vsync_text.specs.Outcomes.Ends.{Whole, Cut}
+use Rattle.vsync_text.proofs.TextsFollow.{ends-then}
 use Rattle.node_turns.specs.declared.ends.Cut.{Cut as Why}
 use Rattle.node_turns.specs.declared.ends.Cut.TheVariants as cut
 use Rattle.node_turns.specs.Ends.{TakesMore, IsEndText, IsEndOf, IsNetlessText}

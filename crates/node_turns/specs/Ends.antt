@@ -3,9 +3,9 @@ use Rattle.std.specs.Prelude.{ℕ, List, [], Option, Result, Ok, Err}
 use Rattle.std.specs.Io.KnownBytes.{Appends}
 use Rattle.udp_net.specs.declared.error.BindError.{BindError}
 use Rattle.udp_net.specs.declared.error.BindError.TheVariants as bind
-use Rattle.endings.specs.declared.status.Status.{Status}
-use Rattle.endings.specs.declared.status.Status.TheVariants.{Done, Refused, Memory, Outside}
-use Rattle.endings.specs.Outcomes.{memory_line, fault_line}
+use Rattle.vsync_text.specs.declared.status.Status.{Status}
+use Rattle.vsync_text.specs.declared.status.Status.TheVariants.{Done, Refused, Memory, Outside}
+use Rattle.vsync_text.specs.Outcomes.{memory_line, fault_line}
 use Rattle.node_turns.specs.declared.ends.Cut.{Cut}
 use Rattle.node_turns.specs.declared.ends.Cut.TheVariants as cut
 

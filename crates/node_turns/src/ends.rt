@@ -2,16 +2,15 @@
 
 ghost use Rattle.std.specs.Prelude.{◌≡◌, ℕ, [], take, IfErr, OnOk, OnErr};
 ghost use Rattle.std.specs.Io.KnownBytes.{Appends};
-ghost use Rattle.endings.specs.Outcomes.{Written};
+ghost use Rattle.vsync_text.specs.Outcomes.{Written};
 ghost use Rattle.node_turns.specs.declared.ends.Cut.TheVariants as cut;
 ghost use Rattle.node_turns.specs.declared.ends.Stop.TheVariants as stop;
 ghost use Rattle.node_turns.specs.Ends.{IsEndOf, IsNetlessText};
 
-use endings::{Status, end_in_memory, end_with};
 use std::alloc::{AllocError, Global};
 use std::io::Write;
 use udp_net::BindError;
-use vsync_text::put_all;
+use vsync_text::{Status, end_in_memory, end_with, put_all};
 
 /// Why what happens is written no further.
 #[derive(Clone, Copy, Debug)]

@@ -12,14 +12,14 @@ use Rattle.world_model.specs.Faithful.{IsFaithful}
 use Rattle.world_model.specs.Histories.{History}
 use Rattle.vsync_text.specs.declared.script.Script.{Script}
 use Rattle.vsync_text.specs.Runs.{lines_of_run}
-use Rattle.endings.specs.declared.status.Status.{Status}
-use Rattle.endings.specs.declared.status.Status.TheVariants.{Memory}
-use Rattle.endings.specs.Outcomes.{Ends, IsLinesText, Written, memory_line}
+use Rattle.vsync_text.specs.declared.status.Status.{Status}
+use Rattle.vsync_text.specs.declared.status.Status.TheVariants.{Memory}
+use Rattle.vsync_text.specs.Outcomes.{Ends, IsLinesText, Written, memory_line}
 use Rattle.script_runs.specs.Outcomes.{Ran, IsRunText, IsEndText}
-use Rattle.endings.specs.Outcomes.IsLinesText.{Printed, Unprinted}
+use Rattle.vsync_text.specs.Outcomes.IsLinesText.{Printed, Unprinted}
 use Rattle.script_runs.specs.Outcomes.IsRunText.{All, Part}
 use Rattle.script_runs.specs.Outcomes.IsEndText.{All as AllLines, Part as PartOfLines, Stopped}
-use Rattle.endings.proofs.TextsFollow.{written-as}
+use Rattle.vsync_text.proofs.TextsFollow.{written-as}
 
 -- an answer that is no error
 on-ok : {A E : Type 0} (r : Result A E) (P : Type 0) (b : Bool) → OnOk r P → b ≡ is_ok r → b ≡ true → P

@@ -12,9 +12,9 @@ use Rattle.world_step.specs.Worlds.{WorldModel, no_world, Runs as WorldRuns}
 use Rattle.vsync_text.specs.declared.script.Script.{Script}
 use Rattle.vsync_text.specs.Script.{as_written}
 use Rattle.vsync_text.specs.Runs.{lines_of_run, text_of_run}
-use Rattle.endings.specs.declared.status.Status.{Status}
-use Rattle.endings.specs.declared.status.Status.TheVariants.{Done, Memory}
-use Rattle.endings.specs.Outcomes.{IsScriptText, IsAnswer, memory_line}
+use Rattle.vsync_text.specs.declared.status.Status.{Status}
+use Rattle.vsync_text.specs.declared.status.Status.TheVariants.{Done, Memory}
+use Rattle.vsync_text.specs.Outcomes.{IsScriptText, IsAnswer, memory_line}
 
 -- a world came from nothing by exactly these events, each a world step: its history is faithful, and its trace is virtually synchronous,
 -- well ordered at every place, where its members' copies of the state agree

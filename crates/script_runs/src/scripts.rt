@@ -1,12 +1,14 @@
 ghost use Rattle.vsync_text.specs.Runs.{lines_of_run};
-ghost use Rattle.endings.specs.Outcomes.{Written, IsLinesText, ReadsScript};
+ghost use Rattle.vsync_text.specs.Outcomes.{Written, IsLinesText, ReadsScript};
 ghost use Rattle.script_runs.specs.Outcomes.{IsRunText, RunsScript};
 
-use endings::{Status, Unreadable, end_in_fault, end_in_memory, end_with, read_all};
 use state_transfer::Receiver;
 use std::alloc::Global;
 use std::io::{Read, Write};
-use vsync_text::{AsWritten, Payloads, Printed, Script, Unread, read_script_by, write_run};
+use vsync_text::{
+    AsWritten, Payloads, Printed, Script, Status, Unread, Unreadable, end_in_fault, end_in_memory,
+    end_with, read_all, read_script_by, write_run,
+};
 use world::World;
 
 /// Reads a script, its texts as payloads of `P`; or ends the command, where it is none or is not read.

@@ -24,11 +24,11 @@ use Rattle.law_runners.specs.Systems.{Gone, Played, PlayedAreHistories, PlayedTe
 use Rattle.law_runners.proofs.HandsGoOn as hands
 use Rattle.law_runners.proofs.WhatRunnersKnow.{knows-among}
 use Rattle.law_runners.proofs.ItemsOfCalls.{drives-adds}
-use Rattle.endings.specs.declared.status.Status.{Status}
-use Rattle.endings.specs.declared.status.Status.TheVariants.{Done, Memory, Outside}
-use Rattle.endings.specs.Outcomes.{Ends, Written, memory_line}
-use Rattle.endings.specs.Outcomes.Ends.{Whole, Cut}
-use Rattle.endings.proofs.TextsFollow.{written-as, after-none, ends-then}
+use Rattle.vsync_text.specs.declared.status.Status.{Status}
+use Rattle.vsync_text.specs.declared.status.Status.TheVariants.{Done, Memory, Outside}
+use Rattle.vsync_text.specs.Outcomes.{Ends, Written, memory_line}
+use Rattle.vsync_text.specs.Outcomes.Ends.{Whole, Cut}
+use Rattle.vsync_text.proofs.TextsFollow.{written-as, after-none, ends-then}
 use Rattle.node_turns.specs.declared.ends.Cut.{Cut as Why}
 use Rattle.node_turns.specs.declared.ends.Cut.TheVariants as cut
 use Rattle.node_turns.specs.Ends.{TakesMore, IsEndOf, IsNetlessText}

@@ -14,11 +14,11 @@ use Rattle.vsync_text.specs.declared.udp_script.UdpLine.{UdpLine}
 use Rattle.vsync_text.specs.Script.{fault_number}
 use Rattle.vsync_text.specs.UdpScript.{udp_script_of}
 use Rattle.udp_net.specs.declared.error.BindError.{BindError}
-use Rattle.endings.specs.declared.status.Status.{Status}
-use Rattle.endings.specs.declared.status.Status.TheVariants.{Memory}
-use Rattle.endings.specs.Outcomes.{Ends, Written, IsFaultText, IsAnswer, memory_line}
-use Rattle.endings.specs.Outcomes.IsAnswer.{Answers}
-use Rattle.endings.proofs.TextsFollow.{written-as, answer-as, left-of, ends-then, after-none}
+use Rattle.vsync_text.specs.declared.status.Status.{Status}
+use Rattle.vsync_text.specs.declared.status.Status.TheVariants.{Memory}
+use Rattle.vsync_text.specs.Outcomes.{Ends, Written, IsFaultText, IsAnswer, memory_line}
+use Rattle.vsync_text.specs.Outcomes.IsAnswer.{Answers}
+use Rattle.vsync_text.proofs.TextsFollow.{written-as, answer-as, left-of, ends-then, after-none}
 use Rattle.node_turns.specs.declared.ends.Cut.{Cut as Why}
 use Rattle.node_turns.specs.declared.ends.Stop.{Stop}
 use Rattle.node_turns.specs.declared.ends.Stop.TheVariants.{Cut, NoNet}

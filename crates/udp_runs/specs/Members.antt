@@ -18,9 +18,9 @@ use Rattle.law_runners.specs.Runs.{new_channel}
 use Rattle.law_runners.specs.Known.{KnowsAmong}
 use Rattle.law_runners.specs.Merged.{own_items}
 use Rattle.law_runners.specs.Systems.{Gone, IsHistoryOf, with_runner}
-use Rattle.endings.specs.declared.status.Status.{Status}
-use Rattle.endings.specs.declared.status.Status.TheVariants.{Done, Memory}
-use Rattle.endings.specs.Outcomes.{Written, memory_line}
+use Rattle.vsync_text.specs.declared.status.Status.{Status}
+use Rattle.vsync_text.specs.declared.status.Status.TheVariants.{Done, Memory}
+use Rattle.vsync_text.specs.Outcomes.{Written, memory_line}
 use Rattle.node_turns.specs.declared.ends.Cut.{Cut}
 use Rattle.node_turns.specs.declared.ends.Cut.TheVariants as cut
 use Rattle.node_turns.specs.Ends.{IsEndText, IsNetlessText}

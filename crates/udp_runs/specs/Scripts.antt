@@ -14,9 +14,9 @@ use Rattle.udp_net.specs.Logs.{Log, NetEvent}
 use Rattle.udp_net.specs.declared.error.BindError.{BindError}
 use Rattle.udp_member.specs.Turns.{Driven}
 use Rattle.law_runners.specs.Systems.{Gone, IsHistoryOf, IsSeen}
-use Rattle.endings.specs.declared.status.Status.{Status}
-use Rattle.endings.specs.declared.status.Status.TheVariants.{Done, Memory}
-use Rattle.endings.specs.Outcomes.{IsFaultText, IsAnswer, memory_line}
+use Rattle.vsync_text.specs.declared.status.Status.{Status}
+use Rattle.vsync_text.specs.declared.status.Status.TheVariants.{Done, Memory}
+use Rattle.vsync_text.specs.Outcomes.{IsFaultText, IsAnswer, memory_line}
 use Rattle.node_turns.specs.declared.ends.Stop.{Stop}
 use Rattle.node_turns.specs.declared.ends.Stop.TheVariants.{Cut, NoNet}
 use Rattle.node_turns.specs.declared.process.Process.{Process}

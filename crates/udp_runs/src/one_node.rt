@@ -10,7 +10,6 @@ ghost use Rattle.node_turns.specs.Said.{MaySay};
 use crate::lone::LoneNode;
 use address::Address;
 use application::Application;
-use endings::Status;
 use law_runners::runners_are_synchronous;
 use node_turns::{
     Cut, Lines, NodeMachine, NodeManner, Outbox, Unsaid, end, end_without_net, member_at, settle,
@@ -20,7 +19,7 @@ use std::io::Write;
 use trace_props::Event;
 use udp_member::Runner;
 use udp_net::{BindError, Settings};
-use vsync_text::{MemberPlan, append_event};
+use vsync_text::{MemberPlan, Status, append_event};
 
 // It does nothing: its clause is what the type of an address says of it.
 fn is_real(address: Address)

@@ -3,7 +3,7 @@
 ghost use Rattle.std.specs.Prelude.{◌≡◌, ℕ, List, [], ◌++◌, map, take, IfOk, IfErr, OnOk, OnErr};
 ghost use Rattle.std.specs.List.{concat};
 ghost use Rattle.std.specs.Io.KnownBytes.{Appends};
-ghost use Rattle.endings.specs.Outcomes.{IsAnswer};
+ghost use Rattle.vsync_text.specs.Outcomes.{IsAnswer};
 ghost use Rattle.law_runners.specs.Systems.{Gone};
 ghost use Rattle.node_turns.specs.declared.ends.Cut.TheVariants as cut;
 ghost use Rattle.udp_net.specs.Logs.{NetEvent};
@@ -16,13 +16,14 @@ ghost use Rattle.node_turns.specs.Texts.{Line};
 
 use crate::nodes::Nodes;
 use application::Application;
-use endings::{Status, Unreadable, end_in_fault, end_in_memory, read_all};
 use law_runners::runners_are_synchronous;
 use node_turns::{Cut, NodeMachine, Stop, end, end_without_net, settle};
 use std::alloc::Global;
 use std::io::{Read, Write};
 use udp_net::{Net, Settings};
-use vsync_text::{UdpLine, Unread, read_udp_script};
+use vsync_text::{
+    Status, UdpLine, Unread, Unreadable, end_in_fault, end_in_memory, read_all, read_udp_script,
+};
 
 // The lines of a script; or the status with which the command ended, where it is none or is not read.
 fn lines_from<I: Read, W: Write>(

@@ -4,12 +4,12 @@ use crate::failing::Tried;
 use crate::hub::Hub;
 use crate::stories::{MERGE, holds};
 use chat_log::ChatLog;
-use endings::Status;
 use memory_nets::{Failing, Wires};
 use std::alloc::{AllocError, Global};
 use std::cell::RefCell;
 use udp_net::{FOUR, Settings, settings_of};
 use udp_runs::run_udp;
+use vsync_text::Status;
 
 /// How their text ends where nothing fails.
 const MERGED: &[u8] = b"chat 1.1 1.1:61\nchat 2.1 1.1:61\nchat 3.1 1.1:61\nchat 4.1 1.1:61\n";

@@ -8,13 +8,13 @@ use crate::lines::Told;
 use crate::stories::first_at;
 use address::Node;
 use chat_log::ChatLog;
-use endings::Status;
 use memory_nets::Wires;
 use std::alloc::{AllocError, Global};
 use std::cell::RefCell;
 use std::time::Duration;
 use udp_net::{FOUR, Settings, settings_of};
 use udp_runs::{Lines, LinesError, MemberPlan, NoLines, NodeManner, Tally, run_member, run_udp};
+use vsync_text::Status;
 
 /// The most scripts of a file.
 const SCRIPTS: u8 = 100;

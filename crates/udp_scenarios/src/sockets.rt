@@ -6,13 +6,12 @@ use crate::stories::{MERGE, first_at, holds, trace_and_chats};
 use address::Node;
 use application::Application;
 use chat_log::ChatLog;
-use endings::Status;
 use state_transfer::Receiver;
 use std::alloc::{AllocError, Global};
 use std::time::Duration;
 use udp_net::{BindError, Hosts, Net, Settings, SocketNet, settings_of};
 use udp_runs::{Loopback, run_udp};
-use vsync_text::Part;
+use vsync_text::{Part, Status};
 
 /// At how many places of ports it is tried, since others may have taken some.
 const PLACES: u16 = 40;

@@ -22,8 +22,8 @@ use Rattle.commands.specs.Settled.{SettlesScript}
 use Rattle.commands.specs.Checks.{ChecksTrace}
 use Rattle.commands.specs.Processes.{ChecksProcesses}
 use Rattle.commands.specs.Draws.{DrawsScript, DrawsTrace}
-use Rattle.endings.specs.declared.status.Status.{Status}
-use Rattle.endings.specs.declared.status.Status.TheVariants.{Done, Memory, Outside, Usage}
+use Rattle.vsync_text.specs.declared.status.Status.{Status}
+use Rattle.vsync_text.specs.declared.status.Status.TheVariants.{Done, Memory, Outside, Usage}
 use Rattle.vsync.specs.declared.kept_words.Kept.{Kept}
 use Rattle.vsync.specs.declared.kept_words.Kept.TheVariants as kept
 use Rattle.vsync.specs.declared.text_words.Task.{Task}

@@ -4,8 +4,8 @@ use Rattle.std.specs.Option.{option_and_then}
 use Rattle.std.specs.Str.{is_utf8}
 use Rattle.toml.specs.Parse.{parse_document}
 use Rattle.udp_net.specs.Settings.{SettingsModel, settings_in}
-use Rattle.endings.specs.declared.status.Status.{Status}
-use Rattle.endings.specs.declared.status.Status.TheVariants.{Memory, Refused}
+use Rattle.vsync_text.specs.declared.status.Status.{Status}
+use Rattle.vsync_text.specs.declared.status.Status.TheVariants.{Memory, Refused}
 use Rattle.vsync.specs.Ends.{EndsBy}
 
 -- the settings that bytes spell, if they are UTF-8 and spell some

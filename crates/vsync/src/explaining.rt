@@ -2,7 +2,7 @@
 
 ghost use Rattle.std.specs.Prelude.{◌≡◌, ◌≢◌};
 ghost use Rattle.commands.specs.Checks.{rule_code};
-ghost use Rattle.endings.specs.Outcomes.{Ends};
+ghost use Rattle.vsync_text.specs.Outcomes.{Ends};
 ghost use Rattle.vsync.specs.Topics.{code_of, explanation_of};
 ghost use Rattle.vsync.specs.declared.topic.Topic.{Topic};
 ghost use Rattle.trace_props.specs.declared.verdict.Rule.{Rule};
@@ -10,8 +10,8 @@ ghost use Rattle.vsync.specs.Ends.{EndsBy};
 
 use crate::programs::{complain, mistaken};
 use crate::{Topic, topic_of};
-use endings::{Status, end_with};
 use std::io::{self, Write};
+use vsync_text::{Status, end_with};
 
 /// Writes the explanation of a topic.
 fn explain_to<W: Write>(topic: Topic, writer: &mut W) -> Status

@@ -4,12 +4,11 @@ ghost use Rattle.std.specs.Prelude.{◌≡◌, ◌≤◌, ◌<◌, IfOk, IfSome}
 
 use address::Address;
 use address::limits::GREATEST_INCARNATION;
-use endings::{Unreadable, read_all};
 use std::alloc::{AllocError, Global};
 use std::fs::{self, OpenFile};
 use std::io::{self, ErrorKind, Write};
 use std::rt::Clock;
-use vsync_text::number_in;
+use vsync_text::{Unreadable, number_in, read_all};
 
 /// Why a node has no next incarnation.
 #[derive(Clone, Copy, Debug, thiserror::Error)]

@@ -5,9 +5,9 @@ ghost use Rattle.vsync.specs.Settings.{EndsWithout};
 
 use crate::programs::bytes_at;
 use crate::udp_programs::refuse;
-use endings::Status;
 use frames::{LEAST_KEY, MOST_KEY};
 use udp_net::SettingsError;
+use vsync_text::Status;
 
 // The key of a file: all of its bytes; or the status with which the program ends.
 fn key_in(rt: &HostRuntime, path: &str) -> Result<Vec<u8>, Status>

@@ -12,7 +12,6 @@ use crate::{Kept, MemberOptions};
 use address::Address;
 use application::Application;
 use chat_log::{ChatLog, LongChat};
-use endings::Status;
 use http_desk::{HttpDesk, Keeps};
 use lock_table::LockTable;
 use replicated_map::ReplicatedMap;
@@ -24,6 +23,7 @@ use std::time::Duration;
 use std::{io, thread};
 use udp_net::{Hosts, Settings};
 use udp_runs::{LineTrouble, Lines, Loopback, MemberPlan, NodeManner, Tally, run_member};
+use vsync_text::Status;
 
 // How long a tick takes where it is not given, in milliseconds.
 const TICK: u16 = 20;

@@ -10,11 +10,11 @@ use crate::programs::{MAP_AND_LOCKS, bytes_at, bytes_of, complain, mistaken, wit
 use crate::{Kept, ProcessesWords};
 use chat_log::{ChatLog, LongChat};
 use commands::run_check_processes;
-use endings::Status;
 use lock_table::LockTable;
 use replicated_map::ReplicatedMap;
 use std::alloc::Global;
 use std::io::{self, Write};
+use vsync_text::Status;
 
 /// Checks texts, to a writer, whose members keep this.
 fn check_texts<W: Write>(alloc: Global, kept: Kept, texts: &[Vec<u8>], writer: &mut W) -> Status

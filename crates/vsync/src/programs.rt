@@ -16,12 +16,12 @@ use clap::error::ErrorKind;
 use commands::{
     run_check, run_draw, run_draw_trace, run_packets, run_script, run_states, settle_script,
 };
-use endings::{Status, Unreadable, read_all};
 use lock_table::LockTable;
 use replicated_map::ReplicatedMap;
 use std::alloc::Global;
 use std::io::{Read, Write};
 use std::{env, fs, io};
+use vsync_text::{Status, Unreadable, read_all};
 
 /// Says something on the standard error.
 pub(crate) fn say(rt: &HostRuntime, what: &str) {

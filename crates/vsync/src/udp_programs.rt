@@ -15,11 +15,11 @@ use crate::said::Appended;
 use crate::{MemberOptions, MemberWords, UdpWords};
 use address::{Address, Node};
 use chat_log::ChatLog;
-use endings::Status;
 use std::io::Read;
 use std::{fs, io};
 use udp_net::{BindError, Hosts, Settings, SettingsError, settings};
 use udp_runs::{Loopback, MemberPlan, NoLines, run_udp};
+use vsync_text::Status;
 
 /// Says that the input is refused as a whole.
 pub(crate) fn refuse(rt: &HostRuntime, number: u8) -> Status

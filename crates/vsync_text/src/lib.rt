@@ -4,6 +4,7 @@
 
 mod append;
 mod buffered;
+mod ends;
 mod fault;
 mod field;
 mod forms;
@@ -22,12 +23,14 @@ mod run;
 mod script;
 mod script_line;
 mod spelling;
+mod status;
 mod text;
 mod trace_line;
 mod udp_script;
 
 pub use append::{put, put_address, put_addresses, put_decimal, put_hex, put_number, put_view_id};
 pub use buffered::put_all;
+pub use ends::{Unreadable, end_in_fault, end_in_memory, end_with, end_with_lines, read_all};
 pub use fault::{Fault, Unheard, Unread};
 pub use field::{
     address_field, address_in, first_field, first_line, is_word, number_in, split_at_first,
@@ -43,6 +46,7 @@ pub use run::{Printed, write_run};
 pub use script::{Script, read_script, read_script_by};
 pub use script_line::is_skipped;
 pub use spelling::{view_id_in, view_in};
+pub use status::Status;
 pub use text::Text;
 pub use trace_line::{append_event, append_refusal};
 pub use udp_script::{ROUNDS, UdpEvent, UdpLine, read_udp_script};

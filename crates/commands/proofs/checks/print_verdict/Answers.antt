@@ -1,8 +1,8 @@
 use Rattle.std.proofs.Common.{◌≡◌, ◌∙◌, sym, subst, List, ℕ, codes, rules}
 use Rattle.trace_props.specs.declared.verdict.Verdict.{Verdict}
 use Rattle.trace_props.specs.declared.verdict.Verdict.TheVariants.{Breaks}
-use Rattle.endings.specs.declared.status.Status.TheVariants.{Done, Broken, Memory}
-use Rattle.endings.specs.Outcomes.{memory_line}
+use Rattle.vsync_text.specs.declared.status.Status.TheVariants.{Done, Broken, Memory}
+use Rattle.vsync_text.specs.Outcomes.{memory_line}
 use Rattle.commands.specs.Checks.{broken_line, IsVerdictText}
 use Rattle.commands.specs.Checks.IsVerdictText.{Held, Broke, Unprinted}
 use Rattle.commands.proofs.checks.print_verdict.Goals as goal

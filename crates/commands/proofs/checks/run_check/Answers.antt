@@ -1,4 +1,4 @@
-use Rattle.endings.specs.Outcomes.IsAnswer.{ReaderFails}
+use Rattle.vsync_text.specs.Outcomes.IsAnswer.{ReaderFails}
 use Rattle.commands.proofs.ChecksEnd.{checked-text, faulty-text, unread-trace}
 use Rattle.commands.proofs.checks.run_check.Goals as goal
 use Rattle.vsync_text.proofs.LinesWritten.{appends_nothing}

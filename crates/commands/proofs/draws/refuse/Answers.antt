@@ -1,6 +1,6 @@
 use Rattle.std.proofs.Common.{◌∙◌, ap}
 use Rattle.vsync_text.specs.Script.{fault_number}
-use Rattle.endings.specs.Outcomes.{fault_line}
+use Rattle.vsync_text.specs.Outcomes.{fault_line}
 use Rattle.commands.proofs.DrawingsEnd.{said-fault, unsaid-fault}
 use Rattle.commands.proofs.draws.refuse.Goals as goal
 

@@ -1,6 +1,6 @@
 use Rattle.std.proofs.Common.{◌≡◌, ◌∙◌, ap, sym, Err}
 use Rattle.vsync_text.specs.Script.{script_of}
-use Rattle.endings.specs.Outcomes.IsAnswer.{ReaderFails, Answers}
+use Rattle.vsync_text.specs.Outcomes.IsAnswer.{ReaderFails, Answers}
 use Rattle.commands.specs.Draws.{IsDrawnScript, TellsScript}
 use Rattle.commands.proofs.DrawingsEnd.{drawn-run, faulty-as, unread-as, unread-answer}
 use Rattle.commands.proofs.draws.run_draw.Goals as goal

@@ -1,7 +1,7 @@
 use Rattle.std.proofs.Common.{List, ℕ, true, subst}
 use Rattle.vsync_text.specs.PacketText.{packet_lines}
-use Rattle.endings.specs.Outcomes.{Written, IsLinesText}
-use Rattle.endings.proofs.TextsFollow.{appended-all, appended-some}
+use Rattle.vsync_text.specs.Outcomes.{Written, IsLinesText}
+use Rattle.vsync_text.proofs.TextsFollow.{appended-all, appended-some}
 use Rattle.commands.proofs.packets.print_packets.Goals as goal
 
 pub returns : goal.returns

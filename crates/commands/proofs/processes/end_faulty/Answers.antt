@@ -1,7 +1,7 @@
 use Rattle.std.proofs.Common.{◌≡◌, ◌∙◌, ap, sym, subst, List, ℕ}
 use Rattle.vsync_text.specs.Script.{fault_number}
-use Rattle.endings.specs.declared.status.Status.TheVariants.{Refused, Memory}
-use Rattle.endings.specs.Outcomes.{memory_line}
+use Rattle.vsync_text.specs.declared.status.Status.TheVariants.{Refused, Memory}
+use Rattle.vsync_text.specs.Outcomes.{memory_line}
 use Rattle.commands.specs.Processes.{IsFaultyText, faulty_line}
 use Rattle.commands.specs.Processes.IsFaultyText.{Told, Untold}
 use Rattle.commands.proofs.processes.end_faulty.Goals as goal

@@ -1,6 +1,6 @@
 use Rattle.std.proofs.Common.{◌≡◌, ◌∙◌, sym, subst, List, ℕ}
-use Rattle.endings.specs.declared.status.Status.TheVariants.{Broken, Memory}
-use Rattle.endings.specs.Outcomes.{memory_line}
+use Rattle.vsync_text.specs.declared.status.Status.TheVariants.{Broken, Memory}
+use Rattle.vsync_text.specs.Outcomes.{memory_line}
 use Rattle.commands.specs.Processes.{IsUnorderedText, unordered_line}
 use Rattle.commands.specs.Processes.IsUnorderedText.{Told, Untold}
 use Rattle.commands.proofs.processes.end_unordered.Goals as goal

@@ -1,8 +1,8 @@
 use Rattle.std.proofs.Common.{◌≡◌, ◌∙◌, sym, subst, List, ℕ, codes, ◌++◌}
 use Rattle.trace_props.specs.declared.verdict.Verdict.{Verdict}
 use Rattle.trace_props.specs.declared.verdict.Verdict.TheVariants.{Breaks}
-use Rattle.endings.specs.declared.status.Status.TheVariants.{Done, Broken, Memory}
-use Rattle.endings.specs.Outcomes.{memory_line}
+use Rattle.vsync_text.specs.declared.status.Status.TheVariants.{Done, Broken, Memory}
+use Rattle.vsync_text.specs.Outcomes.{memory_line}
 use Rattle.commands.specs.Checks.{broken_line}
 use Rattle.commands.specs.Processes.{IsPlacedText, event_at, line_with}
 use Rattle.commands.specs.Processes.IsPlacedText.{Held, Broke, Unprinted}

@@ -1,6 +1,6 @@
 use Rattle.vsync_text.specs.Script.{as_written}
 use Rattle.commands.specs.Settled.{IsSettledText}
-use Rattle.endings.proofs.TextsFollow.{ran-text, unrun-text}
+use Rattle.vsync_text.proofs.TextsFollow.{ran-text, unrun-text}
 use Rattle.commands.proofs.settles.settle_script.Goals as goal
 
 pub returns-in-Ok : goal.returns-in-Ok

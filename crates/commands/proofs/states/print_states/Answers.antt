@@ -1,6 +1,6 @@
 use Rattle.std.proofs.Common.{List, ℕ}
 use Rattle.commands.specs.States.{state_lines_of}
-use Rattle.endings.proofs.TextsFollow.{appended-all, appended-some}
+use Rattle.vsync_text.proofs.TextsFollow.{appended-all, appended-some}
 use Rattle.commands.proofs.states.print_states.Goals as goal
 
 pub returns : goal.returns

@@ -1,5 +1,5 @@
 use Rattle.commands.specs.States.{IsStatesText}
-use Rattle.endings.proofs.TextsFollow.{ran-text, unrun-text}
+use Rattle.vsync_text.proofs.TextsFollow.{ran-text, unrun-text}
 use Rattle.commands.proofs.states.run_states.Goals as goal
 
 pub returns-in-Ok : goal.returns-in-Ok

@@ -1,5 +1,5 @@
 use Rattle.std.proofs.Common.{[]}
-use Rattle.endings.specs.declared.status.Status.TheVariants.{Done}
+use Rattle.vsync_text.specs.declared.status.Status.TheVariants.{Done}
 use Rattle.node_turns.specs.Ends.IsEndOf.{Over}
 use Rattle.node_turns.proofs.RunTextsEnd.{end-lacking, end-failing}
 use Rattle.node_turns.proofs.ends.end.Goals as goal

@@ -1,6 +1,6 @@
 use Rattle.std.proofs.Common.{length, arith}
 use Rattle.std.proofs.lemmas.List.{take_all}
-use Rattle.endings.proofs.TextsFollow.{appends-kept}
+use Rattle.vsync_text.proofs.TextsFollow.{appends-kept}
 use Rattle.node_turns.proofs.telling.show.Goals as goal
 
 pub returns-in-Err : goal.returns-in-Err

@@ -1,5 +1,5 @@
 use Rattle.std.proofs.Common.{◌∙◌}
-use Rattle.endings.proofs.TextsFollow.{prints-failed, prints-some, prints-part, prints-all}
+use Rattle.vsync_text.proofs.TextsFollow.{prints-failed, prints-some, prints-part, prints-all}
 use Rattle.script_runs.proofs.RunsPrint.{printed-as}
 use Rattle.script_runs.proofs.scripts.print_run.Goals as goal
 

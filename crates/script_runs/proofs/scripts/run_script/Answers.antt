@@ -1,6 +1,6 @@
 use Rattle.vsync_text.specs.Script.{as_written}
 use Rattle.script_runs.specs.Outcomes.{IsRunText}
-use Rattle.endings.proofs.TextsFollow.{ran-text, unrun-text}
+use Rattle.vsync_text.proofs.TextsFollow.{ran-text, unrun-text}
 use Rattle.script_runs.proofs.scripts.run_script.Goals as goal
 
 pub returns-in-Ok : goal.returns-in-Ok

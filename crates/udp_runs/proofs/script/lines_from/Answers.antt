@@ -1,6 +1,6 @@
 use Rattle.std.proofs.Common.{◌∙◌, ap, sym}
 use Rattle.vsync_text.specs.UdpScript.{udp_script_of}
-use Rattle.endings.specs.Outcomes.IsAnswer.{ReaderFails}
+use Rattle.vsync_text.specs.Outcomes.IsAnswer.{ReaderFails}
 use Rattle.udp_runs.proofs.ScriptCommandsEnd.{fault-text, unread-text}
 use Rattle.udp_runs.proofs.script.lines_from.Goals as goal
 use Rattle.vsync_text.proofs.LinesWritten.{appends_nothing}

@@ -5,17 +5,17 @@ use Rattle.std.proofs.lemmas.Bool.{cases_lt}
 use Rattle.std.proofs.lemmas.List.{append-nil, take_all, take-append-le}
 use Rattle.std.proofs.Math.Seq.{take-append-add, take-append_seam}
 use Rattle.std.specs.Io.KnownBytes.{Appends, Keeps}
-use Rattle.endings.specs.declared.status.Status.{Status}
-use Rattle.endings.specs.declared.status.Status.TheVariants.{Done, Memory, Outside}
+use Rattle.vsync_text.specs.declared.status.Status.{Status}
+use Rattle.vsync_text.specs.declared.status.Status.TheVariants.{Done, Memory, Outside}
 use Rattle.vsync_text.specs.declared.script.Script.{Script}
 use Rattle.vsync_text.specs.declared.fault.Fault.{Fault}
 use Rattle.vsync_text.specs.Script.{script_by, fault_number}
-use Rattle.endings.specs.Outcomes.{Ends, IsLinesText, IsFaultText, IsUnreadText, IsScriptText, IsAnswer, Written, ReadsScript, memory_line}
-use Rattle.endings.specs.Outcomes.IsUnreadText.{Faulty, Unread}
-use Rattle.endings.specs.Outcomes.IsScriptText.{Runs, Unrun}
-use Rattle.endings.specs.Outcomes.IsAnswer.{ReaderFails, Answers}
-use Rattle.endings.specs.Outcomes.IsLinesText.{Printed, Unprinted}
-use Rattle.endings.specs.Outcomes.Ends.{Whole, Cut}
+use Rattle.vsync_text.specs.Outcomes.{Ends, IsLinesText, IsFaultText, IsUnreadText, IsScriptText, IsAnswer, Written, ReadsScript, memory_line}
+use Rattle.vsync_text.specs.Outcomes.IsUnreadText.{Faulty, Unread}
+use Rattle.vsync_text.specs.Outcomes.IsScriptText.{Runs, Unrun}
+use Rattle.vsync_text.specs.Outcomes.IsAnswer.{ReaderFails, Answers}
+use Rattle.vsync_text.specs.Outcomes.IsLinesText.{Printed, Unprinted}
+use Rattle.vsync_text.specs.Outcomes.Ends.{Whole, Cut}
 use Rattle.vsync_text.proofs.LinesWritten.{appends_then}
 
 -- what keeps its bytes after a text has taken that text

@@ -1,5 +1,5 @@
 ghost use Rattle.std.specs.Prelude.{◌≡◌};
-ghost use Rattle.endings.specs.Outcomes.{status_code};
+ghost use Rattle.vsync_text.specs.Outcomes.{status_code};
 
 /// How a command ended (docs/CLI.md, "Exit statuses").
 #[derive(Clone, Copy, Debug, PartialEq, Eq)]

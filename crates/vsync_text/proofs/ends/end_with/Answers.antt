@@ -1,6 +1,6 @@
-use Rattle.endings.specs.Outcomes.Ends.{Whole, Cut}
-use Rattle.endings.proofs.TextsFollow.{appends-kept, ends-late}
-use Rattle.endings.proofs.ends.end_with.Goals as goal
+use Rattle.vsync_text.specs.Outcomes.Ends.{Whole, Cut}
+use Rattle.vsync_text.proofs.TextsFollow.{appends-kept, ends-late}
+use Rattle.vsync_text.proofs.ends.end_with.Goals as goal
 
 -- the writer took a beginning and failed
 pub returns-in-Err : goal.returns-in-Err

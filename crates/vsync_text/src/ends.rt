@@ -2,13 +2,12 @@
 
 ghost use Rattle.std.specs.Prelude.{IfOk, IfSome, OnOk, OnErr, ◌≡◌, ℕ, List, take, true};
 ghost use Rattle.std.specs.List.{concat};
-ghost use Rattle.endings.specs.Outcomes.{Ends, Written, IsLinesText, IsFaultText, memory_line};
+ghost use Rattle.vsync_text.specs.Outcomes.{Ends, Written, IsLinesText, IsFaultText, memory_line};
 ghost use Rattle.vsync_text.specs.Script.{fault_number};
 
-use crate::Status;
+use crate::{Fault, Status, put_all};
 use std::alloc::{AllocError, Global};
 use std::io::{ErrorKind, Read, Write};
-use vsync_text::{Fault, put_all};
 
 /// Why an input was not read whole.
 #[derive(Clone, Copy, Debug)]

@@ -1,9 +1,9 @@
 use Rattle.std.proofs.Common.{◌≡◌, ◌∙◌, ap, sym, subst, List, ℕ}
 use Rattle.vsync_text.specs.Script.{fault_number}
-use Rattle.endings.specs.declared.status.Status.TheVariants.{Refused, Memory}
-use Rattle.endings.specs.Outcomes.{IsFaultText, memory_line, fault_line}
-use Rattle.endings.specs.Outcomes.IsFaultText.{Printed, Unprinted}
-use Rattle.endings.proofs.ends.end_in_fault.Goals as goal
+use Rattle.vsync_text.specs.declared.status.Status.TheVariants.{Refused, Memory}
+use Rattle.vsync_text.specs.Outcomes.{IsFaultText, memory_line, fault_line}
+use Rattle.vsync_text.specs.Outcomes.IsFaultText.{Printed, Unprinted}
+use Rattle.vsync_text.proofs.ends.end_in_fault.Goals as goal
 
 pub returns-in-Ok : goal.returns-in-Ok
 returns-in-Ok g c =

@@ -1,5 +1,5 @@
-use Rattle.endings.proofs.TextsFollow.{lines-ended, lines-cut, lines-failed, of-error, of-success}
-use Rattle.endings.proofs.ends.end_with_lines.Goals as goal
+use Rattle.vsync_text.proofs.TextsFollow.{lines-ended, lines-cut, lines-failed, of-error, of-success}
+use Rattle.vsync_text.proofs.ends.end_with_lines.Goals as goal
 
 pub returns-then-is_ok : goal.returns-then-is_ok
 returns-then-is_ok g c = λ lines all some.
