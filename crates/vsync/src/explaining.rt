@@ -9,7 +9,7 @@ ghost use Rattle.trace_props.specs.declared.verdict.Rule.{Rule};
 ghost use Rattle.vsync.specs.Ends.{EndsBy};
 
 use crate::programs::{complain, mistaken};
-use crate::{Topic, topic_of};
+use crate::topic::{Topic, topic_of};
 use std::io::{self, Write};
 use vsync_text::{Status, end_with};
 

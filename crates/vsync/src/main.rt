@@ -26,16 +26,8 @@ mod udp_words;
 mod watched;
 mod words;
 
-pub use check_words::ProcessesWords;
-pub use kept_words::{Kept, KeptFlags};
-pub use member_options::{MOST_MERGE, MOST_TICK, MemberOptions};
 use programs::program;
 use std::process::ExitCode;
-pub use text_words::{Task, TextCommand};
-pub use topic::{Topic, topic_of};
-pub use udp_words::{MemberMistake, MemberWords, UdpWords};
-pub use vsync_text::MemberPlan;
-pub use words::{Invocation, command};
 
 fn main(rt: HostRuntime) -> ExitCode {
     ExitCode::from(program(&rt).code())

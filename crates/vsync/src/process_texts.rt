@@ -5,9 +5,10 @@ ghost use Rattle.commands.specs.Processes.{texts_of};
 ghost use Rattle.vsync.specs.Kept.{flags_keep_two};
 ghost use Rattle.vsync.specs.Ends.{DoesProcesses, EndsBy};
 
+use crate::check_words::ProcessesWords;
+use crate::kept_words::Kept;
 use crate::output::Output;
 use crate::programs::{MAP_AND_LOCKS, bytes_at, bytes_of, complain, mistaken, without_memory};
-use crate::{Kept, ProcessesWords};
 use chat_log::{ChatLog, LongChat};
 use commands::run_check_processes;
 use lock_table::LockTable;

@@ -5,10 +5,12 @@ ghost use Rattle.vsync.specs.Kept.{flags_keep, flags_keep_two};
 ghost use Rattle.vsync.specs.Words.{faults_of};
 
 use crate::explaining::explain_code;
+use crate::kept_words::Kept;
 use crate::output::Output;
 use crate::process_texts::check_processes;
+use crate::text_words::{Task, TextCommand};
 use crate::udp_programs::{member, udp};
-use crate::{Invocation, Kept, Task, TextCommand, command};
+use crate::words::{Invocation, command};
 use application::Application;
 use chat_log::{ChatLog, LongChat};
 use clap::Error;

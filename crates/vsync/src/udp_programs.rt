@@ -8,11 +8,12 @@ ghost use Rattle.vsync.specs.Settings.{EndsWithout, GivesSettings};
 
 use crate::hosts::{PeersError, peers_in};
 use crate::keys::key_of;
+use crate::member_options::MemberOptions;
 use crate::node_runs::{NodeRun, run_from};
 use crate::output::Output;
 use crate::programs::{bytes_at, failed, mistaken, outside, say, without_memory};
 use crate::said::Appended;
-use crate::{MemberOptions, MemberWords, UdpWords};
+use crate::udp_words::{MemberWords, UdpWords};
 use address::{Address, Node};
 use chat_log::ChatLog;
 use std::io::Read;
