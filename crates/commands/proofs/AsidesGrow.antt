@@ -12,7 +12,7 @@ use Rattle.trace_drawing.specs.declared.aside.Aside.{Aside}
 use Rattle.commands.specs.Asides.{put_out_at, asides_between, line_at, HasAsides}
 use Rattle.commands.specs.Asides.HasAsides.{Nothing, Next as OneMore}
 use Rattle.commands.specs.Draws.{TellsRun}
-use Rattle.script_runs.proofs.RunsPrint.{OwnedReport}
+use Rattle.commands.proofs.RunsPrint.{OwnedReport}
 
 -- ASIDES, ONE MORE
 

@@ -1,3 +1,4 @@
+pub mod RunsPrint
 pub mod SettledRuns
 pub mod StateLinesFollow
 pub mod ChecksEnd

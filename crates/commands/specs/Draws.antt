@@ -16,7 +16,7 @@ use Rattle.vsync_text.specs.declared.status.Status.{Status}
 use Rattle.vsync_text.specs.declared.status.Status.TheVariants.{Done, Refused, Memory}
 use Rattle.commands.specs.Asides.{HasAsides}
 use Rattle.vsync_text.specs.Outcomes.{IsAnswer, fault_line}
-use Rattle.script_runs.specs.Outcomes.{Ran}
+use Rattle.commands.specs.Outcomes.{Ran}
 
 -- the texts of what happened: its picture, with what stands beside it, and with a mark where a rule breaks; or nothing, where memory is refused
 pub data IsPictureText (t : List Event) (asides : List Aside) (packets : List (List ℕ)) (verdict : Verdict) : Status → List ℕ → Type 0 where

@@ -1,3 +1,4 @@
+pub mod Outcomes
 pub mod Checks
 pub mod States
 pub mod Packets

@@ -6,7 +6,7 @@ use Rattle.vsync_text.specs.declared.script.Script.{Script}
 use Rattle.vsync_text.specs.declared.status.Status.{Status}
 use Rattle.vsync_text.specs.Script.{as_written}
 use Rattle.vsync_text.specs.Outcomes.{IsScriptText, IsAnswer}
-use Rattle.script_runs.specs.Outcomes.{IsEndText}
+use Rattle.commands.specs.Outcomes.{IsEndText}
 
 -- the texts of the packets that were put out in a script's run, in order
 abbrev pub IsPacketText : {S : Type 0} → Meaning S → Script → Status → List ℕ → Type 0

@@ -11,7 +11,7 @@ use Rattle.vsync_text.specs.declared.script.Script.{Script}
 use Rattle.vsync_text.specs.declared.fault.Fault.{Fault}
 use Rattle.vsync_text.specs.declared.status.Status.{Status}
 use Rattle.vsync_text.specs.Outcomes.{IsScriptText, IsAnswer}
-use Rattle.script_runs.specs.Outcomes.{IsEndText}
+use Rattle.commands.specs.Outcomes.{IsEndText}
 use Rattle.address.specs.declared.limits.TheConstants.{GREATEST_NODE}
 
 -- the line of the member that runs at a node, if one does: it shows the state that the trace says

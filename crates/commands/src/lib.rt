@@ -8,6 +8,7 @@ mod law;
 mod member_texts;
 mod packets;
 mod processes;
+mod scripts;
 mod settles;
 mod states;
 
@@ -16,6 +17,6 @@ pub use draws::{run_draw, run_draw_trace};
 pub use law::{asides_in_order, each_packet_once};
 pub use packets::run_packets;
 pub use processes::run_check_processes;
-pub use script_runs::run_script;
+pub use scripts::run_script;
 pub use settles::settle_script;
 pub use states::run_states;

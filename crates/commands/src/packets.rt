@@ -3,7 +3,7 @@ ghost use Rattle.vsync_text.specs.PacketText.{packet_lines};
 ghost use Rattle.vsync_text.specs.Outcomes.{Written, IsLinesText};
 ghost use Rattle.commands.specs.Packets.{IsPacketText, RunsPackets};
 
-use script_runs::script_from;
+use crate::scripts::script_from;
 use state_transfer::Receiver;
 use std::alloc::Global;
 use std::io::{Read, Write};

@@ -6,8 +6,8 @@ ghost use Rattle.vsync_text.specs.Outcomes.{Written};
 ghost use Rattle.world.specs.Settled.{SettlesAt};
 ghost use Rattle.commands.specs.Settled.{KeepsRules, RunsAndSettles, RunsInPart, padded, IsSettledText, SettlesScript};
 
+use crate::scripts::{print_run, script_from};
 use address::Node;
-use script_runs::{print_run, script_from};
 use state_transfer::Receiver;
 use std::alloc::{AllocError, Global};
 use std::io::{Read, Write};

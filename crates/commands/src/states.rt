@@ -5,9 +5,9 @@ ghost use Rattle.std.specs.List.{concat};
 ghost use Rattle.vsync_text.specs.Outcomes.{Written, IsLinesText};
 ghost use Rattle.commands.specs.States.{state_line_at, state_lines_of, IsStatesText, RunsStates};
 
+use crate::scripts::script_from;
 use address::Node;
 use application::{Application, append_line};
-use script_runs::script_from;
 use std::alloc::{AllocError, Global};
 use std::io::{Read, Write};
 use vsync_text::{Script, Status, end_in_memory, end_with_lines};

@@ -15,7 +15,7 @@ use Rattle.lock_table.specs.Meanings.{table_meaning}
 use Rattle.lock_table.specs.Words.{lock_payload}
 use Rattle.lock_table.specs.TableText.{table_line}
 use Rattle.chat_log.specs.Meanings.{chat_meaning, long_meaning}
-use Rattle.script_runs.specs.Outcomes.{RunsScript}
+use Rattle.commands.specs.Outcomes.{RunsScript}
 use Rattle.commands.specs.States.{RunsStates}
 use Rattle.commands.specs.Packets.{RunsPackets}
 use Rattle.commands.specs.Settled.{SettlesScript}

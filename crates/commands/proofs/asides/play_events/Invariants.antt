@@ -1,7 +1,7 @@
 use Rattle.std.proofs.Common.{take}
 use Rattle.world_step.specs.Worlds.{shown}
 use Rattle.commands.specs.Asides.{HasAsides}
-use Rattle.script_runs.proofs.RunsPrint.{OwnedReport}
+use Rattle.commands.proofs.RunsPrint.{OwnedReport}
 use Rattle.commands.proofs.asides.play_events.Given as goal
 
 -- the events so far are carried out, and what stands beside them is added

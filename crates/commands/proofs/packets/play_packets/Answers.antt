@@ -1,6 +1,6 @@
 use Rattle.world_step.specs.Worlds.{shown}
 use Rattle.vsync_text.specs.PacketText.{packet_lines}
-use Rattle.script_runs.proofs.RunsPrint.{ran-to-end, stopped}
+use Rattle.commands.proofs.RunsPrint.{ran-to-end, stopped}
 use Rattle.commands.proofs.packets.play_packets.Goals as goal
 
 pub returns-in-Ok : goal.returns-in-Ok

@@ -1,6 +1,6 @@
 use Rattle.world_step.specs.Worlds.{shown}
 use Rattle.commands.specs.States.{state_lines_of}
-use Rattle.script_runs.proofs.RunsPrint.{ran-to-end, stopped}
+use Rattle.commands.proofs.RunsPrint.{ran-to-end, stopped}
 use Rattle.commands.proofs.states.play_states.Goals as goal
 
 pub returns-in-Ok : goal.returns-in-Ok

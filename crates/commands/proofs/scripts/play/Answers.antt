@@ -1,6 +1,6 @@
 use Rattle.world_step.specs.Worlds.{shown}
-use Rattle.script_runs.proofs.RunsPrint.{played}
-use Rattle.script_runs.proofs.scripts.play.Goals as goal
+use Rattle.commands.proofs.RunsPrint.{played}
+use Rattle.commands.proofs.scripts.play.Goals as goal
 
 pub returns : goal.returns
 returns g c =

@@ -1,7 +1,7 @@
 use Rattle.std.proofs.Common.{◌∙◌}
 use Rattle.vsync_text.proofs.TextsFollow.{prints-failed, prints-some, prints-part, prints-all}
-use Rattle.script_runs.proofs.RunsPrint.{printed-as}
-use Rattle.script_runs.proofs.scripts.print_run.Goals as goal
+use Rattle.commands.proofs.RunsPrint.{printed-as}
+use Rattle.commands.proofs.scripts.print_run.Goals as goal
 
 pub returns-in-Failed : goal.returns-in-Failed
 returns-in-Failed g c =

@@ -1,7 +1,7 @@
 use Rattle.vsync_text.specs.Script.{as_written}
-use Rattle.script_runs.specs.Outcomes.{IsRunText}
+use Rattle.commands.specs.Outcomes.{IsRunText}
 use Rattle.vsync_text.proofs.TextsFollow.{ran-text, unrun-text}
-use Rattle.script_runs.proofs.scripts.run_script.Goals as goal
+use Rattle.commands.proofs.scripts.run_script.Goals as goal
 
 pub returns-in-Ok : goal.returns-in-Ok
 returns-in-Ok g c = ran-text as_written (IsRunText g.R.Receiver.meaning) _ _ _ _ c.in-Ok.script _ c.in-Ok.ensures c.play.ensures

@@ -2,7 +2,7 @@ use Rattle.std.proofs.Common.{◌∙◌, ap, sym}
 use Rattle.vsync_text.specs.Script.{script_by}
 use Rattle.vsync_text.specs.Outcomes.IsAnswer.{ReaderFails}
 use Rattle.vsync_text.proofs.TextsFollow.{unread-text, fault-text}
-use Rattle.script_runs.proofs.scripts.script_from.Goals as goal
+use Rattle.commands.proofs.scripts.script_from.Goals as goal
 use Rattle.vsync_text.proofs.LinesWritten.{appends_nothing}
 
 pub returns-in-Err-Memory : goal.returns-in-Err-Memory

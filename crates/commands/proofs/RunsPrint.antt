@@ -15,10 +15,10 @@ use Rattle.vsync_text.specs.Runs.{lines_of_run}
 use Rattle.vsync_text.specs.declared.status.Status.{Status}
 use Rattle.vsync_text.specs.declared.status.Status.TheVariants.{Memory}
 use Rattle.vsync_text.specs.Outcomes.{Ends, IsLinesText, Written, memory_line}
-use Rattle.script_runs.specs.Outcomes.{Ran, IsRunText, IsEndText}
+use Rattle.commands.specs.Outcomes.{Ran, IsRunText, IsEndText}
 use Rattle.vsync_text.specs.Outcomes.IsLinesText.{Printed, Unprinted}
-use Rattle.script_runs.specs.Outcomes.IsRunText.{All, Part}
-use Rattle.script_runs.specs.Outcomes.IsEndText.{All as AllLines, Part as PartOfLines, Stopped}
+use Rattle.commands.specs.Outcomes.IsRunText.{All, Part}
+use Rattle.commands.specs.Outcomes.IsEndText.{All as AllLines, Part as PartOfLines, Stopped}
 use Rattle.vsync_text.proofs.TextsFollow.{written-as}
 
 -- an answer that is no error

@@ -1,6 +1,8 @@
+//! A script is read, run in a world, and what happened is written.
+
 ghost use Rattle.vsync_text.specs.Runs.{lines_of_run};
 ghost use Rattle.vsync_text.specs.Outcomes.{Written, IsLinesText, ReadsScript};
-ghost use Rattle.script_runs.specs.Outcomes.{IsRunText, RunsScript};
+ghost use Rattle.commands.specs.Outcomes.{IsRunText, RunsScript};
 
 use state_transfer::Receiver;
 use std::alloc::Global;
@@ -12,7 +14,7 @@ use vsync_text::{
 use world::World;
 
 /// Reads a script, its texts as payloads of `P`; or ends the command, where it is none or is not read.
-pub fn script_from<P: Payloads, I: Read, W: Write>(
+pub(crate) fn script_from<P: Payloads, I: Read, W: Write>(
     alloc: Global,
     reader: &mut I,
     writer: &mut W,
@@ -33,7 +35,7 @@ pub fn script_from<P: Payloads, I: Read, W: Write>(
 
 /// Writes what happened in a world that ran events of these lines (docs/FORMATS.md): all of it, or with `# memory` at its end where
 /// the world could not run them all.
-pub fn print_run<R: Receiver, W: Write>(
+pub(crate) fn print_run<R: Receiver, W: Write>(
     alloc: Global,
     world: &World<R>,
     ran: bool,
