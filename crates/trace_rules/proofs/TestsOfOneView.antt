@@ -15,12 +15,11 @@ use Rattle.view.specs.Members.{stands_in}
 use Rattle.trace_props.specs.declared.event.Event.{Event}
 use Rattle.trace_props.specs.declared.event.Event.TheVariants.{Started, Sent, Delivered, Blocked, Installed}
 use Rattle.trace_props.specs.declared.event.Numbered.{Numbered}
-use Rattle.trace_props.specs.declared.event.Message.{Message}
 use Rattle.trace_props.specs.declared.event.Install.{Install}
 use Rattle.trace_props.specs.declared.event.Delivery.{Delivery}
 use Rattle.trace_props.specs.Observed.{member_of, has_started, has_ended, current_view, is_blocked, delivered_in, sent_in, own, numbered, first_install}
 use Rattle.trace_props.specs.Rules.{IsRunning, MayStand, IsBelow}
-use Rattle.trace_props.specs.Following.{MayRise, MayCarry, MayOrder}
+use Rattle.trace_props.specs.Following.{MayRise, MayCarry}
 use Rattle.trace_props.specs.Agreeing.{is_view}
 use Rattle.trace_rules.specs.Known.{standing_of}
 use Rattle.trace_rules.specs.Judged.{runs, stands, same_previous, is_below, has_members, rises, is_numbered, is_message}
@@ -123,30 +122,6 @@ pub deliver-decides : (t : List Event) (d : Delivery)
 deliver-decides t d = Decides-and _ _ (Decides-eqb _ _) (numbered-decides _ (numbered d.message))
 
 -- ONE ORDER
-
-message-same : (n m : Message) → n.sender ≡ m.sender → n.number ≡ m.number → n.payload ≡ m.payload → n ≡ m
-message-same n m a b c =
-    ap {B = Message} (λ (x : Address). record { sender = x; number = n.number; payload = n.payload }) a
-    ∙ ap {B = Message} (λ (x : ℕ). record { sender = m.sender; number = x; payload = n.payload }) b
-    ∙ ap {B = Message} (λ (x : List ℕ). record { sender = m.sender; number = m.number; payload = x }) c
-
-message-decides : (o : Option Message) (m : Message) → Decides (is_message o m) (o ≡ Some m)
-message-decides None m = ((λ e. absurd (true≢false (sym e))), (λ e. absurd (none-some m e)))
-message-decides (Some n) m =
-    same-decides (same_address n.sender m.sender && nat_eq n.number m.number && bytes_eq n.payload m.payload)
-    (and3-decides (same_address n.sender m.sender) (nat_eq n.number m.number) (bytes_eq n.payload m.payload) (same_address-decides n.sender m.sender) (Decides-eqb n.number m.number) (bytes_eq-Decides n.payload m.payload))
-    (λ x. ap Some (message-same n m x.0 x.1 x.2))
-    (λ e. let same = same_Some n m e in (ap (λ y. y.sender) same, ap (λ y. y.number) same, ap (λ y. y.payload) same))
-
--- a test that is asked where another fails
-else-decides : {P : Type 0} (a b : Bool) → Decides b P → Decides (a || b) (a ≡ false → P)
-else-decides true b p = ((λ e f. absurd (true≢false f)), (λ x. refl))
-else-decides false b p = ((λ e f. p.0 e), (λ x. p.1 (x refl)))
-
--- the test decides whether a message keeps the order
-pub order-decides : (t : List Event) (d : Delivery)
-    → Decides (same_address d.member d.view.creator || is_message (slice_get (delivered_in d.view.creator d.view t) (length (delivered_in d.member d.view t))) d.message) (MayOrder t (Delivered d))
-order-decides t d = else-decides _ _ (message-decides _ d.message)
 
 -- where the member is not the first one, the test asks what that one delivered
 pub order-else : (t : List Event) (d : Delivery) (a : Address) (e r : Bool) → a ≡ d.view.creator → e ≡ same_address d.member a → e ≡ false

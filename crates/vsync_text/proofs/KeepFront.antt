@@ -3,7 +3,6 @@ use Rattle.std.proofs.Common.{◌≡◌, ℕ, ◌+◌, ◌≤◌, ◌<◌, List,
 use Rattle.std.proofs.Math.Seq.{take-length, take-suc, take-append_seam, take-take}
 use Rattle.std.specs.Prelude.{flat_map}
 use Rattle.std.specs.List.{join_by}
-use Rattle.std.proofs.lemmas.List.{take_all}
 use Rattle.std.proofs.lemmas.Grind.{flat_map-append}
 use Rattle.vsync_text.specs.TraceText.{GoesOnFrom}
 
@@ -60,9 +59,6 @@ pub record Joined {X : Type 0} (f : X → List ℕ) (first : ℕ) (old new : Lis
   pub text : new ≡ old ++ marked f first (take i xs)
   pub kept : GoesOnFrom old new
 
-pub none_joined : {X : Type 0} (f : X → List ℕ) (first : ℕ) (old : List ℕ) (xs : List X) → Joined f first old old xs 0 first
-none_joined f first old xs = record { next = refl; text = sym (append-nil old); kept = stays old }
-
 marked_next : {X : Type 0} (f : X → List ℕ) (first : ℕ) (xs : List X) (i : ℕ) (x d : X) → x ≡ get_or xs i d → i < length xs
     → marked f first (take (i + 1) xs) ≡ marked f first (take i xs) ++ mark_at first i ∷ f x
 marked_next f first [] i x d at inside = absurd (omega (arith, inside))
@@ -78,8 +74,3 @@ one_joined f first a b c xs i mark x d at inside j more kept = record {
   text = more ∙ ap (λ m. b ++ m ∷ f x) j.next ∙ ap (λ t. t ++ mark_at first i ∷ f x) j.text ∙ append_assoc a _ _ ∙ ap (λ t. a ++ t) (sym (marked_next f first xs i x d at inside));
   kept = goes_on a b c j.kept kept;
 }
-
-pub all_joined : {X : Type 0} (f : X → List ℕ) (first : ℕ) (a b : List ℕ) (xs : List X) (i mark : ℕ) → 0 < length xs → length xs ≤ i
-    → Joined f first a b xs i mark → b ≡ a ++ first ∷ join_by f (44 ∷ []) xs
-all_joined f first a b [] i mark some all j = absurd (omega (arith, some))
-all_joined f first a b (x ∷ xs) i mark some all j = j.text ∙ ap (λ ys. a ++ marked f first ys) (take_all i (x ∷ xs) all)
