@@ -4,8 +4,8 @@ use Rattle.std.proofs.lemmas.List.{take_more, same_from_push}
 use Rattle.std.specs.List.{cons_option}
 use Rattle.state_transfer.specs.Meanings.{Meaning}
 use Rattle.world_model.specs.declared.WorldEvent.{WorldEvent}
-use Rattle.world_step.specs.Worlds.{WorldModel, no_world, WorldStep, Runs}
-use Rattle.world_step.specs.Worlds.Runs.{Still, Next}
+use Rattle.world.specs.Worlds.{WorldModel, no_world, WorldStep, Runs}
+use Rattle.world.specs.Worlds.Runs.{Still, Next}
 use Rattle.vsync_text.specs.declared.script.Script.{Script}
 use Rattle.trace_props.specs.declared.verdict.Verdict.TheVariants.{Holds}
 use Rattle.trace_drawing.specs.declared.aside.Aside.{Aside}

@@ -18,9 +18,9 @@ use Rattle.world_model.specs.declared.Answer.TheVariants.{Done, Sent, Refused as
 use Rattle.world_model.specs.declared.Reply.{Reply}
 use Rattle.world_model.specs.Histories.{History, after, target_of}
 use Rattle.world_model.specs.Packets.{destination_of, packet_numbered, recipient}
-use Rattle.world_step.specs.declared.node_state.NodeState.{NodeState}
-use Rattle.world_step.specs.Turns.{About, about, Carries, Delivers, HandsOver}
-use Rattle.world_step.specs.Worlds.{WorldModel}
+use Rattle.world.specs.declared.node_state.NodeState.{NodeState}
+use Rattle.world.specs.Turns.{About, about, Carries, Delivers, HandsOver}
+use Rattle.world.specs.Worlds.{WorldModel}
 use Rattle.trace_drawing.specs.declared.aside.Aside.{Aside}
 use Rattle.trace_drawing.specs.declared.aside.AsideKind.TheVariants.{HandedOver}
 use Rattle.trace_drawing.specs.Promises.{AreInOrder}

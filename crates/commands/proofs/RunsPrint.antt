@@ -7,7 +7,7 @@ use Rattle.law_processes.specs.Replicas.{ReplicasAgree}
 use Rattle.trace_props.specs.declared.event.Event.{Event}
 use Rattle.world_model.specs.declared.WorldEvent.{WorldEvent}
 use Rattle.world_model.specs.declared.Reply.{Reply}
-use Rattle.world_step.specs.Worlds.{WorldModel, no_world, Runs as WorldRuns}
+use Rattle.world.specs.Worlds.{WorldModel, no_world, Runs as WorldRuns}
 use Rattle.world_model.specs.Faithful.{IsFaithful}
 use Rattle.world_model.specs.Histories.{History}
 use Rattle.vsync_text.specs.declared.script.Script.{Script}

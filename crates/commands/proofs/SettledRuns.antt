@@ -6,7 +6,7 @@ use Rattle.trace_props.specs.Places.{IsBeginningOf}
 use Rattle.trace_props.proofs.RulesAlongLists.{IsBeginningOf-same, IsBeginningOf-grow}
 use Rattle.world_model.specs.declared.WorldEvent.{WorldEvent}
 use Rattle.world_model.specs.Histories.{History}
-use Rattle.world_step.specs.Worlds.{WorldModel, no_world, IsLonger}
+use Rattle.world.specs.Worlds.{WorldModel, no_world, IsLonger}
 use Rattle.vsync_text.specs.declared.script.Script.{Script}
 use Rattle.vsync_text.specs.Runs.{lines_of_run}
 use Rattle.vsync_text.specs.declared.status.Status.{Status}

@@ -14,7 +14,7 @@ use Rattle.world_model.specs.declared.Answer.TheVariants.{Done, Sent, Refused as
 use Rattle.world_model.specs.declared.Reply.{Reply}
 use Rattle.world_model.specs.Histories.{History, target_of}
 use Rattle.world_model.specs.Packets.{destination_of, packet_numbered, recipient}
-use Rattle.world_step.specs.Worlds.{WorldModel, no_world, WorldStep}
+use Rattle.world.specs.Worlds.{WorldModel, no_world, WorldStep}
 use Rattle.trace_drawing.specs.declared.aside.Aside.{Aside}
 use Rattle.trace_drawing.specs.declared.aside.AsideKind.{AsideKind}
 use Rattle.trace_drawing.specs.declared.aside.AsideKind.TheVariants.{Refused, PutOut, HandedOver}

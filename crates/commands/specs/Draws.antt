@@ -11,7 +11,7 @@ use Rattle.vsync_text.specs.declared.script.Script.{Script}
 use Rattle.vsync_text.specs.declared.fault.Fault.{Fault}
 use Rattle.vsync_text.specs.Script.{script_of, fault_number}
 use Rattle.vsync_text.specs.Traces.{trace_of}
-use Rattle.world_step.specs.Worlds.{WorldModel}
+use Rattle.world.specs.Worlds.{WorldModel}
 use Rattle.vsync_text.specs.declared.status.Status.{Status}
 use Rattle.vsync_text.specs.declared.status.Status.TheVariants.{Done, Refused, Memory}
 use Rattle.commands.specs.Asides.{HasAsides}

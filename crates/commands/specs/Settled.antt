@@ -7,7 +7,7 @@ use Rattle.trace_props.specs.Synchrony.{IsWellOrdered, IsVirtuallySynchronous}
 use Rattle.law_processes.specs.Replicas.{ReplicasAgree}
 use Rattle.world_model.specs.Faithful.{IsFaithful}
 use Rattle.world_model.specs.declared.WorldEvent.{WorldEvent}
-use Rattle.world_step.specs.Worlds.{WorldModel, no_world, IsLonger, Runs as WorldRuns}
+use Rattle.world.specs.Worlds.{WorldModel, no_world, IsLonger, Runs as WorldRuns}
 use Rattle.world.specs.Settled.{SettlesAt}
 use Rattle.vsync_text.specs.declared.script.Script.{Script}
 use Rattle.vsync_text.specs.Script.{as_written}

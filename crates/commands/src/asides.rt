@@ -8,7 +8,7 @@ ghost use Rattle.trace_props.specs.Synchrony.{IsWellOrdered, IsVirtuallySynchron
 ghost use Rattle.law_processes.specs.Replicas.{ReplicasAgree};
 ghost use Rattle.world_model.specs.Faithful.{IsFaithful};
 ghost use Rattle.world_model.specs.Packets.{destination_of};
-ghost use Rattle.world_step.specs.Worlds.{shown, no_world, WorldStep};
+ghost use Rattle.world.specs.Worlds.{shown, no_world, WorldStep};
 ghost use Rattle.commands.specs.Asides.{aside_at, refused_by, refused_at, refused_of, destination_in, site_of, handed_over, put_out, put_out_behind, put_out_at, refused_between, put_out_between, asides_between, line_at, HasAsides};
 
 use address::limits::Refusal;

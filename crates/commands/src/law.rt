@@ -3,7 +3,7 @@
 ghost use Rattle.std.specs.Prelude.{◌≡◌, ℕ, Bool, true, List, length};
 ghost use Rattle.std.specs.List.{filter_map, range_with_len};
 ghost use Rattle.world_model.specs.declared.WorldEvent.{WorldEvent};
-ghost use Rattle.world_step.specs.Worlds.{WorldModel};
+ghost use Rattle.world.specs.Worlds.{WorldModel};
 ghost use Rattle.trace_drawing.specs.declared.aside.Aside.{Aside};
 ghost use Rattle.trace_drawing.specs.Promises.{AreInOrder};
 ghost use Rattle.commands.specs.Asides.{put_out_number, HasAsides};

@@ -1,7 +1,7 @@
 //! A script's run after which the changes of view complete that can.
 
 ghost use Rattle.std.specs.Prelude.{◌≡◌, ◌≤◌, length, IfOk, OnOk, OnErr};
-ghost use Rattle.world_step.specs.Worlds.{shown, IsLonger};
+ghost use Rattle.world.specs.Worlds.{shown, IsLonger};
 ghost use Rattle.vsync_text.specs.Outcomes.{Written};
 ghost use Rattle.world.specs.Settled.{SettlesAt};
 ghost use Rattle.commands.specs.Settled.{KeepsRules, RunsAndSettles, RunsInPart, padded, IsSettledText, SettlesScript};

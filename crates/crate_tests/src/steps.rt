@@ -7,8 +7,8 @@ use address::{Address, Node};
 use std::alloc::{AllocError, Global};
 use std::collections::BTreeMap;
 use trace_props::Trace;
+use world::{NodeState, Pool, carry};
 use world_model::{Answer, WorldEvent};
-use world_step::{NodeState, Pool, carry};
 
 /// What stands at the nodes, what happened and what was put out.
 #[derive(Drop)]

@@ -8,6 +8,7 @@ use Rattle.address.specs.Ids.{Address, ViewId, same_address, same_view_id}
 use Rattle.view.specs.Members.{View, stands_in}
 use Rattle.wire_values.specs.Values.{Report}
 use Rattle.wire_values.specs.declared.packet.Body.TheVariants as bodies
+use Rattle.wire_values.specs.Posted.{Posted, packet}
 use Rattle.state_transfer.specs.Meanings.{Meaning}
 use Rattle.flush.specs.Cuts.{first_of}
 use Rattle.flush.specs.Flushes.{FlushModel}
@@ -15,9 +16,9 @@ use Rattle.flush.proofs.Covers.{first-stands}
 use Rattle.trace_props.specs.Rules.{IsBelow}
 use Rattle.address.proofs.SameIds.{same_address-refl, same_address-true, same_address-from, same_view_id-refl, same_view_id-true}
 use Rattle.trace_props.proofs.InstallsOfRisingViews.{IsBelow-irreflexive}
-use Rattle.law_acts.specs.Histories.{Posted, History, flush_in, install_in, report_by, flush_of, report_of}
+use Rattle.law_acts.specs.Histories.{History, flush_in, install_in, report_by, flush_of, report_of}
 use Rattle.law_acts.specs.Cores.{Core, report_with}
-use Rattle.law_acts.specs.Acts.{IsAbovePromise, MayBegin, packet, others_of, promised, begun, blocking}
+use Rattle.law_acts.specs.Acts.{IsAbovePromise, MayBegin, others_of, promised, begun, blocking}
 use Rattle.law_acts.specs.Steps.{System, put, grown}
 use Rattle.law_acts.specs.Packets.{PacketFact}
 use Rattle.law_acts.specs.Members.{LiesBelow, IsNotPast, IsRecorded, RunsFlush, MemberFact}

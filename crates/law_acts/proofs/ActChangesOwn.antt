@@ -12,6 +12,7 @@ use Rattle.address.specs.declared.limits.TheConstants.{WINDOW}
 use Rattle.wire_values.specs.Values.{Entry, held_at, Report}
 use Rattle.wire_values.specs.Values as wire
 use Rattle.wire_values.specs.declared.packet.Body.TheVariants as bodies
+use Rattle.wire_values.specs.Posted.{Posted, packet}
 use Rattle.state_transfer.specs.Meanings.{Meaning}
 use Rattle.flush.specs.Flushes.{FlushModel}
 use Rattle.trace_props.specs.declared.event.Event.{Event}
@@ -20,9 +21,9 @@ use Rattle.trace_props.specs.declared.event.Numbered.{Numbered}
 use Rattle.trace_props.specs.Observed.{delivered_in, sent_in, own, entry_of}
 use Rattle.address.proofs.SameIds.{same_address-true}
 use Rattle.law_acts.specs.Words.{Tally, members_of, open_count}
-use Rattle.law_acts.specs.Histories.{Posted, History, report_of}
+use Rattle.law_acts.specs.Histories.{History, report_of}
 use Rattle.law_acts.specs.Cores.{ViewCore, Core}
-use Rattle.law_acts.specs.Acts.{IsStable, All, Ordered, Announced, IsOpenIn, MayQueue, MayTakeAck, MayCollect, MayHold, MayRecord, HoldsMore, HoldsAbove, heard, with_view_core, packet}
+use Rattle.law_acts.specs.Acts.{IsStable, All, Ordered, Announced, IsOpenIn, MayQueue, MayTakeAck, MayCollect, MayHold, MayRecord, HoldsMore, HoldsAbove, heard, with_view_core}
 use Rattle.law_acts.specs.Steps.{came_of}
 use Rattle.law_acts.specs.Packets.{IsOrdered, IsSent, AllHave, HoldsOrder}
 use Rattle.law_acts.specs.Members.{installed_as, HasAcks, IsRecorded, RunsFlush, ViewFact, MemberFact}

@@ -10,6 +10,7 @@ use Rattle.view.specs.Members.{View}
 use Rattle.wire_values.specs.Values.{Entry, Report}
 use Rattle.wire_values.specs.Values as wire
 use Rattle.wire_values.specs.declared.packet.Body.TheVariants as bodies
+use Rattle.wire_values.specs.Posted.{Posted}
 use Rattle.state_transfer.specs.Meanings.{Meaning}
 use Rattle.trace_props.specs.declared.event.Event.{Event}
 use Rattle.trace_props.specs.declared.event.Event.TheVariants.{Installed}
@@ -18,7 +19,7 @@ use Rattle.trace_props.specs.Observed.{delivered_in, sent_in, own}
 use Rattle.trace_props.specs.Rules.{IsBelow}
 use Rattle.trace_props.specs.State.{entry_state}
 use Rattle.law_acts.specs.Words.{list_of}
-use Rattle.law_acts.specs.Histories.{Posted, History, flush_of, report_of}
+use Rattle.law_acts.specs.Histories.{History, flush_of, report_of}
 use Rattle.law_acts.specs.Cores.{Core, id_of, report_with, left_of, applied}
 use Rattle.law_acts.specs.Acts.{Enters, MayEnter, gone_into, undelivered, delivered_at, state_into, deliveries}
 use Rattle.law_acts.specs.Steps.{System, put, came_of, acted}

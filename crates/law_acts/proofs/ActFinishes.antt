@@ -11,6 +11,7 @@ use Rattle.wire_values.specs.Values.{Entry, Report}
 use Rattle.wire_values.specs.Values as wire
 use Rattle.wire_values.specs.declared.values.state.GivenState.{GivenState}
 use Rattle.wire_values.specs.declared.values.state.GivenState.TheVariants as forms
+use Rattle.wire_values.specs.Posted.{Posted}
 use Rattle.state_transfer.specs.Meanings.{Meaning}
 use Rattle.flush.specs.Flushes.{FlushModel, report_from}
 use Rattle.trace_props.specs.declared.event.Event.{Event}
@@ -20,7 +21,7 @@ use Rattle.trace_props.specs.Observed.{entry_of}
 use Rattle.trace_props.specs.State.{entry_state}
 use Rattle.address.proofs.SameIds.{same_view_id-true}
 use Rattle.law_acts.specs.Words.{list_of}
-use Rattle.law_acts.specs.Histories.{Posted, History, install_of}
+use Rattle.law_acts.specs.Histories.{History, install_of}
 use Rattle.law_acts.specs.Cores.{Core, id_of, report_with, applied}
 use Rattle.law_acts.specs.Given.{Tells, kept_bytes}
 use Rattle.law_acts.specs.Acts.{Cuts, Finishes, MayFinish, proposed, others_of, instruction_for, all_come_from, state_after_cut, gone_into, deliveries}

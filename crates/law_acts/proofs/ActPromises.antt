@@ -8,14 +8,15 @@ use Rattle.address.specs.Ids.{Address, ViewId, same_address, same_view_id}
 use Rattle.view.specs.Members.{View, stands_in}
 use Rattle.wire_values.specs.Values.{Report}
 use Rattle.wire_values.specs.declared.packet.Body.TheVariants as bodies
+use Rattle.wire_values.specs.Posted.{Posted, packet}
 use Rattle.state_transfer.specs.Meanings.{Meaning}
 use Rattle.trace_props.specs.declared.event.Event.{Event}
 use Rattle.trace_props.specs.Rules.{IsBelow}
 use Rattle.address.proofs.SameIds.{same_address-refl, same_address-sym, same_view_id-refl, same_view_id-true}
 use Rattle.trace_props.proofs.InstallsOfRisingViews.{IsBelow-irreflexive}
-use Rattle.law_acts.specs.Histories.{Posted, History, flush_in, install_in, report_by, flush_of, report_of}
+use Rattle.law_acts.specs.Histories.{History, flush_in, install_in, report_by, flush_of, report_of}
 use Rattle.law_acts.specs.Cores.{Core, ViewCore, id_of, report_with}
-use Rattle.law_acts.specs.Acts.{IsAbovePromise, IsPromised, MayPromise, packet, promised, blocking}
+use Rattle.law_acts.specs.Acts.{IsAbovePromise, IsPromised, MayPromise, promised, blocking}
 use Rattle.law_acts.specs.Steps.{System, put, grown, came_of}
 use Rattle.law_acts.specs.Packets.{PacketFact, IsAnswer, IsProposal}
 use Rattle.law_acts.specs.Members.{LiesBelow, IsNotPast, IsReported, PromiseOf, MemberFact}

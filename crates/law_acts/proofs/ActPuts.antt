@@ -8,14 +8,15 @@ use Rattle.wire_values.specs.Values.{Entry, Report}
 use Rattle.wire_values.specs.Values as wire
 use Rattle.wire_values.specs.declared.packet.Body.{Body}
 use Rattle.wire_values.specs.declared.packet.Body.TheVariants as bodies
+use Rattle.wire_values.specs.Posted.{Posted, packet}
 use Rattle.state_transfer.specs.Meanings.{Meaning}
 use Rattle.flush.specs.Cuts.{first_of}
 use Rattle.trace_props.specs.Observed.{has_started}
 use Rattle.address.proofs.SameIds.{same_address-true}
 use Rattle.law_acts.specs.Words.{Tally, open_count}
-use Rattle.law_acts.specs.Histories.{Posted, History, flush_in, report_by, install_to, flush_of, report_of, install_of}
+use Rattle.law_acts.specs.Histories.{History, flush_in, report_by, install_to, flush_of, report_of, install_of}
 use Rattle.law_acts.specs.Cores.{Core, id_of}
-use Rattle.law_acts.specs.Acts.{Describes, packet}
+use Rattle.law_acts.specs.Acts.{Describes}
 use Rattle.law_acts.specs.Packets.{IsSent, IsProposal, IsAnswer, IsInstruction, IsOrder, IsStatus, BodyFact, PacketFact}
 use Rattle.law_acts.specs.Members.{MemberFact}
 use Rattle.law_acts.specs.Steps.{System, put, grown}

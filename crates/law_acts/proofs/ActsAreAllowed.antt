@@ -19,11 +19,11 @@ use Rattle.view_install.specs.Promises.{answer_past, may_install}
 use Rattle.view_install.proofs.ViewsRise.{only-the-promised}
 use Rattle.view_install.specs.declared.promise.OfferAnswer.TheVariants.{Accept}
 use Rattle.address.proofs.SameIds.{same_address-true}
-use Rattle.law_acts.specs.Acts.{Promises, Begins, Records, Gathers, Finishes, Enters, IsForNewcomer, packet, others_of, proposed, gone_into, after, packets_of, events_of, instruction_for, instructions, instructing_one, chunk_packets, state_after_cut, all_come_from}
-use Rattle.law_acts.specs.Histories.{Posted}
+use Rattle.law_acts.specs.Acts.{Promises, Begins, Records, Gathers, Finishes, Enters, IsForNewcomer, others_of, proposed, gone_into, after, packets_of, events_of, instruction_for, instructions, instructing_one, chunk_packets, state_after_cut, all_come_from}
 use Rattle.law_acts.specs.Given.{IsGiven, Tells, kept_bytes}
 use Rattle.wire_values.specs.declared.values.state.GivenState.{GivenState}
 use Rattle.wire_values.specs.declared.values.state.GivenState.TheVariants as forms
+use Rattle.wire_values.specs.Posted.{Posted, packet}
 use Rattle.address.specs.declared.limits.TheConstants.{WHOLE_STATE}
 use Rattle.law_acts.specs.Chains.{Acted}
 use Rattle.law_acts.proofs.LawsOfActs.{one-acted}

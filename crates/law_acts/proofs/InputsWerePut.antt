@@ -6,9 +6,9 @@ use Rattle.std.proofs.lemmas.Bool.{and_parts, not-true}
 use Rattle.std.proofs.lemmas.Option.{none-some, cond_some}
 use Rattle.address.specs.Ids.{Address, same_address}
 use Rattle.wire_values.specs.declared.packet.Body.{Body}
-use Rattle.law_acts.specs.Histories.{Posted, History}
+use Rattle.wire_values.specs.Posted.{Posted, packet}
+use Rattle.law_acts.specs.Histories.{History}
 use Rattle.law_acts.specs.Cores.{Core}
-use Rattle.law_acts.specs.Acts.{packet}
 use Rattle.law_acts.specs.Acts.{handed}
 use Rattle.law_acts.specs.Steps.{came_of}
 use Rattle.law_acts.specs.Packets.{BodyFact}

@@ -13,13 +13,14 @@ use Rattle.wire_values.specs.Values as wire
 use Rattle.wire_values.specs.declared.values.state.GivenState.{GivenState}
 use Rattle.wire_values.specs.declared.values.state.GivenState.TheVariants as forms
 use Rattle.wire_values.specs.declared.packet.Body.TheVariants as bodies
+use Rattle.wire_values.specs.Posted.{Posted, packet}
 use Rattle.flush.specs.Cuts.{first_of}
 use Rattle.address.proofs.Plain.{option_or-none}
 use Rattle.address.proofs.SameIds.{same_address-refl, same_address-true, same_address-sym, same_view_id-from}
-use Rattle.law_acts.specs.Histories.{Posted, flush_in, report_by, install_to, flush_of, report_of, install_of}
+use Rattle.law_acts.specs.Histories.{flush_in, report_by, install_to, flush_of, report_of, install_of}
 use Rattle.law_acts.specs.Cores.{install_sent_to}
 use Rattle.law_acts.specs.Given.{chunk_at}
-use Rattle.law_acts.specs.Acts.{packet, others_of, chunk_packets, instructing_one}
+use Rattle.law_acts.specs.Acts.{others_of, chunk_packets, instructing_one}
 use Rattle.law_acts.proofs.Lists.{first_of-append, first_of-none, first_of-still, slice_get-split, slice_get-one}
 use Rattle.law_acts.proofs.ActBegins.{or-cases}
 use Rattle.law_acts.proofs.EntrantsMeet.{filter-passes}

@@ -10,7 +10,8 @@ use Rattle.state_transfer.specs.Meanings.{Meaning}
 use Rattle.trace_props.specs.declared.event.Event.{Event}
 use Rattle.address.proofs.SameIds.{same_address-true}
 use Rattle.trace_props.proofs.RulesAlongLists.{slice_get-before}
-use Rattle.law_acts.specs.Histories.{Posted, History}
+use Rattle.wire_values.specs.Posted.{Posted}
+use Rattle.law_acts.specs.Histories.{History}
 use Rattle.law_acts.specs.Cores.{Core}
 use Rattle.law_acts.specs.Acts.{Act, Creates, Joins, Puts, Sends, Queues, Orders, TakesAck, Collects, Holds, Delivers, Promises, Begins, Records, Gathers, Finishes, Enters, Leaves, Allowed, after, packets_of, events_of}
 use Rattle.law_acts.specs.Acts.{handed}

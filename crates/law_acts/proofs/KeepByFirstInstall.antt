@@ -8,6 +8,7 @@ use Rattle.std.proofs.lemmas.List.{append-nil}
 use Rattle.address.specs.Ids.{Address, ViewId, same_address, same_view_id}
 use Rattle.view.specs.Members.{stands_in}
 use Rattle.wire_values.specs.Values as wire
+use Rattle.wire_values.specs.Posted.{Posted}
 use Rattle.state_transfer.specs.Meanings.{Meaning}
 use Rattle.trace_props.specs.declared.event.Event.{Event}
 use Rattle.trace_props.specs.declared.event.Event.TheVariants.{Installed}
@@ -17,7 +18,7 @@ use Rattle.trace_props.specs.Rules.{IsRunning, HasRisingViews}
 use Rattle.trace_props.specs.State.{state_of, entry_state}
 use Rattle.address.proofs.SameIds.{same_address-from, same_view_id-true}
 use Rattle.trace_props.proofs.DeliveredGrow.{enters, register-push}
-use Rattle.law_acts.specs.Histories.{Posted, History, install_of, goes_from, goes_with}
+use Rattle.law_acts.specs.Histories.{History, install_of, goes_from, goes_with}
 use Rattle.law_acts.specs.Cores.{Core}
 use Rattle.law_acts.specs.Acts.{gone_into}
 use Rattle.law_acts.specs.Steps.{System, put}

@@ -4,13 +4,14 @@ use Rattle.std.specs.Prelude.{slice_get}
 use Rattle.std.specs.Option.{option_map, option_eq}
 use Rattle.address.specs.Ids.{Address, ViewId, same_address, same_view_id}
 use Rattle.wire_values.specs.Values as wire
+use Rattle.wire_values.specs.Posted.{Posted}
 use Rattle.state_transfer.specs.Meanings.{Meaning}
 use Rattle.trace_props.specs.declared.event.Install.{Install}
 use Rattle.trace_props.specs.Observed.{entry_of}
 use Rattle.trace_props.specs.State.{entry_state}
 use Rattle.address.proofs.SameIds.{same_address-true}
 use Rattle.law_acts.specs.Words.{list_of}
-use Rattle.law_acts.specs.Histories.{Posted, History, report_of}
+use Rattle.law_acts.specs.Histories.{History, report_of}
 use Rattle.law_acts.specs.Histories as histories
 use Rattle.law_acts.specs.Given.{Tells}
 use Rattle.law_acts.specs.Cores.{Core}

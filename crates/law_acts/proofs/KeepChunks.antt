@@ -12,6 +12,7 @@ use Rattle.wire_values.specs.declared.values.state.GivenState.{GivenState}
 use Rattle.wire_values.specs.declared.values.state.GivenState.TheVariants as forms
 use Rattle.wire_values.specs.declared.packet.Body.{Body}
 use Rattle.wire_values.specs.declared.packet.Body.TheVariants as bodies
+use Rattle.wire_values.specs.Posted.{Posted, packet}
 use Rattle.state_transfer.specs.Meanings.{Meaning}
 use Rattle.flush.specs.Flushes.{FlushModel, report_from}
 use Rattle.trace_props.specs.declared.event.Event.{Event}
@@ -21,9 +22,9 @@ use Rattle.address.proofs.SameIds.{same_address-refl}
 use Rattle.trace_props.proofs.RulesAlongLists.{slice_get-before}
 use Rattle.law_acts.specs.Given.{chunk_at, kept_bytes}
 use Rattle.law_acts.specs.Words.{list_of}
-use Rattle.law_acts.specs.Histories.{Posted, History}
+use Rattle.law_acts.specs.Histories.{History}
 use Rattle.law_acts.specs.Cores.{Core, id_of, applied, idle}
-use Rattle.law_acts.specs.Acts.{Cuts, Act, Creates, Joins, Puts, Sends, Queues, Orders, TakesAck, Collects, Holds, Delivers, Promises, Begins, Records, Gathers, Finishes, Enters, Leaves, Allowed, Describes, after, packets_of, events_of, packet, proposed, others_of, instruction_for, instructions, state_after_cut}
+use Rattle.law_acts.specs.Acts.{Cuts, Act, Creates, Joins, Puts, Sends, Queues, Orders, TakesAck, Collects, Holds, Delivers, Promises, Begins, Records, Gathers, Finishes, Enters, Leaves, Allowed, Describes, after, packets_of, events_of, proposed, others_of, instruction_for, instructions, state_after_cut}
 use Rattle.law_acts.specs.Steps.{System, Start, Crash, put, grown, came_of, acted, stepped}
 use Rattle.law_acts.specs.Packets.{IsPiece, WasPutOut, state_with}
 use Rattle.law_acts.specs.Members.{MemberFact}

@@ -4,6 +4,7 @@ use Rattle.std.specs.Prelude.{slice_get}
 use Rattle.address.specs.Ids.{Address, ViewId, same_address, same_view_id}
 use Rattle.wire_values.specs.Values.{Entry, Report}
 use Rattle.wire_values.specs.Values as wire
+use Rattle.wire_values.specs.Posted.{Posted}
 use Rattle.trace_props.specs.declared.event.Event.{Event}
 use Rattle.trace_props.specs.declared.event.Event.TheVariants.{Started, Sent, Delivered, Blocked, Installed, Left, Crashed}
 use Rattle.trace_props.specs.declared.event.Delivery.{Delivery}
@@ -18,7 +19,7 @@ use Rattle.trace_props.proofs.InstallsOfRisingViews.{gone}
 use Rattle.trace_props.proofs.DeliveredGrow.{enters, is_delivery_to, is_delivery_to-true, said_by, sent_in-still, sent_in-miss, sent_in-hit, register-stands, register-stays}
 use Rattle.std.proofs.lemmas.Bool.{and_parts}
 use Rattle.law_acts.specs.Words.{entry_for, list_of, tally_of, open_count, IsClosed}
-use Rattle.law_acts.specs.Histories.{Posted, History, flush_of, report_of, install_of}
+use Rattle.law_acts.specs.Histories.{History, flush_of, report_of, install_of}
 use Rattle.law_acts.proofs.Lists.{first_of-kept}
 use Rattle.law_acts.proofs.TalliesGrow.{list_of-still, list_of-miss, list_of-hit, tally_of-closed, open_count-grows}
 

@@ -10,6 +10,7 @@ use Rattle.wire_values.specs.Values.{Entry, Report}
 use Rattle.wire_values.specs.Values as wire
 use Rattle.wire_values.specs.declared.packet.Body.{Body}
 use Rattle.wire_values.specs.declared.packet.Body.TheVariants as bodies
+use Rattle.wire_values.specs.Posted.{Posted}
 use Rattle.state_transfer.specs.Meanings.{Meaning}
 use Rattle.flush.specs.Flushes.{FlushModel}
 use Rattle.trace_props.specs.declared.event.Event.{Event}
@@ -23,7 +24,7 @@ use Rattle.address.proofs.SameIds.{same_address-true, same_address-from, same_vi
 use Rattle.trace_props.proofs.ObservedGrow.{has_started-stays, has_ended-other, current_view-other, is_blocked-other}
 use Rattle.trace_props.proofs.DeliveredGrow.{enters, delivered_in-other, sent_in-other, register-push, register-still}
 use Rattle.law_acts.specs.Words.{list_of, tally_of}
-use Rattle.law_acts.specs.Histories.{Posted, History, flush_in, install_in, flush_of, report_of, install_of}
+use Rattle.law_acts.specs.Histories.{History, flush_in, install_in, flush_of, report_of, install_of}
 use Rattle.law_acts.specs.Cores.{ViewCore, Core, applied}
 use Rattle.law_acts.specs.Packets.{state_with}
 use Rattle.law_acts.specs.Members.{HasStanding, installed_as, IsInside, LiesBelow, RunsFlush, HasCounts, HasOwn, HasWindow, HasAcks, HasWaiting, ViewFact, MemberFact}

@@ -8,11 +8,12 @@ use Rattle.wire_values.specs.Values.{Entry, Report}
 use Rattle.wire_values.specs.Values as wire
 use Rattle.wire_values.specs.declared.packet.Body.{Body}
 use Rattle.wire_values.specs.declared.packet.Body.TheVariants as bodies
+use Rattle.wire_values.specs.Posted.{Posted}
 use Rattle.trace_props.specs.declared.event.Event.{Event}
 use Rattle.trace_props.specs.declared.event.Install.{Install}
 use Rattle.trace_props.specs.Observed.{entry_of}
 use Rattle.law_acts.specs.Words.{Tally, members_of, open_count}
-use Rattle.law_acts.specs.Histories.{Posted, History, report_of, goes_from, goes_with}
+use Rattle.law_acts.specs.Histories.{History, report_of, goes_from, goes_with}
 use Rattle.law_acts.specs.Packets.{IsOrdered, IsSent, AllHave, HoldsOrder, IsProposal, SaysOf, IsAnswer, IsCutOf, AllAnswered, IsLed, IsFitting, IsInstruction, IsCoordinator, IsOrder, IsStatus, BodyFact, PacketFact, IsEntry}
 use Rattle.law_acts.proofs.Lists.{filter-same}
 use Rattle.law_acts.proofs.KeepHistory.{Later, entered-later}

@@ -27,7 +27,8 @@ use Rattle.trace_props.proofs.InstallsOfRisingViews.{view-stands}
 use Rattle.trace_props.proofs.RuleOfEntry.{state_of-push, entry_state-stays, entry_state-none}
 use Rattle.trace_props.proofs.KeepEightRules.{synchronous-push}
 use Rattle.law_acts.specs.Words.{Tally, tally_after, no_tally}
-use Rattle.law_acts.specs.Histories.{Posted, History}
+use Rattle.wire_values.specs.Posted.{Posted}
+use Rattle.law_acts.specs.Histories.{History}
 use Rattle.law_acts.specs.Invariant.{IsUntouched, NothingBefore, SendsShort, StartsProper, TraceFact}
 use Rattle.law_acts.proofs.Lists.{slice_get-split}
 use Rattle.law_acts.proofs.TalliesGrow.{tally_of-push}

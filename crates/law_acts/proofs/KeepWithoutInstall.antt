@@ -7,6 +7,7 @@ use Rattle.std.proofs.lemmas.Option.{none-some}
 use Rattle.std.proofs.lemmas.List.{append-nil}
 use Rattle.address.specs.Ids.{Address, ViewId, same_address}
 use Rattle.wire_values.specs.Values as wire
+use Rattle.wire_values.specs.Posted.{Posted}
 use Rattle.state_transfer.specs.Meanings.{Meaning}
 use Rattle.trace_props.specs.declared.event.Event.{Event}
 use Rattle.trace_props.specs.declared.event.Event.TheVariants.{Started, Sent, Delivered, Blocked, Installed, Left, Crashed}
@@ -15,7 +16,7 @@ use Rattle.trace_props.specs.State.{installs, entry_state}
 use Rattle.trace_props.specs.Verdicts.{GoesOn}
 use Rattle.trace_props.proofs.DeliveredGrow.{enters, register-still}
 use Rattle.trace_props.proofs.RuleOfEntry.{entry_state-stays, entry_state-none, entry_state-new}
-use Rattle.law_acts.specs.Histories.{Posted, History, install_in}
+use Rattle.law_acts.specs.Histories.{History, install_in}
 use Rattle.law_acts.specs.Histories as histories
 use Rattle.law_acts.specs.Cores.{Core}
 use Rattle.law_acts.specs.Steps.{System, grown}

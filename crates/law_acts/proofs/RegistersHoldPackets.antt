@@ -8,9 +8,10 @@ use Rattle.wire_values.specs.Values.{Report}
 use Rattle.wire_values.specs.Values as wire
 use Rattle.wire_values.specs.declared.packet.Body.{Body}
 use Rattle.wire_values.specs.declared.packet.Body.TheVariants as bodies
+use Rattle.wire_values.specs.Posted.{Posted}
 use Rattle.flush.proofs.Covers.{first-stands}
 use Rattle.address.proofs.SameIds.{same_address-true, same_view_id-true}
-use Rattle.law_acts.specs.Histories.{Posted, History, flush_in, report_in, install_in, report_by, install_to, flush_of, report_of, install_of}
+use Rattle.law_acts.specs.Histories.{History, flush_in, report_in, install_in, report_by, install_to, flush_of, report_of, install_of}
 use Rattle.law_acts.specs.Packets.{BodyFact, IsAnswer, IsInstruction}
 use Rattle.law_acts.specs.Invariant.{EachPacket}
 

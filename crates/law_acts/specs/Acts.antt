@@ -12,6 +12,7 @@ use Rattle.wire_values.specs.declared.values.state.GivenState.{GivenState}
 use Rattle.wire_values.specs.declared.values.state.GivenState.TheVariants as forms
 use Rattle.wire_values.specs.declared.packet.Body.{Body}
 use Rattle.wire_values.specs.declared.packet.Body.TheVariants as bodies
+use Rattle.wire_values.specs.Posted.{Posted, packet}
 use Rattle.state_transfer.specs.Meanings.{Meaning}
 use Rattle.flush.specs.Cuts.{IsCut}
 use Rattle.flush.specs.Flushes.{FlushModel, report_from, group, together_of}
@@ -19,7 +20,6 @@ use Rattle.trace_props.specs.declared.event.Event.{Event}
 use Rattle.trace_props.specs.declared.event.Event.TheVariants.{Sent, Delivered, Blocked, Installed, Left}
 use Rattle.trace_props.specs.Rules.{IsBelow}
 use Rattle.law_acts.specs.Words.{message_for}
-use Rattle.law_acts.specs.Histories.{Posted}
 use Rattle.law_acts.specs.Given.{Tells, IsGiven, chunk_at, chunks_of, kept_bytes}
 use Rattle.law_acts.specs.Cores.{ViewCore, Core, fresh_view_core, install_sent_to, is_open, id_of, report_with, delivered_more, left_of, applied}
 
@@ -65,11 +65,7 @@ pub data Act : Type 0 where
   -- leaves
   Leaves : Act
 
--- ---- packets
-
--- a packet from one to another
-abbrev pub packet : Address → Body → Address → Posted
-packet p body q = record { source = p; destination = q; body = body }
+-- ---- lists of members
 
 -- all of a list but one
 abbrev pub others_of : Address → List Address → List Address

@@ -4,7 +4,7 @@ use Rattle.address.specs.Ids.{Address}
 use Rattle.state_transfer.specs.Meanings.{Meaning}
 use Rattle.trace_props.specs.Synchrony.{IsVirtuallySynchronous}
 use Rattle.trace_props.specs.declared.event.Event.{Event}
-use Rattle.law_acts.specs.Histories.{Posted}
+use Rattle.wire_values.specs.Posted.{Posted}
 use Rattle.law_acts.specs.Cores.{Core}
 use Rattle.law_acts.specs.Steps.{System, Step, MayRun, nothing_yet, after_steps, put, came_of, grown}
 use Rattle.law_acts.specs.Chains.{Acted}

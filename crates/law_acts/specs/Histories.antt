@@ -5,16 +5,11 @@ use Rattle.address.specs.Ids.{Address, ViewId, same_address, same_view_id}
 use Rattle.wire_values.specs.Values.{Report}
 use Rattle.wire_values.specs.Values as wire
 use Rattle.wire_values.specs.declared.packet.Body.{Body}
+use Rattle.wire_values.specs.Posted.{Posted}
 use Rattle.wire_values.specs.Kinds.{flush_said, report_said, install_said}
 use Rattle.trace_props.specs.declared.event.Event.{Event}
 use Rattle.trace_props.specs.Observed.{entry_of}
 use Rattle.flush.specs.Cuts.{first_of}
-
--- a packet that was put out: from whom, to whom, and what it says
-pub record Posted : Type 0 where
-  pub source : Address
-  pub destination : Address
-  pub body : Body
 
 -- all packets that were put out, and what happened
 pub record History : Type 0 where

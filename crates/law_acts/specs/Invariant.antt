@@ -8,6 +8,7 @@ use Rattle.view.specs.Members.{View}
 use Rattle.wire_values.specs.Values as wire
 use Rattle.wire_values.specs.declared.packet.Body.TheVariants as bodies
 use Rattle.wire_values.specs.declared.values.state.GivenState.TheVariants as forms
+use Rattle.wire_values.specs.Posted.{Posted}
 use Rattle.state_transfer.specs.Meanings.{Meaning}
 use Rattle.trace_props.specs.declared.event.Event.{Event}
 use Rattle.trace_props.specs.declared.event.Numbered.{Numbered}
@@ -16,7 +17,7 @@ use Rattle.trace_props.specs.Observed.{has_started, delivered_in, sent_in, entry
 use Rattle.trace_props.specs.State.{entry_state}
 use Rattle.trace_props.specs.Synchrony.{IsVirtuallySynchronous}
 use Rattle.law_acts.specs.Words.{tally_of, no_tally}
-use Rattle.law_acts.specs.Histories.{Posted, History, install_of}
+use Rattle.law_acts.specs.Histories.{History, install_of}
 use Rattle.law_acts.specs.Cores.{Core, install_sent_to}
 use Rattle.law_acts.specs.Steps.{System}
 use Rattle.law_acts.specs.Packets.{PacketFact, IsEntry, GivesState, BeginsWith, IsPiece, WasPutOut}

@@ -10,12 +10,12 @@ use Rattle.next_view.specs.ViewNotes.{NotesModel}
 use Rattle.wire_values.specs.Values.{Report}
 use Rattle.wire_values.specs.Values as wire
 use Rattle.wire_values.specs.declared.packet.Body.TheVariants as bodies
+use Rattle.wire_values.specs.Posted.{Posted, packet}
 use Rattle.flush.specs.Flushes.{FlushModel, IsFlush, is_awaited, reported, progress_of, together_of}
 use Rattle.flush.specs.declared.progress.Progress.TheVariants.{Complete}
 use Rattle.view_install.specs.Promises.{offered, is_accept}
-use Rattle.law_acts.specs.Histories.{Posted}
 use Rattle.law_acts.specs.Cores.{Core, report_with}
-use Rattle.law_acts.specs.Acts.{packet, others_of, promised, begun, proposed, gone_into, blocking, entering, undelivered, IsPromised, instructing_one, state_after_cut, instructions, delivered_at, state_into}
+use Rattle.law_acts.specs.Acts.{others_of, promised, begun, proposed, gone_into, blocking, entering, undelivered, IsPromised, instructing_one, state_after_cut, instructions, delivered_at, state_into}
 use Rattle.law_acts.specs.Given.{IsGiven}
 use Rattle.law_acts.specs.Chains.{Acted}
 use Rattle.law_acts.specs.Decisions.{promise_of, next_proposal, proposal_after, due_proposal, cuts_of, form_of, kept_of, given_by, is_readable, is_entry}

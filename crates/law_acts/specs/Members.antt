@@ -7,6 +7,7 @@ use Rattle.view.specs.View.{view_refusal}
 use Rattle.address.specs.declared.limits.TheConstants.{WINDOW}
 use Rattle.wire_values.specs.Values.{Entry, held_at, Report}
 use Rattle.wire_values.specs.Values as wire
+use Rattle.wire_values.specs.Posted.{Posted}
 use Rattle.state_transfer.specs.Meanings.{Meaning}
 use Rattle.flush.specs.Flushes.{FlushModel, report_from}
 use Rattle.trace_props.specs.declared.event.Event.{Event}
@@ -15,7 +16,7 @@ use Rattle.trace_props.specs.Rules.{IsRunning, IsBelow}
 use Rattle.trace_props.specs.Observed.{current_view, is_blocked, delivered_in, sent_in, own, entry_of}
 use Rattle.trace_props.specs.State.{state_of}
 use Rattle.law_acts.specs.Words.{Open, Past, list_of, tally_of, open_count}
-use Rattle.law_acts.specs.Histories.{Posted, History, flush_of, report_of, install_of}
+use Rattle.law_acts.specs.Histories.{History, flush_of, report_of, install_of}
 use Rattle.law_acts.specs.Cores.{ViewCore, Core, install_sent_to, is_frozen, id_of, report_with}
 use Rattle.law_acts.specs.Acts.{proposed}
 use Rattle.law_acts.specs.Packets.{IsSent, AllHave, HoldsOrder, HoldsAll, state_with}

@@ -9,13 +9,14 @@ use Rattle.wire_values.specs.Values.{Entry, held_at, Report}
 use Rattle.wire_values.specs.Values as wire
 use Rattle.wire_values.specs.declared.packet.Body.{Body}
 use Rattle.wire_values.specs.declared.packet.Body.TheVariants as bodies
+use Rattle.wire_values.specs.Posted.{Posted}
 use Rattle.state_transfer.specs.Meanings.{Meaning}
 use Rattle.trace_props.specs.declared.event.Event.{Event}
 use Rattle.trace_props.specs.declared.event.Install.{Install}
 use Rattle.trace_props.specs.Observed.{sent_in, entry_of}
 use Rattle.trace_props.specs.State.{entry_state}
 use Rattle.law_acts.specs.Words.{list_of, order_of, members_of, open_count, IsClosed}
-use Rattle.law_acts.specs.Histories.{Posted, History, flush_of, report_of, install_of, goes_from, goes_with}
+use Rattle.law_acts.specs.Histories.{History, flush_of, report_of, install_of, goes_from, goes_with}
 use Rattle.law_acts.specs.Given.{Tells, chunk_at}
 use Rattle.law_acts.specs.Cores.{applied}
 

@@ -6,7 +6,8 @@ use Rattle.state_transfer.specs.Meanings.{Meaning}
 use Rattle.trace_props.specs.declared.event.Event.{Event}
 use Rattle.trace_props.specs.declared.event.Event.TheVariants.{Started, Crashed}
 use Rattle.trace_props.specs.Observed.{has_started}
-use Rattle.law_acts.specs.Histories.{Posted, History}
+use Rattle.wire_values.specs.Posted.{Posted}
+use Rattle.law_acts.specs.Histories.{History}
 use Rattle.law_acts.specs.Cores.{Core, idle}
 use Rattle.law_acts.specs.Acts.{Act, Allowed, after, packets_of, events_of, handed}
 

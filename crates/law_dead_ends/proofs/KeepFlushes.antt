@@ -17,13 +17,13 @@ use Rattle.next_view.specs.Candidates.{candidates, is_changed}
 use Rattle.wire_values.specs.Values as wire
 use Rattle.wire_values.specs.declared.packet.Body.{Body}
 use Rattle.wire_values.specs.declared.packet.Body.TheVariants as bodies
+use Rattle.wire_values.specs.Posted.{Posted}
 use Rattle.flush.specs.Flushes.{FlushModel, has_reported, is_awaited}
 use Rattle.view_install.specs.Promises.{PromiseModel, offered}
 use Rattle.view_install.specs.declared.promise.OfferAnswer.{OfferAnswer}
 use Rattle.view_install.specs.declared.promise.OfferAnswer.TheVariants.{Accept, Behind, Ignore}
 use Rattle.law_acts.specs.Acts.{others_of, proposed}
 use Rattle.law_acts.specs.Cores.{Core}
-use Rattle.law_acts.specs.Histories.{Posted}
 use Rattle.law_acts.specs.Decisions.{is_readable, due_proposal, due_at, regroups_in, is_due, proposal_after}
 use Rattle.law_acts.proofs.ProposalsAreViews.{next-means}
 use Rattle.step_output.specs.Steps.{Who}

@@ -12,7 +12,7 @@ use Rattle.trace_props.specs.declared.event.Event.{Event}
 use Rattle.trace_props.specs.declared.event.Event.TheVariants.{Started, Crashed}
 use Rattle.trace_props.specs.Observed.{has_started}
 use Rattle.address.proofs.SameIds.{same_address-true}
-use Rattle.law_acts.specs.Histories.{Posted}
+use Rattle.wire_values.specs.Posted.{Posted}
 use Rattle.law_acts.specs.Cores.{Core, idle}
 use Rattle.law_acts.specs.Chains.{Acted}
 use Rattle.law_acts.specs.Steps.{System, put}

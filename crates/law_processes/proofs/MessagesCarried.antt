@@ -14,6 +14,7 @@ use Rattle.wire_values.specs.Values.{Entry}
 use Rattle.wire_values.specs.declared.error.WireError.{WireError}
 use Rattle.wire_values.specs.declared.packet.Packet.{Packet}
 use Rattle.wire_values.specs.declared.packet.Body.TheVariants as bodies
+use Rattle.wire_values.specs.Posted.{Posted, packet}
 use Rattle.wire.specs.Packets.{packet_of}
 use Rattle.state_transfer.specs.Meanings.{Meaning}
 use Rattle.trace_props.specs.declared.event.Event.{Event}
@@ -24,9 +25,8 @@ use Rattle.trace_props.specs.Observed.{has_started, said, numbered}
 use Rattle.trace_props.specs.Synchrony.{IsVirtuallySynchronous}
 use Rattle.trace_props.proofs.ObservedGrow.{has_started-stays}
 use Rattle.trace_props.proofs.DeliveredGrow.{said_by-true}
-use Rattle.law_acts.specs.Histories.{Posted}
 use Rattle.law_acts.specs.Cores.{Core, is_open}
-use Rattle.law_acts.specs.Acts.{Act, Creates, Joins, Puts, Sends, Queues, Orders, TakesAck, Collects, Holds, Delivers, Promises, Begins, Records, Gathers, Finishes, Enters, Leaves, Allowed, after, events_of, deliveries, delivery, entering, blocking, packet, handed}
+use Rattle.law_acts.specs.Acts.{Act, Creates, Joins, Puts, Sends, Queues, Orders, TakesAck, Collects, Holds, Delivers, Promises, Begins, Records, Gathers, Finishes, Enters, Leaves, Allowed, after, events_of, deliveries, delivery, entering, blocking, handed}
 use Rattle.law_acts.specs.Chains.{Chain, events_along}
 use Rattle.law_acts.specs.Invariant.{SendsShort, StartsProper}
 use Rattle.law_acts.proofs.KeepBySteps as steps

@@ -6,9 +6,9 @@ use Rattle.std.proofs.lemmas.Option.{none-some, same_Some}
 use Rattle.std.proofs.lemmas.List.Elements.{filter_map-append}
 use Rattle.wire_values.specs.declared.error.WireError.{WireError}
 use Rattle.wire_values.specs.declared.packet.Packet.{Packet}
+use Rattle.wire_values.specs.Posted.{Posted}
 use Rattle.wire.specs.Packets.{IsPacket, spelling, packet_of}
 use Rattle.wire.proofs.OneSpelling.{spelled_read}
-use Rattle.law_acts.specs.Histories.{Posted}
 use Rattle.step_output.specs.Outputs.{packet_in, spelled}
 use Rattle.law_processes.specs.Deployments.{bytes_of}
 

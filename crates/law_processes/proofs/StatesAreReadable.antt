@@ -12,7 +12,7 @@ use Rattle.wire_values.specs.declared.packet.Body.TheVariants as bodies
 use Rattle.state_transfer.specs.Meanings.{Meaning}
 use Rattle.trace_props.specs.Observed.{entry_of}
 use Rattle.trace_props.specs.State.{entry_state}
-use Rattle.law_acts.specs.Histories.{Posted, History, report_of}
+use Rattle.law_acts.specs.Histories.{History, report_of}
 use Rattle.law_acts.specs.Cores.{Core}
 use Rattle.law_acts.specs.Acts.{handed}
 use Rattle.law_acts.specs.Steps.{System, came_of}
@@ -29,6 +29,7 @@ use Rattle.law_acts.specs.Packets.{IsInstruction, BodyFact}
 use Rattle.law_acts.proofs.KeepBySteps
 use Rattle.member.specs.declared.input.Input.{Input}
 use Rattle.wire_values.specs.Kinds.{install_said as install_in}
+use Rattle.wire_values.specs.Posted.{Posted}
 use Rattle.member.specs.Members.{MemberModel, came_at, is_readable, is_unreadable, is_unreadable_by}
 use Rattle.address.proofs.Plain.{found}
 use Rattle.law_processes.specs.Deployments.{Deployment, MayBeHanded}

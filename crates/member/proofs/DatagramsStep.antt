@@ -10,11 +10,10 @@ use Rattle.wire_values.specs.declared.error.WireError.{WireError}
 use Rattle.wire_values.specs.declared.packet.Packet.{Packet}
 use Rattle.wire_values.specs.declared.packet.Body.{Body}
 use Rattle.wire_values.specs.declared.packet.Body.TheVariants as bodies
+use Rattle.wire_values.specs.Posted.{Posted, packet}
 use Rattle.wire.specs.Packets.{packet_of, wire_refusal, error_in}
 use Rattle.state_transfer.specs.Meanings.{Meaning}
 use Rattle.address.proofs.SameIds.{same_address-true}
-use Rattle.law_acts.specs.Histories.{Posted}
-use Rattle.law_acts.specs.Acts.{packet}
 use Rattle.law_acts.specs.Decisions.{is_readable}
 use Rattle.membership.specs.HeldChunks.{given_in}
 use Rattle.step_output.specs.declared.output.Output.{Output}

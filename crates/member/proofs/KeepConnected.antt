@@ -3,7 +3,7 @@ use Rattle.std.proofs.Common.{◌≡◌, true, Option, Some, None, List, [], ◌
 use Rattle.std.proofs.lemmas.Option.{none-some, same_Some}
 use Rattle.state_transfer.specs.Meanings.{Meaning}
 use Rattle.trace_props.specs.declared.event.Event.{Event}
-use Rattle.law_acts.specs.Histories.{Posted}
+use Rattle.wire_values.specs.Posted.{Posted}
 use Rattle.law_acts.specs.Cores.{Core}
 use Rattle.law_acts.specs.Acts.{Act, Creates, Joins, Puts, Sends, Queues, Orders, TakesAck, Collects, Holds, Delivers, Promises, Begins, Records, Gathers, Finishes, Enters, Leaves, after}
 use Rattle.law_acts.specs.Chains.{Chain, Acted}

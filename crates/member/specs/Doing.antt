@@ -4,7 +4,7 @@ use Rattle.std.specs.Option.{option_map_or}
 use Rattle.address.specs.Ids.{Address}
 use Rattle.wire.specs.Packets.{wire_refusal}
 use Rattle.state_transfer.specs.Meanings.{Meaning}
-use Rattle.law_acts.specs.Histories.{Posted}
+use Rattle.wire_values.specs.Posted.{Posted}
 use Rattle.step_output.specs.declared.output.Output.{Output}
 use Rattle.step_output.specs.Outputs.{Grows, Puts}
 use Rattle.membership.specs.declared.member_state.MemberState.{MemberState}

@@ -10,7 +10,7 @@ use Rattle.state_transfer.specs.Meanings.{Meaning}
 use Rattle.trace_props.specs.declared.event.Event.{Event}
 use Rattle.trace_props.specs.declared.event.Event.TheVariants.{Sent, Delivered, Installed, Left}
 use Rattle.trace_props.specs.Recorded.{IsRecordable}
-use Rattle.law_acts.specs.Histories.{Posted}
+use Rattle.wire_values.specs.Posted.{Posted}
 use Rattle.law_acts.specs.Cores.{Core}
 use Rattle.law_acts.specs.Chains.{Acted}
 use Rattle.step_output.specs.declared.output.Output.{Output}

@@ -7,11 +7,10 @@ use Rattle.wire_values.specs.Values as wire
 use Rattle.wire_values.specs.declared.packet.Body.{Body}
 use Rattle.wire_values.specs.declared.packet.Body.TheVariants as bodies
 use Rattle.state_transfer.specs.Meanings.{Meaning}
-use Rattle.law_acts.specs.Histories.{Posted}
 use Rattle.law_acts.specs.Decisions.{is_readable}
-use Rattle.law_acts.specs.Acts.{packet}
 use Rattle.membership.specs.declared.member_state.MemberState.{MemberState}
 use Rattle.wire_values.specs.Kinds.{install_said}
+use Rattle.wire_values.specs.Posted.{Posted, packet}
 use Rattle.membership.specs.MemberStates.{would_hold}
 use Rattle.membership.specs.Changes.{TakesInstall, TakesChunk, would_enter}
 use Rattle.membership.specs.HeldChunks.{given_in}

@@ -5,9 +5,9 @@ use Rattle.address.specs.Ids.{Address}
 use Rattle.address.specs.declared.refusal.Refusal.TheVariants.{AlreadyConnected, Closed}
 use Rattle.wire_values.specs.declared.error.WireError.{WireError}
 use Rattle.wire_values.specs.declared.packet.Packet.{Packet}
+use Rattle.wire_values.specs.Posted.{Posted}
 use Rattle.wire.specs.Packets.{packet_of, wire_refusal}
 use Rattle.state_transfer.specs.Meanings.{Meaning}
-use Rattle.law_acts.specs.Histories.{Posted}
 use Rattle.law_acts.specs.Cores.{Core}
 use Rattle.law_acts.specs.Acts.{handed}
 pub use Rattle.law_acts.specs.Decisions.{promise_of, is_fitting, is_entry, is_readable}

@@ -3,7 +3,7 @@
 ghost use Rattle.std.specs.Prelude.{◌≡◌, ◌+◌, Option, Some, Ok, Err, OnOk, MatchOption, is_some, true, false};
 ghost use Rattle.std.specs.Option.{option_map_or};
 ghost use Rattle.address.specs.declared.limits.TheConstants.{WINDOW};
-ghost use Rattle.law_acts.specs.Histories.{Posted};
+ghost use Rattle.wire_values.specs.Posted.{Posted};
 ghost use Rattle.step_output.specs.Calm.{IsCalm};
 ghost use Rattle.membership.specs.declared.stop.Stop.TheVariants as stop;
 ghost use Rattle.membership.specs.MemberStates.{core_of, is_connected};

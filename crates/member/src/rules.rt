@@ -4,7 +4,7 @@ ghost use Rattle.std.specs.Prelude.{◌≡◌, Ok, OnOk, MatchResult, true, fals
 ghost use Rattle.address.specs.Ids.{same_address};
 ghost use Rattle.wire_values.specs.Values.{Install};
 ghost use Rattle.wire_values.specs.declared.packet.Body.TheVariants as bodies;
-ghost use Rattle.law_acts.specs.Acts.{packet};
+ghost use Rattle.wire_values.specs.Posted.{packet};
 ghost use Rattle.membership.specs.declared.stop.Stop.TheVariants as stop;
 ghost use Rattle.membership.specs.MemberStates.{IsMemberState, is_connected};
 ghost use Rattle.membership.specs.Changes.{StaysAs};

@@ -11,13 +11,13 @@ use Rattle.view.specs.Members.{View, stands_in}
 use Rattle.wire_values.specs.Values as wire
 use Rattle.wire_values.specs.declared.packet.Body.{Body}
 use Rattle.wire_values.specs.declared.packet.Body.TheVariants as bodies
+use Rattle.wire_values.specs.Posted.{Posted, packet}
 use Rattle.state_transfer.specs.Meanings.{Meaning}
 use Rattle.flush.specs.Flushes.{FlushModel, has_reported}
 use Rattle.trace_props.specs.declared.event.Event.TheVariants.{Installed, Left}
 use Rattle.address.proofs.SameIds.{same_address-true, same_address-refl}
-use Rattle.law_acts.specs.Histories.{Posted}
 use Rattle.law_acts.specs.Cores.{Core}
-use Rattle.law_acts.specs.Acts.{Puts, Creates as MakesFirst, Joins, Leaves as Goes, Describes, packet, proposed, others_of, lone_view, gone_into}
+use Rattle.law_acts.specs.Acts.{Puts, Creates as MakesFirst, Joins, Leaves as Goes, Describes, proposed, others_of, lone_view, gone_into}
 use Rattle.law_acts.specs.Chains.{Acted}
 use Rattle.law_acts.proofs.LawsOfActs.{one-acted, then-acted, nothing-acted}
 use Rattle.step_output.specs.declared.output.Output.{Output}

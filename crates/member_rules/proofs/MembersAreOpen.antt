@@ -8,7 +8,7 @@ use Rattle.address.specs.Ids.{Address}
 use Rattle.view.specs.Members.{View, stands_in}
 use Rattle.state_transfer.specs.Meanings.{Meaning}
 use Rattle.flush.specs.Flushes.{FlushModel}
-use Rattle.law_acts.specs.Histories.{Posted}
+use Rattle.wire_values.specs.Posted.{Posted}
 use Rattle.law_acts.specs.Cores.{Core}
 use Rattle.law_acts.specs.Chains.{Acted}
 use Rattle.law_acts.proofs.LawsOfActs.{nothing-acted}

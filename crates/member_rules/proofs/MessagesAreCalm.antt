@@ -4,7 +4,7 @@ use Rattle.std.proofs.lemmas.List.{append-nil, length-append}
 use Rattle.std.specs.Prelude.{MatchBool, nat_lt}
 use Rattle.std.specs.List.{list_all}
 use Rattle.address.specs.declared.limits.TheConstants.{WINDOW}
-use Rattle.address.specs.Ids.{Address}
+use Rattle.address.specs.Ids.{Address, ViewId}
 use Rattle.wire_values.specs.Values.{Entry}
 use Rattle.state_transfer.specs.Meanings.{Meaning}
 use Rattle.trace_props.specs.declared.event.Event.{Event}
@@ -12,13 +12,17 @@ use Rattle.law_acts.specs.Acts.{delivery}
 use Rattle.step_output.specs.declared.output.Output.{Output}
 use Rattle.step_output.specs.Outputs.{Grows}
 use Rattle.step_output.specs.Calm.{is_quiet, IsCalm}
-use Rattle.step_output.proofs.CalmAdds.{deliveries-quiet}
 use Rattle.traffic.specs.declared.coordinator.Coordinator.{Coordinator}
 use Rattle.traffic.specs.declared.follower.Follower.{Follower}
 use Rattle.traffic.specs.Turns.{Ordering, IsFew}
 use Rattle.traffic.specs.Takes.{TakesOrder, AsksUpTo, AnswersOrder, ack_of}
 use Rattle.step_output.specs.Steps.{who}
 use Rattle.traffic.specs.InViews.{in_view}
+
+-- what is delivered is quiet
+pub deliveries-quiet : (p : Address) (v : ViewId) (entries : List Entry) → list_all is_quiet (map (delivery p v) entries) ≡ true
+deliveries-quiet p v [] = refl
+deliveries-quiet p v (e ∷ entries) = deliveries-quiet p v entries
 
 few-calm : (out later : Output) (hs : List Event) → later.events.items ≡ out.events.items ++ hs → list_all is_quiet hs ≡ true → IsFew out later → IsCalm WINDOW out later
 few-calm out later hs grows quiet few =

@@ -29,7 +29,7 @@ use Rattle.address.specs.declared.refusal.Refusal.TheVariants.{NotConnected, Too
 use Rattle.member_rules.specs.Refusals.{send_refusal}
 use Rattle.member_rules.specs.Messages.{Sends, SendsNext, SendsFirst, DeliversNext, DeliversAtOnce, has_room}
 use Rattle.member_rules.proofs.MembersAreOpen.{going_on}
-use Rattle.step_output.proofs.CalmAdds.{deliveries-quiet}
+use Rattle.member_rules.proofs.MessagesAreCalm.{deliveries-quiet}
 use Rattle.step_output.specs.Steps.{who}
 use Rattle.traffic.specs.InViews.{in_view}
 use Rattle.membership.specs.InSteps.{in_step}

@@ -6,7 +6,7 @@ use Rattle.address.specs.Ids.{Address, ViewId, same_address}
 use Rattle.view.specs.Members.{stands_in}
 use Rattle.state_transfer.specs.Meanings.{Meaning}
 use Rattle.address.proofs.SameIds.{same_address-true, same_view_id-true}
-use Rattle.law_acts.specs.Histories.{Posted}
+use Rattle.wire_values.specs.Posted.{Posted}
 use Rattle.step_output.specs.declared.output.Output.{Output}
 use Rattle.traffic.specs.declared.follower.Follower.{Follower}
 use Rattle.traffic.specs.declared.view_state.ViewState.{ViewState}

@@ -10,6 +10,7 @@ use Rattle.view.specs.Members.{View}
 use Rattle.address.specs.declared.limits.TheConstants.{WINDOW}
 use Rattle.wire_values.specs.Values.{Report}
 use Rattle.wire_values.specs.Values as wire
+use Rattle.wire_values.specs.Posted.{Posted}
 use Rattle.state_transfer.specs.Meanings.{Meaning}
 use Rattle.trace_props.specs.declared.event.Event.{Event}
 use Rattle.trace_props.specs.declared.event.Event.TheVariants.{Blocked}
@@ -17,7 +18,6 @@ use Rattle.flush.specs.Flushes.{FlushModel, group}
 use Rattle.view_install.specs.declared.promise.OfferAnswer.{OfferAnswer}
 use Rattle.view_install.specs.declared.promise.OfferAnswer.TheVariants.{Accept, Behind, Ignore}
 use Rattle.view_install.specs.Promises.{offered}
-use Rattle.law_acts.specs.Histories.{Posted}
 use Rattle.law_acts.specs.Cores.{is_open}
 use Rattle.law_acts.specs.Acts.{delivery}
 use Rattle.law_acts.specs.Decisions.{due_proposal, cuts_of}
@@ -25,7 +25,7 @@ use Rattle.membership.specs.HeldChunks.{given_in}
 use Rattle.step_output.specs.declared.output.Output.{Output}
 use Rattle.step_output.specs.Outputs.{Grows}
 use Rattle.step_output.specs.Calm.{is_quiet, IsCalm}
-use Rattle.step_output.proofs.CalmAdds.{calm-nothing, calm-grown, calm-then, calm-wider, deliveries-quiet}
+use Rattle.step_output.proofs.CalmAdds.{calm-nothing, calm-grown, calm-then, calm-wider}
 use Rattle.traffic.specs.declared.view_state.ViewState.{ViewState}
 use Rattle.traffic.specs.ViewStates.{view_of, view_core_of}
 use Rattle.membership.specs.declared.member_state.MemberState.{MemberState}
@@ -37,6 +37,7 @@ use Rattle.member_rules.specs.Views.{OnJoin, OnRedirect, OnSuspect, OnFlush, OnB
 use Rattle.flush.proofs.FewItems.{cut-few}
 use Rattle.step_output.specs.Steps.{Who}
 use Rattle.membership.specs.InSteps.{InStep, in_step}
+use Rattle.member_rules.proofs.MessagesAreCalm.{deliveries-quiet}
 
 -- ---- how much is delivered at most
 

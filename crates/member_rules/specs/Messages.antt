@@ -5,10 +5,11 @@ use Rattle.address.specs.Ids.{Address, ViewId}
 use Rattle.address.specs.declared.limits.TheConstants.{WINDOW, GREATEST_NUMBER}
 use Rattle.wire_values.specs.Values.{Entry, Missing, Progress}
 use Rattle.wire_values.specs.declared.packet.Body.TheVariants as bodies
+use Rattle.wire_values.specs.Posted.{packet}
 use Rattle.state_transfer.specs.Meanings.{Meaning}
 use Rattle.trace_props.specs.declared.event.Event.{Event}
 use Rattle.trace_props.specs.declared.event.Event.TheVariants.{Sent}
-use Rattle.law_acts.specs.Acts.{packet, others_of, delivery}
+use Rattle.law_acts.specs.Acts.{others_of, delivery}
 use Rattle.step_output.specs.declared.output.Output.{Output}
 use Rattle.step_output.specs.Outputs.{Grows}
 use Rattle.step_output.specs.Calm.{is_quiet}

@@ -3,6 +3,7 @@ use Rattle.std.specs.Prelude.{◌≡◌, ℕ, ◌+◌, false, Option, None}
 use Rattle.std.specs.Option.{ForSome}
 use Rattle.address.specs.Ids.{Address, same_address}
 use Rattle.wire_values.specs.Values.{held_at}
+use Rattle.wire_values.specs.Posted.{Posted}
 use Rattle.nak_stream.specs.Windows.{WindowModel}
 use Rattle.sequencer.specs.Queues.{next_ordered}
 use Rattle.traffic.specs.declared.view_state.ViewState.{ViewState}
@@ -14,7 +15,6 @@ use Rattle.membership.specs.MemberStates.{IsMemberState}
 use Rattle.membership.specs.Doing.{Did}
 use Rattle.membership.specs.InSteps.{InStep}
 use Rattle.state_transfer.specs.Meanings.{Meaning}
-use Rattle.law_acts.specs.Histories.{Posted}
 use Rattle.step_output.specs.Calm.{IsCalm}
 use Rattle.step_output.specs.Steps.{Who}
 

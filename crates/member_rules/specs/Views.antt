@@ -9,10 +9,10 @@ use Rattle.next_view.specs.Candidates.{first_unsuspected}
 use Rattle.next_view.specs.Noting.{noting, noting_view}
 use Rattle.wire_values.specs.Values as wire
 use Rattle.wire_values.specs.declared.packet.Body.TheVariants as bodies
+use Rattle.wire_values.specs.Posted.{Posted, packet}
 use Rattle.trace_props.specs.declared.event.Event.TheVariants.{Installed, Left}
 use Rattle.flush.specs.Flushes.{FlushModel, has_reported}
-use Rattle.law_acts.specs.Histories.{Posted}
-use Rattle.law_acts.specs.Acts.{packet, others_of, lone_view, proposed}
+use Rattle.law_acts.specs.Acts.{others_of, lone_view, proposed}
 use Rattle.step_output.specs.declared.output.Output.{Output}
 use Rattle.step_output.specs.Outputs.{Grows}
 use Rattle.traffic.specs.ViewStates.{fresh_in}

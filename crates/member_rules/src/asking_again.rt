@@ -2,8 +2,9 @@
 
 ghost use Rattle.std.specs.Prelude.{◌≡◌, OnOk, [], ◌∷◌, not};
 ghost use Rattle.wire_values.specs.declared.packet.Body.TheVariants as bodies;
+ghost use Rattle.wire_values.specs.Posted.{packet};
 ghost use Rattle.flush.specs.Flushes.{has_reported};
-ghost use Rattle.law_acts.specs.Acts.{packet, proposed};
+ghost use Rattle.law_acts.specs.Acts.{proposed};
 ghost use Rattle.view.specs.View.{view_refusal};
 ghost use Rattle.step_output.specs.Outputs.{Grows};
 ghost use Rattle.membership.specs.MemberStates.{IsMemberState};

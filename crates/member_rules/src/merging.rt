@@ -5,7 +5,7 @@ ghost use Rattle.std.specs.Option.{option_map_or, option_copied};
 ghost use Rattle.view.specs.Members.{stands_in};
 ghost use Rattle.next_view.specs.Noting.{noting_view};
 ghost use Rattle.wire_values.specs.declared.packet.Body.TheVariants as bodies;
-ghost use Rattle.law_acts.specs.Acts.{packet};
+ghost use Rattle.wire_values.specs.Posted.{packet};
 ghost use Rattle.step_output.specs.Outputs.{Grows};
 ghost use Rattle.membership.specs.MemberStates.{IsMemberState, view_in};
 ghost use Rattle.membership.specs.Changes.{StaysAs};

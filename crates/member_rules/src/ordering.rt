@@ -4,7 +4,7 @@ ghost use Rattle.std.specs.Prelude.{◌≡◌, Some, false, Ok, OnOk};
 ghost use Rattle.address.specs.declared.limits.TheConstants.{WINDOW};
 ghost use Rattle.address.specs.Ids.{same_address};
 ghost use Rattle.wire_values.specs.declared.packet.Body.TheVariants as bodies;
-ghost use Rattle.law_acts.specs.Acts.{packet};
+ghost use Rattle.wire_values.specs.Posted.{packet};
 ghost use Rattle.membership.specs.MemberStates.{IsMemberState};
 ghost use Rattle.member_rules.specs.Ordered.{HearsBy, IsOrdered};
 ghost use Rattle.member_rules.specs.Heard.{takes_forward, takes_ack, takes_nak};

@@ -1,7 +1,7 @@
 //! A member sends a message of its own.
 
 ghost use Rattle.std.specs.Prelude.{◌≡◌, Option, None, true, OnOk};
-ghost use Rattle.law_acts.specs.Histories.{Posted};
+ghost use Rattle.wire_values.specs.Posted.{Posted};
 ghost use Rattle.membership.specs.MemberStates.{IsMemberState, core_of};
 ghost use Rattle.membership.specs.Doing.{Did};
 ghost use Rattle.member_rules.specs.Ordered.{IsOrdered};

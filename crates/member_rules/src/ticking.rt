@@ -1,7 +1,7 @@
 //! Time passes in a view.
 
 ghost use Rattle.std.specs.Prelude.{◌≡◌, Option, true, OnOk};
-ghost use Rattle.law_acts.specs.Histories.{Posted};
+ghost use Rattle.wire_values.specs.Posted.{Posted};
 ghost use Rattle.step_output.specs.Calm.{IsCalm};
 ghost use Rattle.membership.specs.MemberStates.{IsMemberState};
 ghost use Rattle.membership.specs.Doing.{Did};

@@ -2,7 +2,7 @@
 use Rattle.std.proofs.Common.{◌≡◌, Option, Some, [], ◌++◌, sym, subst}
 use Rattle.state_transfer.specs.Meanings.{Meaning}
 use Rattle.next_view.specs.ViewNotes.{NotesModel}
-use Rattle.law_acts.specs.Histories.{Posted}
+use Rattle.wire_values.specs.Posted.{Posted}
 use Rattle.law_acts.proofs.LawsOfActs.{nothing-acted, then-acted}
 use Rattle.step_output.specs.declared.output.Output.{Output}
 use Rattle.step_output.proofs.GrowthAdds.{grows-nothing, grows-then}

@@ -17,6 +17,7 @@ use Rattle.wire.specs.Packets.{IsPacket}
 use Rattle.wire_values.specs.declared.packet.Body.TheVariants as bodies
 use Rattle.wire_values.specs.declared.values.state.GivenState.{GivenState}
 use Rattle.wire_values.specs.declared.values.state.GivenState.TheVariants as forms
+use Rattle.wire_values.specs.Posted.{Posted, packet}
 use Rattle.flush.specs.Flushes.{FlushModel, report_from, together_of, progress_of, is_awaited, reported}
 use Rattle.flush.specs.declared.progress.Progress.TheVariants.{Waiting, Complete}
 use Rattle.view_install.specs.Promises.{PromiseModel, offered, is_accept, promising, after_install, may_install}
@@ -24,9 +25,8 @@ use Rattle.view_install.specs.declared.promise.OfferAnswer.{OfferAnswer}
 use Rattle.view_install.specs.declared.promise.OfferAnswer.TheVariants.{Accept, Behind, Ignore}
 use Rattle.address.proofs.SameIds.{same_address-true, same_view_id-true}
 use Rattle.view_install.proofs.ViewsRise.{only-the-promised}
-use Rattle.law_acts.specs.Histories.{Posted}
 use Rattle.law_acts.specs.Cores.{Core, id_of, install_sent_to}
-use Rattle.law_acts.specs.Acts.{Puts, packet, proposed, promised, others_of, instruction_for, instructions, instructing_one, base_for, items_for, gone_into, delivered_at, entering, state_into}
+use Rattle.law_acts.specs.Acts.{Puts, proposed, promised, others_of, instruction_for, instructions, instructing_one, base_for, items_for, gone_into, delivered_at, entering, state_into}
 use Rattle.law_acts.specs.Given.{IsGiven, chunk_at, chunks_of}
 use Rattle.law_acts.specs.Chains.{Acted}
 use Rattle.law_acts.proofs.LawsOfActs.{one-acted, nothing-acted, then-acted}

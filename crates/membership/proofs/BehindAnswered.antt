@@ -6,10 +6,10 @@ use Rattle.std.specs.declared.cmp.Ordering.TheVariants.{Less, Equal, Greater}
 use Rattle.address.specs.Ids.{Address, view_id_cmp}
 use Rattle.view.specs.Members.{View, stands_in}
 use Rattle.wire_values.specs.declared.packet.Body.TheVariants as bodies
+use Rattle.wire_values.specs.Posted.{packet}
 use Rattle.view_install.specs.Promises.{PromiseModel, offered, answer_past}
 use Rattle.view_install.specs.declared.promise.OfferAnswer.{OfferAnswer}
 use Rattle.view_install.specs.declared.promise.OfferAnswer.TheVariants.{Accept, Behind, Ignore}
-use Rattle.law_acts.specs.Acts.{packet}
 use Rattle.step_output.specs.declared.output.Output.{Output}
 use Rattle.step_output.specs.Outputs.{Grows}
 use Rattle.membership.specs.declared.member_state.MemberState.{MemberState}

@@ -18,7 +18,7 @@ use Rattle.view_install.proofs.ViewsRise.{only-the-promised}
 use Rattle.address.proofs.SameIds.{same_view_id-refl, same_address-refl}
 use Rattle.wire_values.specs.Chunks.{IsTotal}
 use Rattle.wire_values.specs.Lists.{IsChunk}
-use Rattle.law_acts.specs.Histories.{Posted}
+use Rattle.wire_values.specs.Posted.{Posted}
 use Rattle.law_acts.specs.Acts.{others_of, proposed, lone_view, chunk_packets}
 use Rattle.law_acts.specs.Cores.{id_of}
 use Rattle.law_acts.specs.Decisions.{is_fitting, is_entry}

@@ -12,7 +12,7 @@ use Rattle.flush.specs.Flushes.{FlushModel, IsFlush}
 use Rattle.view_install.specs.declared.promise.OfferAnswer.{OfferAnswer}
 use Rattle.view_install.specs.declared.promise.OfferAnswer.TheVariants.{Accept, Behind, Ignore}
 use Rattle.view_install.specs.Promises.{offered, promising, after_install}
-use Rattle.law_acts.specs.Acts.{packet, others_of, proposed}
+use Rattle.law_acts.specs.Acts.{others_of, proposed}
 use Rattle.law_acts.specs.Decisions.{due_proposal, is_entry, is_readable, kept_of}
 use Rattle.step_output.specs.declared.output.Output.{Output}
 use Rattle.step_output.specs.Outputs.{Grows, packet_in, spelled}
@@ -25,7 +25,7 @@ use Rattle.membership.specs.declared.sent_install.SentInstall.{SentInstall}
 use Rattle.membership.specs.HeldChunks.{is_there, given_in}
 use Rattle.wire.specs.Packets.{IsPacket}
 use Rattle.wire_values.specs.Chunks.{IsTotal}
-use Rattle.law_acts.specs.Histories.{Posted}
+use Rattle.wire_values.specs.Posted.{Posted, packet}
 use Rattle.law_acts.specs.Given.{chunks_of}
 use Rattle.step_output.specs.Steps.{Who}
 use Rattle.membership.specs.InSteps.{InStep, in_step}

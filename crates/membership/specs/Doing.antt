@@ -2,7 +2,7 @@
 use Rattle.std.specs.Prelude.{List, Option, Some}
 use Rattle.state_transfer.specs.Meanings.{Meaning}
 use Rattle.trace_props.specs.declared.event.Event.{Event}
-use Rattle.law_acts.specs.Histories.{Posted}
+use Rattle.wire_values.specs.Posted.{Posted}
 use Rattle.law_acts.specs.Chains.{Acted}
 use Rattle.step_output.specs.Outputs.{Grows}
 use Rattle.membership.specs.MemberStates.{core_of}

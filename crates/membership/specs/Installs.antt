@@ -13,12 +13,12 @@ use Rattle.trace_props.specs.Observed.{own}
 use Rattle.trace_props.specs.declared.event.Event.{Event}
 use Rattle.trace_props.specs.declared.event.Event.TheVariants.{Installed}
 use Rattle.trace_props.specs.declared.event.Numbered.{Numbered}
-use Rattle.law_acts.specs.Histories.{Posted}
 use Rattle.law_acts.specs.Cores.{applied, id_of}
 use Rattle.law_acts.specs.Words.{message_for}
 use Rattle.law_acts.specs.Acts.{others_of, delivery, deliveries, undelivered, proposed, base_for, items_for, instructing_one}
 use Rattle.law_acts.specs.Decisions.{cuts_of, form_of}
 use Rattle.wire_values.specs.declared.values.state.GivenState.TheVariants as forms
+use Rattle.wire_values.specs.Posted.{Posted}
 use Rattle.membership.specs.declared.sent_install.SentInstall.{SentInstall}
 use Rattle.step_output.specs.Steps.{Who}
 use Rattle.traffic.specs.declared.view_state.ViewState.{ViewState}

@@ -15,10 +15,9 @@ use Rattle.wire.specs.Packets.{IsPacket, packet_of}
 use Rattle.trace_props.specs.declared.event.Event.{Event}
 use Rattle.trace_props.specs.declared.event.Event.TheVariants.{Blocked}
 use Rattle.flush.specs.Flushes.{FlushModel, reported, has_reported, is_awaited}
-use Rattle.law_acts.specs.Histories.{Posted}
 use Rattle.law_acts.specs.Cores as cores
 use Rattle.law_acts.specs.Cores.{Core, fresh_view_core, report_with, is_open}
-use Rattle.law_acts.specs.Acts.{packet, proposed}
+use Rattle.law_acts.specs.Acts.{proposed}
 use Rattle.law_acts.specs.Decisions.{proposal_after}
 use Rattle.membership.specs.declared.sent_install.SentInstall.{SentInstall}
 use Rattle.membership.specs.HeldChunks.{is_new}
@@ -31,6 +30,7 @@ use Rattle.traffic.specs.declared.view_state.ViewState.{ViewState}
 use Rattle.traffic.specs.ViewStates.{view_of, view_core_of}
 use Rattle.membership.specs.declared.member_state.MemberState.{MemberState}
 use Rattle.wire_values.specs.Kinds.{install_said}
+use Rattle.wire_values.specs.Posted.{Posted, packet}
 use Rattle.step_output.specs.Steps.{Who}
 
 -- ---- its core, in the words of agreement

@@ -4,7 +4,8 @@ ghost use Rattle.std.specs.Prelude.{◌≡◌, ◌∷◌, [], OnOk, IfOk, true, 
 ghost use Rattle.view.specs.Members.{stands_in};
 ghost use Rattle.view_install.specs.Promises.{offered, is_accept};
 ghost use Rattle.wire_values.specs.declared.packet.Body.TheVariants as bodies;
-ghost use Rattle.law_acts.specs.Acts.{packet, others_of};
+ghost use Rattle.wire_values.specs.Posted.{packet};
+ghost use Rattle.law_acts.specs.Acts.{others_of};
 ghost use Rattle.law_acts.specs.Cores.{report_with};
 ghost use Rattle.step_output.specs.Outputs.{Grows};
 ghost use Rattle.membership.specs.MemberStates.{view_in, view_core_in, begun_with};

@@ -5,7 +5,7 @@ ghost use Rattle.std.specs.List.{range_with_len};
 ghost use Rattle.address.specs.declared.limits.TheConstants.{STATE};
 ghost use Rattle.wire_values.specs.Chunks.{IsTotal};
 ghost use Rattle.wire_values.specs.declared.packet.Body.TheVariants as bodies;
-ghost use Rattle.law_acts.specs.Acts.{packet};
+ghost use Rattle.wire_values.specs.Posted.{packet};
 ghost use Rattle.law_acts.specs.Given.{chunk_at, chunks_of};
 ghost use Rattle.law_acts.specs.Decisions.{form_of, kept_of};
 ghost use Rattle.membership.specs.HeldChunks.{chunk_count};

@@ -4,13 +4,14 @@ ghost use Rattle.std.specs.Prelude.{Ok, ◌≡◌, [], OnOk, IfOk, IfSome, None,
 ghost use Rattle.std.specs.Option.{option_copied, option_map_or};
 ghost use Rattle.std.specs.List.{AllByRecursion};
 ghost use Rattle.view.specs.View.{view_refusal};
-ghost use Rattle.law_acts.specs.Acts.{others_of, packet, proposed};
+ghost use Rattle.law_acts.specs.Acts.{others_of, proposed};
 ghost use Rattle.law_acts.specs.Given.{chunks_of};
 ghost use Rattle.wire_values.specs.declared.packet.Body.TheVariants as bodies;
 ghost use Rattle.traffic.specs.ViewStates.{view_of};
 ghost use Rattle.membership.specs.Installs.{IsSayable, finished_given};
 ghost use Rattle.step_output.specs.Outputs.{Grows};
 ghost use Rattle.wire_values.specs.Chunks.{IsTotal};
+ghost use Rattle.wire_values.specs.Posted.{packet};
 ghost use Rattle.membership.specs.MemberStates.{IsMemberState, is_sent_to, view_in};
 ghost use Rattle.membership.specs.Changes.{Finishes, InstallsAgain};
 ghost use Rattle.step_output.specs.Steps.{who_of};

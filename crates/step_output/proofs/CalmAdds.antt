@@ -1,13 +1,10 @@
 -- What is calm twice, and what does not happen at all.
-use Rattle.std.proofs.Common.{◌≡◌, ℕ, ◌+◌, ◌≤◌, true, List, [], ◌∷◌, ◌++◌, length, map, ◌&&◌, refl, sym, ap, ◌∙◌, append_assoc, arith}
+use Rattle.std.proofs.Common.{◌≡◌, ℕ, ◌+◌, ◌≤◌, true, List, [], ◌∷◌, ◌++◌, length, ◌&&◌, refl, sym, ap, ◌∙◌, append_assoc, arith}
 use Rattle.std.proofs.lemmas.Bool.{and_parts}
 use Rattle.std.proofs.lemmas.List.{append-nil, length-append}
 use Rattle.std.specs.List.{list_all}
 use Rattle.trace_props.specs.declared.event.Event.{Event}
-use Rattle.address.specs.Ids.{Address, ViewId}
-use Rattle.wire_values.specs.Values.{Entry}
-use Rattle.law_acts.specs.Histories.{Posted}
-use Rattle.law_acts.specs.Acts.{delivery}
+use Rattle.wire_values.specs.Posted.{Posted}
 use Rattle.step_output.specs.declared.output.Output.{Output}
 use Rattle.step_output.specs.Outputs.{Grows}
 use Rattle.step_output.specs.Calm.{is_quiet, IsCalm}
@@ -34,8 +31,3 @@ calm-then m n a b c x y = record {
 
 pub calm-wider : (m n : ℕ) (a b : Output) → m ≤ n → IsCalm m a b → IsCalm n a b
 calm-wider m n a b less x = record { more = x.more; grows = x.grows; few = let p = x.few in omega (arith, p, less); quiet = x.quiet }
-
--- what is delivered is quiet
-pub deliveries-quiet : (p : Address) (v : ViewId) (entries : List Entry) → list_all is_quiet (map (delivery p v) entries) ≡ true
-deliveries-quiet p v [] = refl
-deliveries-quiet p v (e ∷ entries) = deliveries-quiet p v entries

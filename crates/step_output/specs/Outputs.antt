@@ -3,10 +3,10 @@ use Rattle.std.specs.Prelude.{◌≡◌, ℕ, Bool, ◌&&◌, not, List, ◌++�
 use Rattle.std.specs.List.{AllByRecursion}
 use Rattle.address.specs.Ids.{Address, same_address}
 use Rattle.wire_values.specs.declared.packet.Packet.{Packet}
+use Rattle.wire_values.specs.Posted.{Posted}
 use Rattle.wire.specs.Packets.{IsPacket, spelling}
 use Rattle.trace_props.specs.declared.event.Event.{Event}
 use Rattle.trace_props.specs.Recorded.{IsShort}
-use Rattle.law_acts.specs.Histories.{Posted}
 use Rattle.step_output.specs.declared.output.Outgoing.{Outgoing}
 use Rattle.step_output.specs.declared.output.Output.{Output}
 use Rattle.step_output.specs.Names.{same_name}

@@ -1,7 +1,7 @@
 ghost use Rattle.std.specs.Prelude.{◌≡◌, [], ◌∷◌, IfOk, OnOk};
 ghost use Rattle.wire.specs.Packets.{IsPacket};
 ghost use Rattle.trace_props.specs.Recorded.{IsShort};
-ghost use Rattle.law_acts.specs.Acts.{packet};
+ghost use Rattle.wire_values.specs.Posted.{packet};
 ghost use Rattle.step_output.specs.Outputs.{Grows, packet_in, spelled, is_for};
 
 use crate::{Outgoing, Output, OwnedName};

@@ -10,11 +10,11 @@ use Rattle.address.specs.declared.limits.TheConstants.{PAYLOAD}
 use Rattle.address.specs.Ids.{Address}
 use Rattle.wire_values.specs.Values.{Entry, Progress, held_at}
 use Rattle.wire_values.specs.declared.packet.Body.TheVariants as bodies
+use Rattle.wire_values.specs.Posted.{Posted, packet}
 use Rattle.state_transfer.specs.Meanings.{Meaning}
 use Rattle.trace_props.specs.declared.event.Numbered.{Numbered}
 use Rattle.nak_stream.specs.Windows.{WindowModel, held_above}
-use Rattle.law_acts.specs.Histories.{Posted}
-use Rattle.law_acts.specs.Acts.{Sends, Collects, Puts, Announced, HoldsAbove, packet, others_of}
+use Rattle.law_acts.specs.Acts.{Sends, Collects, Puts, Announced, HoldsAbove, others_of}
 use Rattle.law_acts.specs.Chains.{Acted}
 use Rattle.law_acts.proofs.LawsOfActs.{nothing-acted}
 use Rattle.traffic.specs.declared.coordinator.Coordinator.{Coordinator}

@@ -15,6 +15,7 @@ use Rattle.view.specs.declared.ViewError.TheVariants.{Empty, TooMany, Repeated, 
 use Rattle.wire_values.specs.Values.{Entry, held_at}
 use Rattle.wire_values.specs.declared.packet.Body.{Body}
 use Rattle.wire_values.specs.declared.packet.Body.TheVariants as bodies
+use Rattle.wire_values.specs.Posted.{Posted, packet}
 use Rattle.state_transfer.specs.Meanings.{Meaning}
 use Rattle.trace_props.specs.declared.event.Event.{Event}
 use Rattle.trace_props.specs.declared.event.Numbered.{Numbered}
@@ -24,9 +25,8 @@ use Rattle.sequencer.specs.Forwards.{ForwardsModel, one_delivered}
 use Rattle.sequencer.specs.Queues.{Queue, OrdererModel, change_first, has_next, served, first_next, may_order, next_ordered, ordering, is_from, offered}
 use Rattle.stability.specs.Counts.{members_of, count_of, noted, stable_count}
 use Rattle.stability.proofs.Counts.{members-noted, stable-le-count}
-use Rattle.law_acts.specs.Histories.{Posted}
 use Rattle.law_acts.specs.Cores.{ViewCore, Core, left_of}
-use Rattle.law_acts.specs.Acts.{HoldsAbove, Describes, Queues, Orders, TakesAck, Collects, Puts, All, packet, delivery, one_more}
+use Rattle.law_acts.specs.Acts.{HoldsAbove, Describes, Queues, Orders, TakesAck, Collects, Puts, All, delivery, one_more}
 use Rattle.law_acts.specs.Chains.{Acted}
 use Rattle.law_acts.proofs.LawsOfActs.{nothing-acted}
 use Rattle.traffic.specs.declared.coordinator.Coordinator.{Coordinator}

@@ -9,14 +9,14 @@ use Rattle.address.specs.Ids.{Address, same_address}
 use Rattle.view.specs.Members.{View}
 use Rattle.wire_values.specs.Values.{Entry, held_at}
 use Rattle.wire_values.specs.declared.packet.Body.{Body}
+use Rattle.wire_values.specs.Posted.{Posted, packet}
 use Rattle.state_transfer.specs.Meanings.{Meaning}
 use Rattle.trace_props.specs.declared.event.Numbered.{Numbered}
 use Rattle.nak_stream.specs.Windows.{WindowModel, held_with, held_above, offers}
 use Rattle.nak_stream.proofs.Windows.{offered}
 use Rattle.sequencer.specs.Forwards.{ForwardsModel}
-use Rattle.law_acts.specs.Histories.{Posted}
 use Rattle.law_acts.specs.Cores.{left_of}
-use Rattle.law_acts.specs.Acts.{Collects, Holds, Delivers, Puts, Ordered, HoldsAbove, Describes, packet, delivery}
+use Rattle.law_acts.specs.Acts.{Collects, Holds, Delivers, Puts, Ordered, HoldsAbove, Describes, delivery}
 use Rattle.law_acts.specs.Chains.{Acted}
 use Rattle.traffic.specs.declared.follower.Follower.{Follower}
 use Rattle.step_output.specs.declared.output.Output.{Output}

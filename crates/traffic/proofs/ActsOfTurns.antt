@@ -10,13 +10,13 @@ use Rattle.view.specs.Members.{View, stands_in, is_distinct}
 use Rattle.view.specs.View.{view_refusal}
 use Rattle.wire_values.specs.Values.{Entry, held_at}
 use Rattle.wire_values.specs.declared.packet.Body.TheVariants as bodies
+use Rattle.wire_values.specs.Posted.{Posted, packet}
 use Rattle.state_transfer.specs.Meanings.{Meaning}
 use Rattle.address.proofs.SameIds.{same_address-refl, same_address-true}
 use Rattle.nak_stream.specs.Windows.{WindowModel, IsWindow, taken, delivering}
 use Rattle.nak_stream.proofs.Windows.{held_at-with}
 use Rattle.sequencer.specs.Queues.{next_ordered, has_next, served, change_first, OrdererModel}
-use Rattle.law_acts.specs.Histories.{Posted}
-use Rattle.law_acts.specs.Acts.{packet, delivery, others_of}
+use Rattle.law_acts.specs.Acts.{delivery, others_of}
 use Rattle.view.proofs.MembersListed.{coordinator-in}
 use Rattle.traffic.specs.declared.coordinator.Coordinator.{Coordinator}
 use Rattle.step_output.specs.declared.output.Output.{Output}

@@ -6,7 +6,7 @@ use Rattle.address.specs.Ids.{Address}
 use Rattle.state_transfer.specs.Meanings.{Meaning}
 use Rattle.trace_props.specs.declared.event.Event.TheVariants.{Sent}
 use Rattle.address.proofs.SameIds.{same_address-refl}
-use Rattle.law_acts.specs.Histories.{Posted}
+use Rattle.wire_values.specs.Posted.{Posted}
 use Rattle.law_acts.specs.Acts.{Sends}
 use Rattle.traffic.specs.declared.coordinator.Coordinator.{Coordinator}
 use Rattle.step_output.specs.declared.output.Output.{Output}

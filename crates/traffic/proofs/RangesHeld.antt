@@ -9,9 +9,8 @@ use Rattle.address.specs.Ids.{Address}
 use Rattle.view.specs.Members.{View}
 use Rattle.wire_values.specs.Values.{Entry, held_at}
 use Rattle.wire_values.specs.declared.packet.Body.TheVariants as bodies
+use Rattle.wire_values.specs.Posted.{Posted, packet}
 use Rattle.nak_stream.specs.Windows.{WindowModel, IsWindow}
-use Rattle.law_acts.specs.Histories.{Posted}
-use Rattle.law_acts.specs.Acts.{packet}
 use Rattle.step_output.specs.declared.output.Output.{Output}
 use Rattle.step_output.specs.Outputs.{Grows}
 use Rattle.traffic.specs.Takes.{orders_held}

@@ -10,10 +10,10 @@ use Rattle.address.specs.Ids.{Address}
 use Rattle.view.specs.Members.{View}
 use Rattle.wire_values.specs.Values.{Entry}
 use Rattle.wire_values.specs.declared.packet.Body.TheVariants as bodies
+use Rattle.wire_values.specs.Posted.{Posted, packet}
 use Rattle.state_transfer.specs.Meanings.{Meaning}
 use Rattle.sequencer.specs.Queues.{next_ordered, ordering, OrdererModel, change_first, has_next, served}
-use Rattle.law_acts.specs.Histories.{Posted}
-use Rattle.law_acts.specs.Acts.{packet, others_of, delivery}
+use Rattle.law_acts.specs.Acts.{others_of, delivery}
 use Rattle.traffic.specs.declared.coordinator.Coordinator.{Coordinator}
 use Rattle.step_output.specs.declared.output.Output.{Output}
 use Rattle.step_output.specs.Outputs.{Grows}

@@ -5,9 +5,9 @@ use Rattle.view.specs.Members.{View}
 use Rattle.wire_values.specs.Values.{Entry}
 use Rattle.state_transfer.specs.Meanings.{Meaning}
 use Rattle.nak_stream.specs.Windows.{taken, collected}
-use Rattle.law_acts.specs.Histories.{Posted}
-use Rattle.law_acts.specs.Acts.{delivery, packet}
+use Rattle.law_acts.specs.Acts.{delivery}
 use Rattle.wire_values.specs.declared.packet.Body.TheVariants as bodies
+use Rattle.wire_values.specs.Posted.{Posted, packet}
 use Rattle.traffic.specs.declared.follower.Follower.{Follower}
 use Rattle.step_output.specs.Outputs.{Grows}
 use Rattle.traffic.specs.ViewStates.{after_delivery}

@@ -3,10 +3,10 @@ use Rattle.std.specs.Prelude.{◌≡◌, ℕ, true, List, Option, Some, None}
 use Rattle.address.specs.Ids.{Address, ViewId}
 use Rattle.view.specs.Members.{View}
 use Rattle.wire_values.specs.Values as wire
+use Rattle.wire_values.specs.Posted.{Posted}
 use Rattle.state_transfer.specs.Meanings.{Meaning}
 use Rattle.trace_props.specs.declared.event.Event.{Event}
 use Rattle.trace_props.specs.declared.event.Sending.{Sending}
-use Rattle.law_acts.specs.Histories.{Posted}
 use Rattle.law_acts.specs.Chains.{Acted}
 use Rattle.law_acts.specs.Cores.{ViewCore, Core}
 use Rattle.step_output.specs.Outputs.{Grows}

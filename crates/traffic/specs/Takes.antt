@@ -7,11 +7,11 @@ use Rattle.address.specs.Ids.{Address}
 use Rattle.view.specs.Members.{View}
 use Rattle.wire_values.specs.Values.{Entry, held_at, Missing, Progress}
 use Rattle.wire_values.specs.declared.packet.Body.TheVariants as bodies
+use Rattle.wire_values.specs.Posted.{Posted, packet}
 use Rattle.state_transfer.specs.Meanings.{Meaning}
 use Rattle.nak_stream.specs.Windows.{WindowModel, offers, collected, IsLeastGap, IsGreatestGap}
-use Rattle.law_acts.specs.Histories.{Posted}
 use Rattle.law_acts.specs.Cores.{applied}
-use Rattle.law_acts.specs.Acts.{delivery, packet}
+use Rattle.law_acts.specs.Acts.{delivery}
 use Rattle.traffic.specs.declared.follower.Follower.{Follower}
 use Rattle.step_output.specs.declared.output.Output.{Output}
 use Rattle.trace_props.specs.declared.event.Event.TheVariants.{Sent}

@@ -4,15 +4,15 @@ use Rattle.address.specs.Ids.{Address, same_address}
 use Rattle.view.specs.Members.{View}
 use Rattle.wire_values.specs.Values.{Entry}
 use Rattle.wire_values.specs.declared.packet.Body.TheVariants as bodies
+use Rattle.wire_values.specs.Posted.{Posted, packet}
 use Rattle.std.specs.List.{find}
 use Rattle.address.specs.declared.limits.TheConstants.{WINDOW}
 use Rattle.state_transfer.specs.Meanings.{Meaning}
 use Rattle.stability.specs.Counts.{count_of, stable_count}
 use Rattle.sequencer.specs.Forwards.{ForwardsModel}
 use Rattle.sequencer.specs.Queues.{Queue, is_from, next_ordered}
-use Rattle.law_acts.specs.Histories.{Posted}
 use Rattle.law_acts.specs.Cores.{applied}
-use Rattle.law_acts.specs.Acts.{delivery, packet, others_of}
+use Rattle.law_acts.specs.Acts.{delivery, others_of}
 use Rattle.traffic.specs.declared.coordinator.Coordinator.{Coordinator}
 use Rattle.step_output.specs.declared.output.Output.{Output}
 use Rattle.trace_props.specs.declared.event.Event.TheVariants.{Sent}

@@ -2,7 +2,8 @@
 
 ghost use Rattle.std.specs.Prelude.{◌≡◌, ◌+◌, ◌-◌, ◌<◌, [], map, OnOk};
 ghost use Rattle.wire_values.specs.declared.packet.Body.TheVariants as bodies;
-ghost use Rattle.law_acts.specs.Acts.{packet, others_of};
+ghost use Rattle.wire_values.specs.Posted.{packet};
+ghost use Rattle.law_acts.specs.Acts.{others_of};
 ghost use Rattle.step_output.specs.Outputs.{Grows};
 ghost use Rattle.traffic.specs.Takes.{orders_held, progress_of};
 

@@ -2,7 +2,7 @@
 
 ghost use Rattle.std.specs.Prelude.{◌≡◌, ◌+◌, ◌≤◌, length, Option, None, true, [], ◌∷◌, OnOk, IfOk};
 ghost use Rattle.trace_props.specs.declared.event.Event.TheVariants.{Sent};
-ghost use Rattle.law_acts.specs.Histories.{Posted};
+ghost use Rattle.wire_values.specs.Posted.{Posted};
 ghost use Rattle.sequencer.specs.Forwards.{pushed, push_refusal};
 ghost use Rattle.sequencer.specs.Queues.{next_ordered, may_order};
 ghost use Rattle.address.specs.declared.limits.TheConstants.{PAYLOAD};

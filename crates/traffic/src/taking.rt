@@ -2,10 +2,9 @@
 
 ghost use Rattle.std.specs.Prelude.{◌≡◌, ◌+◌, ◌-◌, ◌<◌, ◌≤◌, ◌||◌, map, length, Option, Some, None, true, false, [], ◌∷◌, ◌++◌, OnOk, IfOk, MatchOption};
 ghost use Rattle.wire_values.specs.declared.packet.Body.TheVariants as bodies;
-ghost use Rattle.law_acts.specs.Histories.{Posted};
-ghost use Rattle.law_acts.specs.Acts.{packet};
 ghost use Rattle.address.specs.Ids.{same_address};
 ghost use Rattle.wire_values.specs.Values.{held_at};
+ghost use Rattle.wire_values.specs.Posted.{Posted, packet};
 ghost use Rattle.nak_stream.specs.Windows.{offers, IsLeastGap, IsGreatestGap};
 ghost use Rattle.step_output.specs.Outputs.{Grows};
 ghost use Rattle.address.specs.declared.limits.TheConstants.{PAYLOAD, GREATEST_NUMBER};

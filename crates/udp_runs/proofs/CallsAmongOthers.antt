@@ -24,18 +24,18 @@ use Rattle.udp_net.specs.Logs.{Log, NetEvent}
 use Rattle.udp_member.specs.Turns.{Driven}
 use Rattle.law_runners.specs.Runs.{new_channel}
 use Rattle.law_runners.specs.Systems.{Gone, Played, PlayedOver, has_ended}
-use Rattle.node_turns.specs.declared.process.Process.{Process}
+use Rattle.udp_runs.specs.declared.process.Process.{Process}
 use Rattle.udp_runs.specs.declared.node_state.NodeState.{NodeState}
-use Rattle.node_turns.specs.Machines.{GivesBack}
-use Rattle.node_turns.specs.Texts.{Line, Happens, Refuses, Appended, texts_of, events_in}
-use Rattle.node_turns.specs.Answers.{TakesTurn}
-use Rattle.node_turns.specs.declared.calls.Call.{Call}
+use Rattle.udp_runs.specs.Machines.{GivesBack}
+use Rattle.udp_runs.specs.Texts.{Line, Happens, Refuses, Appended, texts_of, events_in}
+use Rattle.udp_runs.specs.Answers.{TakesTurn}
+use Rattle.udp_runs.specs.declared.calls.Call.{Call}
 use Rattle.udp_runs.specs.Carrying.{At, Unlisted, DoesAt, DoesLine, line_of_event, why_unlisted, Starts, Unstarted, Crashes, Uncrashed, Uncalled, TurnBy, why_absent, why_unstarted, with_process}
-use Rattle.node_turns.specs.Calls.{Asks, Creates, Joins, Sends, Ticks, Suspects, Hints, Leaves}
+use Rattle.udp_runs.specs.Calls.{Asks, Creates, Joins, Sends, Ticks, Suspects, Hints, Leaves}
 use Rattle.udp_runs.specs.Nodes.{Plays, CannotStart, IsFirst, IsNext, AreUnused, GoesOn, GoesOnAt, processes_in}
-use Rattle.node_turns.specs.Processes.{net_of, state_text}
+use Rattle.udp_runs.specs.Processes.{net_of, state_text}
 use Rattle.udp_runs.proofs.PlacesSet.{set-self, set-other, at-place, length-set, take-more}
-use Rattle.node_turns.proofs.LinesAndEvents.{text-then, cut-whole, cut-behind, concat-then, take-front}
+use Rattle.udp_runs.proofs.LinesAndEvents.{text-then, cut-whole, cut-behind, concat-then, take-front}
 use Rattle.udp_runs.proofs.NodesGoOn.{plays-refused, turn-lists, turn-listed, plays-turn, plays-ended, turn-played, plays-killed, killed-played, plays-started, plays-failed, start-failed}
 
 -- a channel that shows a receiver has not ended

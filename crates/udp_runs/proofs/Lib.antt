@@ -1,3 +1,11 @@
+pub mod FirstLines
+pub mod LinesKept
+pub mod LinesAndEvents
+pub mod ProcessesTurn
+pub mod RunTextsEnd
+pub mod TellsBeforeOffers
+pub mod NodesTell
+pub mod LinesOwed
 pub mod PlacesSet
 pub mod NodesListed
 pub mod NodesGoOn

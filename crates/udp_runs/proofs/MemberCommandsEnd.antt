@@ -29,30 +29,30 @@ use Rattle.vsync_text.specs.declared.status.Status.TheVariants.{Done, Memory, Ou
 use Rattle.vsync_text.specs.Outcomes.{Ends, Written, memory_line}
 use Rattle.vsync_text.specs.Outcomes.Ends.{Whole, Cut}
 use Rattle.vsync_text.proofs.TextsFollow.{written-as, after-none, ends-then}
-use Rattle.node_turns.specs.declared.ends.Cut.{Cut as Why}
-use Rattle.node_turns.specs.declared.ends.Cut.TheVariants as cut
-use Rattle.node_turns.specs.Ends.{TakesMore, IsEndOf, IsNetlessText}
-use Rattle.node_turns.specs.Ends.IsEndText.{Finished}
-use Rattle.node_turns.specs.Ends.IsEndOf.{Over, Lacking, Failing}
-use Rattle.node_turns.specs.Ends.IsNetlessText.{Unprinted}
-use Rattle.node_turns.specs.Machines.{GivesBack}
+use Rattle.udp_runs.specs.declared.ends.Cut.{Cut as Why}
+use Rattle.udp_runs.specs.declared.ends.Cut.TheVariants as cut
+use Rattle.udp_runs.specs.Ends.{TakesMore, IsEndOf, IsNetlessText}
+use Rattle.udp_runs.specs.Ends.IsEndText.{Finished}
+use Rattle.udp_runs.specs.Ends.IsEndOf.{Over, Lacking, Failing}
+use Rattle.udp_runs.specs.Ends.IsNetlessText.{Unprinted}
+use Rattle.udp_runs.specs.Machines.{GivesBack}
 use Rattle.udp_runs.specs.Members.{IsListedText, IsToldText, IsTold, Way, RunsOn, StartsSaying, StartsTelling, StartsUp, WritesFirst, WritesStart, started_line, only}
 use Rattle.udp_runs.specs.Members.StartsTelling.{Started}
 use Rattle.udp_runs.specs.Members.WritesFirst.{Unbegun, Begun}
 use Rattle.udp_runs.specs.Members.IsListedText.{Netless, Told, Said}
 use Rattle.udp_runs.specs.Members.IsToldText.{All, Part, Unmade}
-use Rattle.node_turns.specs.declared.telling.Voice.{Voice}
-use Rattle.node_turns.specs.OwnLines.{OwnLine, InState, IsPlain, IsOwn, texts_of, events_in}
-use Rattle.node_turns.specs.Telling.{Writes, ShowsBegun, TellsFirst, BeginsWith, BeginsBy, EndsBy, PlaysAlone, first_call}
-use Rattle.node_turns.proofs.RunTextsEnd.{ended}
+use Rattle.udp_runs.specs.declared.telling.Voice.{Voice}
+use Rattle.udp_runs.specs.OwnLines.{OwnLine, InState, IsPlain, IsOwn, texts_of, events_in}
+use Rattle.udp_runs.specs.Telling.{Writes, ShowsBegun, TellsFirst, BeginsWith, BeginsBy, EndsBy, PlaysAlone, first_call}
+use Rattle.udp_runs.proofs.RunTextsEnd.{ended}
 use Rattle.law_runners.specs.Runs.{DrivesWithoutOffer}
 use Rattle.law_runners.proofs.SendsAreSaid.{drives-said}
-use Rattle.node_turns.specs.declared.calls.Call.{Call}
-use Rattle.node_turns.specs.Said.{says_nothing}
-use Rattle.node_turns.proofs.ProcessesTurn.{drives-then}
-use Rattle.node_turns.proofs.NodesTell.{writes-then}
-use Rattle.node_turns.proofs.LinesAndEvents.{take-some}
-use Rattle.node_turns.proofs.TellsBeforeOffers.{NamesOwn, all-then, begins-held, held-drives, first-drives, first-own, plain-names, first-all-said}
+use Rattle.udp_runs.specs.declared.calls.Call.{Call}
+use Rattle.udp_runs.specs.Said.{says_nothing}
+use Rattle.udp_runs.proofs.ProcessesTurn.{drives-then}
+use Rattle.udp_runs.proofs.NodesTell.{writes-then}
+use Rattle.udp_runs.proofs.LinesAndEvents.{take-some}
+use Rattle.udp_runs.proofs.TellsBeforeOffers.{NamesOwn, all-then, begins-held, held-drives, first-drives, first-own, plain-names, first-all-said}
 use Rattle.vsync_text.proofs.LinesWritten.{appends_then}
 
 -- nothing is given back

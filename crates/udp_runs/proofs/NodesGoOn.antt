@@ -20,13 +20,13 @@ use Rattle.law_runners.specs.Systems.{Gone, Played, PlayedOver, Nothing, PlayedT
 use Rattle.law_runners.specs.Systems.{Begins, Fails, Turns as Turned, Dies, Closes}
 use Rattle.law_runners.proofs.HandsPlay.{runner-is}
 use Rattle.law_runners.proofs.ItemsOfCalls.{drives-adds}
-use Rattle.node_turns.specs.declared.process.Process.{Process}
+use Rattle.udp_runs.specs.declared.process.Process.{Process}
 use Rattle.udp_runs.specs.declared.node_state.NodeState.{NodeState}
-use Rattle.node_turns.specs.Texts.{Line, Happens, Refuses, events_in}
+use Rattle.udp_runs.specs.Texts.{Line, Happens, Refuses, events_in}
 use Rattle.udp_runs.specs.Nodes.{Plays, IsFirst, IsNext, AreUnused}
-use Rattle.node_turns.specs.Processes.{Turns}
+use Rattle.udp_runs.specs.Processes.{Turns}
 use Rattle.udp_runs.proofs.PlacesSet.{set-same, set-other, places}
-use Rattle.node_turns.proofs.ProcessesTurn.{events-then}
+use Rattle.udp_runs.proofs.ProcessesTurn.{events-then}
 
 module _ {N S : Type 0} (log : N → Option Log) (failed : N → ℕ) (meaning : Meaning S) (group : List ℕ) where
   abbrev Play : List (NodeState N S) → List (Gone N) → List Line → List NetEvent → Type 0

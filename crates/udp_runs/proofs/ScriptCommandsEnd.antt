@@ -6,9 +6,9 @@ use Rattle.state_transfer.specs.Meanings.{Meaning}
 use Rattle.udp_net.specs.declared.node_ports.NodePort.{NodePort}
 use Rattle.udp_net.specs.Logs.{Log}
 use Rattle.law_runners.specs.Systems.{Gone}
-use Rattle.node_turns.specs.declared.ends.Cut.TheVariants as cut
+use Rattle.udp_runs.specs.declared.ends.Cut.TheVariants as cut
 use Rattle.udp_runs.specs.Playing.{RunsLines}
-use Rattle.node_turns.specs.Texts.{texts_of}
+use Rattle.udp_runs.specs.Texts.{texts_of}
 use Rattle.vsync_text.specs.declared.fault.Fault.{Fault}
 use Rattle.vsync_text.specs.declared.udp_script.UdpLine.{UdpLine}
 use Rattle.vsync_text.specs.Script.{fault_number}
@@ -19,15 +19,15 @@ use Rattle.vsync_text.specs.declared.status.Status.TheVariants.{Memory}
 use Rattle.vsync_text.specs.Outcomes.{Ends, Written, IsFaultText, IsAnswer, memory_line}
 use Rattle.vsync_text.specs.Outcomes.IsAnswer.{Answers}
 use Rattle.vsync_text.proofs.TextsFollow.{written-as, answer-as, left-of, ends-then, after-none}
-use Rattle.node_turns.specs.declared.ends.Cut.{Cut as Why}
-use Rattle.node_turns.specs.declared.ends.Stop.{Stop}
-use Rattle.node_turns.specs.declared.ends.Stop.TheVariants.{Cut, NoNet}
-use Rattle.node_turns.specs.Ends.{IsEndOf, IsNetlessText}
+use Rattle.udp_runs.specs.declared.ends.Cut.{Cut as Why}
+use Rattle.udp_runs.specs.declared.ends.Stop.{Stop}
+use Rattle.udp_runs.specs.declared.ends.Stop.TheVariants.{Cut, NoNet}
+use Rattle.udp_runs.specs.Ends.{IsEndOf, IsNetlessText}
 use Rattle.udp_runs.specs.Scripts.{IsRunText, IsUnreadText, IsScriptText, RunsUdp, ReadsLines, texts_with}
 use Rattle.udp_runs.specs.Scripts.IsRunText.{Goes, Lacks, Stops}
 use Rattle.udp_runs.specs.Scripts.IsUnreadText.{Faulty, Unread}
 use Rattle.udp_runs.specs.Scripts.IsScriptText.{Runs, Unrun}
-use Rattle.node_turns.proofs.RunTextsEnd.{ended-so, lacking-so, failing-so}
+use Rattle.udp_runs.proofs.RunTextsEnd.{ended-so, lacking-so, failing-so}
 
 -- memory was refused before the script was read
 pub unread-text : (left a b : Option (List ℕ)) (status : Status) → Ends a b memory_line Memory status → IsAnswer IsUnreadText left a b status

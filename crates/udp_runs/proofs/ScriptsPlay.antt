@@ -11,21 +11,21 @@ use Rattle.udp_net.specs.declared.node_ports.NodePort.{NodePort}
 use Rattle.udp_net.specs.Logs.{Log, NetEvent}
 use Rattle.udp_member.specs.Turns.{Driven}
 use Rattle.law_runners.specs.Systems.{Gone, Played, PlayedAreSeen, PlayedTellNoStart}
-use Rattle.node_turns.specs.declared.ends.Cut.{Cut as Why}
-use Rattle.node_turns.specs.declared.ends.Cut.TheVariants as cut
-use Rattle.node_turns.specs.declared.ends.Stop.{Stop}
-use Rattle.node_turns.specs.declared.ends.Stop.TheVariants.{Cut, NoNet}
-use Rattle.node_turns.specs.declared.process.Process.{Process}
+use Rattle.udp_runs.specs.declared.ends.Cut.{Cut as Why}
+use Rattle.udp_runs.specs.declared.ends.Cut.TheVariants as cut
+use Rattle.udp_runs.specs.declared.ends.Stop.{Stop}
+use Rattle.udp_runs.specs.declared.ends.Stop.TheVariants.{Cut, NoNet}
+use Rattle.udp_runs.specs.declared.process.Process.{Process}
 use Rattle.udp_runs.specs.declared.node_state.NodeState.{NodeState}
 use Rattle.udp_runs.specs.Carrying.{AreListed, CarriesOut, DoesLine, Nothing, Then}
-use Rattle.node_turns.specs.Machines.{GivesBack}
+use Rattle.udp_runs.specs.Machines.{GivesBack}
 use Rattle.udp_runs.specs.Nodes.{Plays, GoesOn, AreUnused, processes_in}
 use Rattle.udp_runs.specs.Scripts.{HasRun, IsBegun, IsNoNet, StopsAt, texts_with}
-use Rattle.node_turns.specs.Processes.{net_of, state_text}
+use Rattle.udp_runs.specs.Processes.{net_of, state_text}
 use Rattle.udp_runs.specs.Scripts.IsBegun.{InLines, InStates}
 use Rattle.udp_runs.specs.Playing.{GoesOnBy, RunsLines, WritesStates}
-use Rattle.node_turns.specs.Texts.{Line, texts_of, events_in}
-use Rattle.node_turns.proofs.LinesAndEvents.{concat-then, texts-then}
+use Rattle.udp_runs.specs.Texts.{Line, texts_of, events_in}
+use Rattle.udp_runs.proofs.LinesAndEvents.{concat-then, texts-then}
 use Rattle.udp_runs.proofs.NodesGoOn.{plays-unused}
 use Rattle.udp_runs.proofs.CallsAmongOthers.{gives-none, gives-then, processes-then, one-process}
 use Rattle.vsync_text.proofs.LinesWritten.{appends_nothing, appends_then}

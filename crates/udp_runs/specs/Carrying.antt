@@ -17,13 +17,13 @@ use Rattle.udp_net.specs.declared.node_ports.NodePort.{NodePort}
 use Rattle.udp_net.specs.Logs.{Log, NetEvent, Lists}
 use Rattle.udp_member.specs.Turns.{Driven}
 use Rattle.udp_member.specs.Rounds.{Rounds as HasRound}
-use Rattle.node_turns.specs.declared.calls.Call.{Call}
-use Rattle.node_turns.specs.declared.process.Process.{Process}
+use Rattle.udp_runs.specs.declared.calls.Call.{Call}
+use Rattle.udp_runs.specs.declared.process.Process.{Process}
 use Rattle.udp_runs.specs.declared.node_state.NodeState.{NodeState}
-use Rattle.node_turns.specs.Answers.{Answered}
+use Rattle.udp_runs.specs.Answers.{Answered}
 use Rattle.udp_runs.specs.Nodes.{AreUnused, CannotStart, IsNext}
-use Rattle.node_turns.specs.Texts.{Line, Happens, Refuses}
-use Rattle.node_turns.specs.Calls.{Asks, MakesCall}
+use Rattle.udp_runs.specs.Texts.{Line, Happens, Refuses}
+use Rattle.udp_runs.specs.Calls.{Asks, MakesCall}
 
 -- ---- at one node
 

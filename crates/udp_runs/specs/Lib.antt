@@ -1,3 +1,16 @@
+pub mod Outboxes
+pub mod Unsaid
+pub mod Came
+pub mod Machines
+pub mod Ends
+pub mod Tallies
+pub mod Texts
+pub mod OwnLines
+pub mod Processes
+pub mod Answers
+pub mod Calls
+pub mod Said
+pub mod Telling
 pub mod Loopbacks
 pub mod NodeNets
 pub mod Nodes

@@ -7,7 +7,7 @@ use Rattle.udp_net.specs.declared.socket_net.SocketNet.{SocketNet}
 use Rattle.udp_net.specs.declared.error.BindError.{BindError}
 use Rattle.udp_net.specs.declared.error.BindError.TheVariants.{Config, Bind, Memory}
 use Rattle.frames.specs.Nets.{FramedModel}
-use Rattle.node_turns.specs.declared.manner.Tally.{Tally}
+use Rattle.udp_runs.specs.declared.manner.Tally.{Tally}
 use Rattle.udp_runs.specs.declared.node_net.NodeNet.{NodeNet}
 use Rattle.udp_runs.specs.declared.node_net.NodeNet.TheVariants.{Plain, Sealed}
 

@@ -21,14 +21,14 @@ use Rattle.law_runners.specs.Systems.{Gone, IsHistoryOf, with_runner}
 use Rattle.vsync_text.specs.declared.status.Status.{Status}
 use Rattle.vsync_text.specs.declared.status.Status.TheVariants.{Done, Memory}
 use Rattle.vsync_text.specs.Outcomes.{Written, memory_line}
-use Rattle.node_turns.specs.declared.ends.Cut.{Cut}
-use Rattle.node_turns.specs.declared.ends.Cut.TheVariants as cut
-use Rattle.node_turns.specs.Ends.{IsEndText, IsNetlessText}
-use Rattle.node_turns.specs.Machines.{GivesBack}
-use Rattle.node_turns.specs.OwnLines.{OwnLine, InState, IsPlain, IsOwn, texts_of, events_in}
-use Rattle.node_turns.specs.declared.calls.Call.{Call}
-use Rattle.node_turns.specs.declared.manner.NodeManner.{NodeManner}
-use Rattle.node_turns.specs.Telling.{Writes, TellsFirst, BeginsWith, BeginsBy, EndsBy, first_call}
+use Rattle.udp_runs.specs.declared.ends.Cut.{Cut}
+use Rattle.udp_runs.specs.declared.ends.Cut.TheVariants as cut
+use Rattle.udp_runs.specs.Ends.{IsEndText, IsNetlessText}
+use Rattle.udp_runs.specs.Machines.{GivesBack}
+use Rattle.udp_runs.specs.OwnLines.{OwnLine, InState, IsPlain, IsOwn, texts_of, events_in}
+use Rattle.udp_runs.specs.declared.calls.Call.{Call}
+use Rattle.udp_runs.specs.declared.manner.NodeManner.{NodeManner}
+use Rattle.udp_runs.specs.Telling.{Writes, TellsFirst, BeginsWith, BeginsBy, EndsBy, first_call}
 
 -- the line with which the text of a member begins
 abbrev pub started_line : Address → List ℕ

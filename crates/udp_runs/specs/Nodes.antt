@@ -7,10 +7,10 @@ use Rattle.trace_props.specs.Observed.{has_started}
 use Rattle.udp_net.specs.Logs.{Log, NetEvent}
 use Rattle.udp_member.specs.Turns.{Driven}
 use Rattle.law_runners.specs.Systems.{Gone, Played, PlayedOver, PlayedTellNoStart, has_ended}
-use Rattle.node_turns.specs.declared.process.Process.{Process}
+use Rattle.udp_runs.specs.declared.process.Process.{Process}
 use Rattle.udp_runs.specs.declared.node_state.NodeState.{NodeState}
-use Rattle.node_turns.specs.Texts.{Line, events_in, Appended}
-use Rattle.node_turns.specs.Machines.{GivesBack}
+use Rattle.udp_runs.specs.Texts.{Line, events_in, Appended}
+use Rattle.udp_runs.specs.Machines.{GivesBack}
 
 -- no node before this one is that of the number
 abbrev pub IsFirst : {N S : Type 0} → ℕ → ℕ → List (NodeState N S) → Type 0

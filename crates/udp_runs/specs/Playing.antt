@@ -9,18 +9,18 @@ use Rattle.udp_net.specs.declared.node_ports.NodePort.{NodePort}
 use Rattle.udp_net.specs.Logs.{Log, NetEvent}
 use Rattle.udp_member.specs.Turns.{Driven}
 use Rattle.law_runners.specs.Systems.{Gone, Played}
-use Rattle.node_turns.specs.declared.ends.Cut.{Cut as Why}
-use Rattle.node_turns.specs.declared.ends.Cut.TheVariants as cut
-use Rattle.node_turns.specs.declared.ends.Stop.{Stop}
-use Rattle.node_turns.specs.declared.ends.Stop.TheVariants.{Cut, NoNet}
-use Rattle.node_turns.specs.declared.process.Process.{Process}
+use Rattle.udp_runs.specs.declared.ends.Cut.{Cut as Why}
+use Rattle.udp_runs.specs.declared.ends.Cut.TheVariants as cut
+use Rattle.udp_runs.specs.declared.ends.Stop.{Stop}
+use Rattle.udp_runs.specs.declared.ends.Stop.TheVariants.{Cut, NoNet}
+use Rattle.udp_runs.specs.declared.process.Process.{Process}
 use Rattle.udp_runs.specs.declared.node_state.NodeState.{NodeState}
 use Rattle.udp_runs.specs.Carrying.{DoesLine}
-use Rattle.node_turns.specs.Machines.{GivesBack}
+use Rattle.udp_runs.specs.Machines.{GivesBack}
 use Rattle.udp_runs.specs.Nodes.{Plays}
 use Rattle.udp_runs.specs.Scripts.{HasRun, IsBegun, start_line, texts_with}
-use Rattle.node_turns.specs.Processes.{net_of}
-use Rattle.node_turns.specs.Texts.{Line, texts_of, events_in}
+use Rattle.udp_runs.specs.Processes.{net_of}
+use Rattle.udp_runs.specs.Texts.{Line, texts_of, events_in}
 
 -- a run of lines, and what is written by it: all, and the nets are given back; or why it is cut short, and a beginning
 abbrev pub RunsLines : {N S : Type 0} → (N → Option Log) → (N → ℕ) → Meaning S → (Address → S → List ℕ) → List ℕ → List NodePort → Option (List (Gone N)) → Option (List (Gone N))

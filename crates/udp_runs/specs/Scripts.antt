@@ -17,16 +17,16 @@ use Rattle.law_runners.specs.Systems.{Gone, IsHistoryOf, IsSeen}
 use Rattle.vsync_text.specs.declared.status.Status.{Status}
 use Rattle.vsync_text.specs.declared.status.Status.TheVariants.{Done, Memory}
 use Rattle.vsync_text.specs.Outcomes.{IsFaultText, IsAnswer, memory_line}
-use Rattle.node_turns.specs.declared.ends.Stop.{Stop}
-use Rattle.node_turns.specs.declared.ends.Stop.TheVariants.{Cut, NoNet}
-use Rattle.node_turns.specs.declared.process.Process.{Process}
+use Rattle.udp_runs.specs.declared.ends.Stop.{Stop}
+use Rattle.udp_runs.specs.declared.ends.Stop.TheVariants.{Cut, NoNet}
+use Rattle.udp_runs.specs.declared.process.Process.{Process}
 use Rattle.udp_runs.specs.declared.node_state.NodeState.{NodeState}
 use Rattle.udp_runs.specs.Carrying.{CarriesOut, line_of_event}
-use Rattle.node_turns.specs.Ends.{IsNetlessText}
-use Rattle.node_turns.specs.Machines.{GivesBack}
+use Rattle.udp_runs.specs.Ends.{IsNetlessText}
+use Rattle.udp_runs.specs.Machines.{GivesBack}
 use Rattle.udp_runs.specs.Nodes.{processes_in}
-use Rattle.node_turns.specs.Texts.{Line, texts_of, events_in}
-use Rattle.node_turns.specs.Processes.{net_of, state_text}
+use Rattle.udp_runs.specs.Texts.{Line, texts_of, events_in}
+use Rattle.udp_runs.specs.Processes.{net_of, state_text}
 
 -- the line that starts a node
 abbrev pub start_line : ℕ → ℕ → UdpLine

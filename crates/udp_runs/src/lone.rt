@@ -2,20 +2,24 @@
 
 ghost use Rattle.std.specs.Prelude.{◌≡◌, ℕ, Bool, List, [], Option, OnOk, IsOk};
 ghost use Rattle.std.specs.Option.{option_copied};
-ghost use Rattle.node_turns.specs.Telling.{BeginsBy, PlaysAlone, Quietly, TellsEnd, TellsFrom, TellsOn, Waits, first_call};
-ghost use Rattle.node_turns.specs.Said.{AreSame, MaySay};
-ghost use Rattle.node_turns.specs.Came.{IsEarlier, Keeps, Owes};
-ghost use Rattle.node_turns.specs.Outboxes.{nothing_waits};
+ghost use Rattle.udp_runs.specs.Telling.{BeginsBy, PlaysAlone, Quietly, TellsEnd, TellsFrom, TellsOn, Waits, first_call};
+ghost use Rattle.udp_runs.specs.Said.{AreSame, MaySay};
+ghost use Rattle.udp_runs.specs.Came.{IsEarlier, Keeps, Owes};
+ghost use Rattle.udp_runs.specs.Outboxes.{nothing_waits};
 
+use crate::calls::Call;
+use crate::ends::Cut;
+use crate::outbox::Outbox;
 use crate::searching::say_nothing;
 use crate::sending::take_lines;
+use crate::telling::Teller;
 use crate::watch::Watch;
+use crate::{Lines, NodeMachine, NodeManner, Tally};
 use address::limits::Refusal;
 use address::{Address, ViewId};
 use application::Application;
 use channel::Error;
 use node_finding::{Finder, milliseconds};
-use node_turns::{Call, Cut, Lines, NodeMachine, NodeManner, Outbox, Tally, Teller};
 use std::alloc::Global;
 use std::io::Write;
 use std::time::Duration;

@@ -1,12 +1,12 @@
 //! What whoever looks after a member sees of it that runs by itself.
 
 ghost use Rattle.std.specs.Prelude.{◌≡◌};
-ghost use Rattle.node_turns.specs.Said.{AreSame};
+ghost use Rattle.udp_runs.specs.Said.{AreSame};
 
 use crate::lone::LoneNode;
 use crate::sending::few_in;
+use crate::{NodeMachine, NodeStatus};
 use application::Application;
-use node_turns::{NodeMachine, NodeStatus};
 use udp_net::Net;
 
 impl<'a, N: Net, C: Application> LoneNode<'a, N, C> {

@@ -4,9 +4,9 @@ ghost use Rattle.std.specs.Result.{result_err};
 ghost use Rattle.udp_runs.specs.Loopbacks.{nothing_asked, unbound_after, IsSealedOver, IsMadeBy};
 
 use crate::node_net::NodeNet;
+use crate::{NodeMachine, NodeStatus, Notice, Tally};
 use address::{Address, Node};
 use frames::{BOOT, FramedNet};
-use node_turns::{NodeMachine, NodeStatus, Notice, Tally};
 use std::alloc::Global;
 use std::marker::Model;
 use std::os::fd::RawFd;

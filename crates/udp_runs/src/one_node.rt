@@ -5,15 +5,17 @@ ghost use Rattle.std.specs.Option.{ForSome, option_copied};
 ghost use Rattle.address.specs.Ids.{IsAddress};
 ghost use Rattle.udp_net.specs.Settings.{port_of};
 ghost use Rattle.udp_runs.specs.Members.{RunsMember, StartsUp, WritesFirst, WritesStart, way_of};
-ghost use Rattle.node_turns.specs.Said.{MaySay};
+ghost use Rattle.udp_runs.specs.Said.{MaySay};
 
+use crate::ends::{Cut, end, end_without_net, settle};
 use crate::lone::LoneNode;
+use crate::outbox::Outbox;
+use crate::process::member_at;
+use crate::unsaid::Unsaid;
+use crate::{Lines, NodeMachine, NodeManner};
 use address::Address;
 use application::Application;
 use law_runners::runners_are_synchronous;
-use node_turns::{
-    Cut, Lines, NodeMachine, NodeManner, Outbox, Unsaid, end, end_without_net, member_at, settle,
-};
 use std::alloc::Global;
 use std::io::Write;
 use trace_props::Event;

@@ -4,22 +4,24 @@ ghost use Rattle.std.specs.Prelude.{◌≡◌, ◌⊎◌, ℕ, List, [], Option,
 ghost use Rattle.std.specs.Option.{option_copied};
 ghost use Rattle.view.specs.Members.{View as ViewValue};
 ghost use Rattle.channel.specs.Channels.{view_in};
-ghost use Rattle.node_turns.specs.Telling.{Quietly};
-ghost use Rattle.node_turns.specs.Said.{IsId, MaySay};
-ghost use Rattle.node_turns.specs.Outboxes.{OutboxModel, without_next};
-ghost use Rattle.node_turns.specs.Unsaid.{UnsaidModel};
-ghost use Rattle.node_turns.specs.Came.{Fills, IsEarlier, IsLineOf, IsSentOf, IsText, Keeps, Owes};
+ghost use Rattle.udp_runs.specs.Telling.{Quietly};
+ghost use Rattle.udp_runs.specs.Said.{IsId, MaySay};
+ghost use Rattle.udp_runs.specs.Outboxes.{OutboxModel, without_next};
+ghost use Rattle.udp_runs.specs.Unsaid.{UnsaidModel};
+ghost use Rattle.udp_runs.specs.Came.{Fills, IsEarlier, IsLineOf, IsSentOf, IsText, Keeps, Owes};
 
+use crate::calls::send;
+use crate::ends::Cut;
 use crate::lone::{LoneNode, unless_memory};
+use crate::outbox::{Outbox, OutboxError};
 use crate::searching::whereabouts;
+use crate::unsaid::{Sent, Unsaid};
 use crate::watch::Watch;
+use crate::{LineTrouble, Lines, LinesError, Notice, Tally};
 use address::{Bytes, ViewId};
 use application::Application;
 use channel::Channel;
 use node_finding::Standing;
-use node_turns::{
-    Cut, LineTrouble, Lines, LinesError, Notice, Outbox, OutboxError, Sent, Tally, Unsaid, send,
-};
 use std::alloc::Global;
 use udp_net::Net;
 use vsync_text::{Fault, Unheard};

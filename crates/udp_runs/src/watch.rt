@@ -1,7 +1,7 @@
 //! What whoever looks after a node that runs by itself is told of it, and when (docs/CLI.md, "Nodes over UDP").
 
+use crate::Notice;
 use address::ViewId;
-use node_turns::Notice;
 use std::time::Duration;
 
 /// How often its status is shown at most, in seconds.

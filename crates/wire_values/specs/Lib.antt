@@ -6,3 +6,4 @@ pub mod Kinds
 pub mod Fields
 pub mod Texts
 pub mod Lists
+pub mod Posted

@@ -7,18 +7,18 @@ use Rattle.address.specs.Ids.{Address, same_address}
 use Rattle.address.proofs.SameIds.{same_address-refl}
 use Rattle.view.specs.Members.{View, stands_in}
 use Rattle.wire_values.specs.declared.packet.Body.TheVariants as bodies
+use Rattle.wire_values.specs.Posted.{packet}
 use Rattle.state_transfer.specs.Meanings.{Meaning}
-use Rattle.law_acts.specs.Acts.{packet}
 use Rattle.law_acts.proofs.KeepBySteps
 use Rattle.membership.specs.declared.member_state.MemberState.{MemberState}
 use Rattle.world_model.specs.Packets.{world_group}
-use Rattle.world_step.specs.Worlds.{WorldModel}
-use Rattle.world_step.specs.Plays.{lacks_memory, Breaks, BreaksPast}
+use Rattle.world.specs.Worlds.{WorldModel}
+use Rattle.world.specs.Plays.{lacks_memory, Breaks, BreaksPast}
 use Rattle.law_processes.proofs.PostsAreSpelled.{EachSound}
-use Rattle.world_step.proofs.Deliveries.{breaks-none, breaks-next}
-use Rattle.world_step.proofs.PoolPackets.{AreNext}
-use Rattle.world_step.proofs.Standing
-use Rattle.world_step.proofs.Standing.{Stands}
+use Rattle.world.proofs.Deliveries.{breaks-none, breaks-next}
+use Rattle.world.proofs.PoolPackets.{AreNext}
+use Rattle.world.proofs.Standing
+use Rattle.world.proofs.Standing.{Stands}
 use Rattle.world.specs.Settles.{EndsSettling}
 use Rattle.world.specs.LostInstalls.{awaited_at, BringsInShort, BringsShort}
 use Rattle.world.specs.LostInstalls.BringsInShort.{AtTick, AtReport, AtInstall}

@@ -6,10 +6,10 @@ use Rattle.std.proofs.lemmas.Option.{slice_get-get_or}
 use Rattle.address.specs.Ids.{Address}
 use Rattle.view.specs.Members.{View}
 use Rattle.state_transfer.specs.Meanings.{Meaning}
-use Rattle.world_step.specs.Worlds.{WorldModel, IsLonger}
+use Rattle.world.specs.Worlds.{WorldModel, IsLonger}
 use Rattle.world_model.specs.declared.WorldEvent.TheVariants.{Deliver, Tick}
-use Rattle.world_step.specs.Plays.{Plays, Fails, DeliversPast, BreaksPast}
-use Rattle.world_step.proofs.PlaysRun.{Ran, none-yet, stepped, failed, delivered, broken, ran-longer}
+use Rattle.world.specs.Plays.{Plays, Fails, DeliversPast, BreaksPast}
+use Rattle.world.proofs.PlaysRun.{Ran, none-yet, stepped, failed, delivered, broken, ran-longer}
 use Rattle.world.specs.LostInstalls.{awaits_install, BringsIn, BringsAll, BringsInShort, BringsShort}
 use Rattle.world.specs.LostInstalls.BringsAll.{Nobody, Next}
 use Rattle.world.specs.LostInstalls.BringsInShort.{AtTick, AtReport, AtInstall}

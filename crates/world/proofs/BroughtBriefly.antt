@@ -15,9 +15,9 @@ use Rattle.law_acts.specs.Packets.{IsProposal, BodyFact}
 use Rattle.wire_values.specs.declared.packet.Body.{Body}
 use Rattle.membership.specs.declared.member_state.MemberState.{MemberState}
 use Rattle.world_model.specs.declared.WorldEvent.TheVariants.{Deliver, Tick}
-use Rattle.world_step.specs.Worlds.{WorldModel}
-use Rattle.world_step.proofs.MembersAsSystem.{system_of}
-use Rattle.world_step.proofs.Standing
+use Rattle.world.specs.Worlds.{WorldModel}
+use Rattle.world.proofs.MembersAsSystem.{system_of}
+use Rattle.world.proofs.Standing
 use Rattle.world.specs.LostInstalls.{awaits_install, awaited_at, BringsIn, BringsAll}
 use Rattle.world.specs.LostInstalls.BringsAll.{Nobody, Next}
 use Rattle.world.proofs.WhoAwaits

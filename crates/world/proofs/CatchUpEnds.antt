@@ -7,10 +7,10 @@ use Rattle.std.proofs.lemmas.Option.{none-some, same_Some}
 use Rattle.address.specs.Ids.{Address, ViewId, same_address, same_view_id}
 use Rattle.view.specs.Members.{View}
 use Rattle.wire_values.specs.declared.packet.Body.TheVariants as bodies
+use Rattle.wire_values.specs.Posted.{packet}
 use Rattle.state_transfer.specs.Meanings.{Meaning}
 use Rattle.address.proofs.SameIds.{same_address-refl, same_address-true, same_address-sym, same_view_id-true}
 use Rattle.law_acts.specs.Cores.{Core, is_frozen}
-use Rattle.law_acts.specs.Acts.{packet}
 use Rattle.law_acts.proofs.KeepBySteps
 use Rattle.traffic.specs.declared.coordinator.Coordinator.{Coordinator}
 use Rattle.traffic.specs.declared.follower.Follower.{Follower}
@@ -25,19 +25,19 @@ use Rattle.member.specs.Members.{MemberModel}
 use Rattle.world_model.specs.declared.WorldEvent.TheVariants.{Deliver, Tick}
 use Rattle.world_model.specs.Histories.{last_of, is_connected}
 use Rattle.world.specs.declared.gaps.Pair.{Pair}
-use Rattle.world_step.specs.declared.node_state.NodeState.{NodeState}
-use Rattle.world_step.specs.declared.node_state.NodeState.TheVariants.{Vacant, Ended, Running}
-use Rattle.world_step.proofs.MembersAtNodes
-use Rattle.world_step.proofs.MembersAsSystem.{system_of}
-use Rattle.world_step.specs.Invariant.{IsWorld, IsNodeStateOf}
-use Rattle.world_step.specs.Worlds.{WorldModel}
-use Rattle.world_step.specs.Pools.{first_for}
-use Rattle.world_step.specs.Plays.{lacks_memory, Plays}
+use Rattle.world.specs.declared.node_state.NodeState.{NodeState}
+use Rattle.world.specs.declared.node_state.NodeState.TheVariants.{Vacant, Ended, Running}
+use Rattle.world.proofs.MembersAtNodes
+use Rattle.world.proofs.MembersAsSystem.{system_of}
+use Rattle.world.specs.Invariant.{IsWorld, IsNodeStateOf}
+use Rattle.world.specs.Worlds.{WorldModel}
+use Rattle.world.specs.Pools.{first_for}
+use Rattle.world.specs.Plays.{lacks_memory, Plays}
 use Rattle.world.specs.Gaps.{open_view, is_open_in, pair_of, pair_in, pair_at, Hands, CatchesUp, IsLevel}
 use Rattle.world.proofs.PairsCompared
-use Rattle.world_step.proofs.KeepOfWorlds
+use Rattle.world.proofs.KeepOfWorlds
 use Rattle.world.proofs.RepliesPlayed
-use Rattle.world_step.proofs.Standing
+use Rattle.world.proofs.Standing
 use Rattle.world.proofs.CatchUpLevels
 
 -- ---- one that is open in a view

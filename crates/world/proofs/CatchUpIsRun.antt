@@ -3,9 +3,9 @@ use Rattle.std.proofs.Common.{ℕ, Option, Some, None, sym, subst}
 use Rattle.std.specs.Option.{IsSomeAnd}
 use Rattle.state_transfer.specs.Meanings.{Meaning}
 use Rattle.world_model.specs.declared.WorldEvent.TheVariants.{Deliver}
-use Rattle.world_step.specs.Worlds.{WorldModel, IsLonger}
-use Rattle.world_step.specs.Plays.{Fails}
-use Rattle.world_step.proofs.PlaysRun.{Ran, none-yet, stepped, failed, delivered, broken, ran-longer}
+use Rattle.world.specs.Worlds.{WorldModel, IsLonger}
+use Rattle.world.specs.Plays.{Fails}
+use Rattle.world.proofs.PlaysRun.{Ran, none-yet, stepped, failed, delivered, broken, ran-longer}
 use Rattle.world.specs.declared.gaps.Pair.{Pair}
 use Rattle.world.specs.Gaps.{Hands, CatchesUp, Stops}
 use Rattle.world.specs.Gaps.Stops.{AtTick, AtStatus, AtRequest, AtAnswer}

@@ -11,11 +11,11 @@ use Rattle.view.specs.Members.{View, stands_in}
 use Rattle.wire_values.specs.Values.{Entry, Missing, held_at}
 use Rattle.state_transfer.specs.Meanings.{Meaning}
 use Rattle.wire_values.specs.declared.packet.Body.TheVariants as bodies
+use Rattle.wire_values.specs.Posted.{Posted, packet}
 use Rattle.trace_props.specs.Observed.{delivered_in}
 use Rattle.address.proofs.SameIds.{same_address-sym}
-use Rattle.law_acts.specs.Histories.{Posted}
 use Rattle.law_acts.specs.Cores.{ViewCore}
-use Rattle.law_acts.specs.Acts.{packet, others_of}
+use Rattle.law_acts.specs.Acts.{others_of}
 use Rattle.law_acts.specs.Packets.{HoldsAll}
 use Rattle.law_acts.proofs.ActBegins.{others-there}
 use Rattle.law_acts.proofs.KeepBySteps
@@ -34,24 +34,24 @@ use Rattle.member_rules.specs.Heard.{is_near}
 use Rattle.member_rules.specs.Ordered.{IsOrderly}
 use Rattle.world_model.specs.declared.WorldEvent.TheVariants.{Deliver}
 use Rattle.world_model.specs.Packets.{world_group, packet_numbered}
-use Rattle.world_step.specs.NodeStates.{bytes_of}
-use Rattle.world_step.specs.Turns.{OthersStand}
-use Rattle.world_step.specs.Invariant.{IsWorld}
-use Rattle.world_step.specs.Worlds.{WorldModel}
-use Rattle.world_step.specs.Pools.{is_destined, first_for}
-use Rattle.world_step.specs.Plays.{lacks_memory, Delivers, DeliversPast}
+use Rattle.world.specs.NodeStates.{bytes_of}
+use Rattle.world.specs.Turns.{OthersStand}
+use Rattle.world.specs.Invariant.{IsWorld}
+use Rattle.world.specs.Worlds.{WorldModel}
+use Rattle.world.specs.Pools.{is_destined, first_for}
+use Rattle.world.specs.Plays.{lacks_memory, Delivers, DeliversPast}
 use Rattle.world.proofs.WindowFills.{MissesWithin, asked-within, nothing-missing, filled}
 use Rattle.world.proofs.PairsCompared
-use Rattle.world_step.proofs.MembersAtNodes
-use Rattle.world_step.proofs.MembersAsSystem.{runs, system_of}
+use Rattle.world.proofs.MembersAtNodes
+use Rattle.world.proofs.MembersAsSystem.{runs, system_of}
 use Rattle.law_processes.proofs.PostsAreSpelled.{EachSound, bytes_for}
-use Rattle.world_step.proofs.KeepOfWorlds
+use Rattle.world.proofs.KeepOfWorlds
 use Rattle.world.proofs.RepliesPlayed
 use Rattle.world.proofs.FirstPackets.{first-found, each-at}
-use Rattle.world_step.proofs.Standing
+use Rattle.world.proofs.Standing
 use Rattle.step_output.specs.Steps.{who}
-use Rattle.world_step.proofs.PoolPackets.{IsSound, put-out, AreNext, put-next, next-rest, next-first}
-use Rattle.world_step.proofs.Deliveries.{delivers-none, delivers-next}
+use Rattle.world.proofs.PoolPackets.{IsSound, put-out, AreNext, put-next, next-rest, next-first}
+use Rattle.world.proofs.Deliveries.{delivers-none, delivers-next}
 
 -- ---- the two
 

@@ -5,10 +5,9 @@ use Rattle.std.proofs.lemmas.Bool.{and_from}
 use Rattle.address.specs.Ids.{Address, ViewId, same_address, same_view_id}
 use Rattle.view.specs.Members.{View}
 use Rattle.wire_values.specs.declared.packet.Body.TheVariants as bodies
+use Rattle.wire_values.specs.Posted.{Posted, packet}
 use Rattle.state_transfer.specs.Meanings.{Meaning}
 use Rattle.address.proofs.SameIds.{same_address-refl, same_address-sym, same_view_id-refl}
-use Rattle.law_acts.specs.Histories.{Posted}
-use Rattle.law_acts.specs.Acts.{packet}
 use Rattle.law_acts.proofs.KeepBySteps
 use Rattle.traffic.specs.declared.coordinator.Coordinator.{Coordinator}
 use Rattle.traffic.specs.declared.follower.Follower.{Follower}
@@ -20,24 +19,24 @@ use Rattle.membership.specs.declared.member_state.MemberState.{MemberState}
 use Rattle.world_model.specs.declared.WorldEvent.TheVariants.{Deliver, Tick}
 use Rattle.world_model.specs.Packets.{world_group}
 use Rattle.world.specs.declared.gaps.Pair.{Pair}
-use Rattle.world_step.specs.declared.node_state.NodeState.{NodeState}
-use Rattle.world_step.specs.declared.node_state.NodeState.TheVariants.{Running}
-use Rattle.world_step.specs.Invariant.{IsWorld}
-use Rattle.world_step.specs.Worlds.{WorldModel}
-use Rattle.world_step.specs.Pools.{first_for}
-use Rattle.world_step.specs.Plays.{lacks_memory, Plays, Fails, Breaks, BreaksPast, DeliversPast}
+use Rattle.world.specs.declared.node_state.NodeState.{NodeState}
+use Rattle.world.specs.declared.node_state.NodeState.TheVariants.{Running}
+use Rattle.world.specs.Invariant.{IsWorld}
+use Rattle.world.specs.Worlds.{WorldModel}
+use Rattle.world.specs.Pools.{first_for}
+use Rattle.world.specs.Plays.{lacks_memory, Plays, Fails, Breaks, BreaksPast, DeliversPast}
 use Rattle.world.specs.Gaps.{open_view, is_open_in, pair_at, Hands, Stops, BothRun, EndsSo}
 use Rattle.world.specs.Gaps.Stops.{AtTick, AtStatus, AtRequest, AtAnswer}
 use Rattle.world.proofs.WindowFills.{MissesWithin}
 use Rattle.law_processes.proofs.PostsAreSpelled.{EachSound}
-use Rattle.world_step.proofs.KeepOfWorlds
+use Rattle.world.proofs.KeepOfWorlds
 use Rattle.world.proofs.RepliesPlayed
-use Rattle.world_step.proofs.Standing
+use Rattle.world.proofs.Standing
 use Rattle.world.proofs.CatchUpLevels
 use Rattle.world.proofs.CatchUpEnds
 use Rattle.step_output.specs.Steps.{who}
-use Rattle.world_step.proofs.PoolPackets.{AreNext, next-rest, next-first}
-use Rattle.world_step.proofs.Deliveries.{breaks-none, breaks-next}
+use Rattle.world.proofs.PoolPackets.{AreNext, next-rest, next-first}
+use Rattle.world.proofs.Deliveries.{breaks-none, breaks-next}
 
 module _ {S : Type 0} (meaning : Meaning S) where
   -- who runs in a view is open there

@@ -6,7 +6,7 @@ use Rattle.std.proofs.lemmas.Option.{same_Some}
 use Rattle.view.specs.Members.{View}
 use Rattle.state_transfer.specs.Meanings.{Meaning}
 use Rattle.law_acts.proofs.KeepBySteps
-use Rattle.world_step.specs.Worlds.{WorldModel, IsLonger}
+use Rattle.world.specs.Worlds.{WorldModel, IsLonger}
 use Rattle.world.specs.Settles.{settling_at, Settles, SettlesShort, IsSettled, EndsSettling}
 use Rattle.world.specs.LostInstalls.{awaited_at, BringsAll, BringsShort}
 use Rattle.world.specs.LowProposals.{overtaking_at, OvertakesAndSettles, OvertakesShort}

@@ -9,11 +9,10 @@ use Rattle.address.specs.Ids.{Address, same_address}
 use Rattle.address.proofs.SameIds.{same_address-true, same_address-sym}
 use Rattle.view.specs.Members.{stands_in}
 use Rattle.wire_values.specs.declared.packet.Body.{Body}
-use Rattle.law_acts.specs.Histories.{Posted}
-use Rattle.law_acts.specs.Acts.{packet}
+use Rattle.wire_values.specs.Posted.{Posted, packet}
 use Rattle.world_model.specs.Packets.{world_group}
-use Rattle.world_step.specs.Pools.{is_destined}
-use Rattle.world_step.proofs.PoolPackets.{bytes_as, goes-to}
+use Rattle.world.specs.Pools.{is_destined}
+use Rattle.world.proofs.PoolPackets.{bytes_as, goes-to}
 use Rattle.law_processes.proofs.PostsAreSpelled.{EachSound, bytes_for}
 
 pub record FirstFor (q : Address) (m : Posted) (start : ℕ) (posted : List Posted) : Type 0 where

@@ -11,10 +11,9 @@ use Rattle.view.specs.Members.{View, stands_in}
 use Rattle.view.proofs.MembersListed.{all-by}
 use Rattle.state_transfer.specs.Meanings.{Meaning}
 use Rattle.view_install.specs.Promises.{offered, is_accept}
-use Rattle.law_acts.specs.Histories.{Posted}
 use Rattle.law_acts.specs.Cores.{id_of}
-use Rattle.law_acts.specs.Acts.{packet}
 use Rattle.wire_values.specs.declared.packet.Body.TheVariants as bodies
+use Rattle.wire_values.specs.Posted.{Posted, packet}
 use Rattle.law_acts.specs.Members.{installed_as}
 use Rattle.law_acts.proofs.KeepBySteps
 use Rattle.traffic.specs.declared.view_state.ViewState.{ViewState}
@@ -22,16 +21,16 @@ use Rattle.membership.specs.declared.member_state.MemberState.{MemberState}
 use Rattle.membership.specs.MemberStates.{core_of as core_at, view_in, report_in, is_connected, is_sent_to}
 use Rattle.member.specs.Members.{MemberModel}
 use Rattle.world_model.specs.declared.WorldEvent.TheVariants.{Deliver, Tick}
-use Rattle.world_step.specs.declared.node_state.NodeState.{NodeState}
-use Rattle.world_step.specs.declared.node_state.NodeState.TheVariants.{Vacant, Ended, Running}
-use Rattle.world_step.specs.Turns.{OthersStand}
-use Rattle.world_step.specs.Worlds.{WorldModel}
-use Rattle.world_step.proofs.MembersAsSystem.{system_of}
-use Rattle.world_step.specs.Plays.{Plays, Delivers, DeliversPast}
-use Rattle.world_step.proofs.PoolPackets.{AreNext, next-first}
-use Rattle.world_step.proofs.Deliveries.{delivers-none, delivers-next}
-use Rattle.world_step.proofs.Standing
-use Rattle.world_step.proofs.Standing.{Stands}
+use Rattle.world.specs.declared.node_state.NodeState.{NodeState}
+use Rattle.world.specs.declared.node_state.NodeState.TheVariants.{Vacant, Ended, Running}
+use Rattle.world.specs.Turns.{OthersStand}
+use Rattle.world.specs.Worlds.{WorldModel}
+use Rattle.world.proofs.MembersAsSystem.{system_of}
+use Rattle.world.specs.Plays.{Plays, Delivers, DeliversPast}
+use Rattle.world.proofs.PoolPackets.{AreNext, next-first}
+use Rattle.world.proofs.Deliveries.{delivers-none, delivers-next}
+use Rattle.world.proofs.Standing
+use Rattle.world.proofs.Standing.{Stands}
 use Rattle.world.specs.Settles.{would_follow, IsSettled}
 use Rattle.world.specs.LostInstalls.{view_at, keeps_install, awaits_install, is_inside, awaited, awaited_at, BringsIn, BringsAll}
 use Rattle.world.specs.LostInstalls.BringsAll.{Nobody, Next}

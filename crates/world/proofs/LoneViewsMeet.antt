@@ -18,11 +18,12 @@ use Rattle.next_view.specs.Noting.{noting_view}
 use Rattle.next_view.specs.Candidates.{all_candidates, candidates, next_counter, is_changed}
 use Rattle.wire_values.specs.Values.{Report}
 use Rattle.wire_values.specs.declared.packet.Body.TheVariants as bodies
+use Rattle.wire_values.specs.Posted.{packet}
 use Rattle.state_transfer.specs.Meanings.{Meaning}
 use Rattle.flush.specs.Flushes.{FlushModel}
 use Rattle.view_install.specs.Promises.{PromiseModel, offered, is_accept}
 use Rattle.law_acts.specs.Cores.{Core}
-use Rattle.law_acts.specs.Acts.{packet, proposed}
+use Rattle.law_acts.specs.Acts.{proposed}
 use Rattle.law_acts.specs.Decisions.{due_proposal, due_at, regroups_in, is_due, proposal_after, next_proposal, promised_counter}
 use Rattle.law_acts.proofs.KeepBySteps
 use Rattle.step_output.specs.declared.output.Output.{Output}
@@ -38,16 +39,16 @@ use Rattle.member.specs.Members.{MemberModel}
 use Rattle.member_rules.specs.Views.{OnMerge, Meets, merged, view_for, leads_now, has_member, is_less}
 use Rattle.world_model.specs.declared.WorldEvent.TheVariants.{Deliver, MergeHint}
 use Rattle.world_model.specs.Packets.{world_group}
-use Rattle.world_step.specs.declared.node_state.NodeState.TheVariants.{Running}
-use Rattle.world_step.specs.Worlds.{WorldModel}
-use Rattle.world_step.proofs.MembersAtNodes
-use Rattle.world_step.proofs.InputsTaken.{when-true, when-false}
-use Rattle.world_step.proofs.KeepOfWorlds
+use Rattle.world.specs.declared.node_state.NodeState.TheVariants.{Running}
+use Rattle.world.specs.Worlds.{WorldModel}
+use Rattle.world.proofs.MembersAtNodes
+use Rattle.world.proofs.InputsTaken.{when-true, when-false}
+use Rattle.world.proofs.KeepOfWorlds
 use Rattle.law_processes.proofs.PostsAreSpelled.{bytes_for}
-use Rattle.world_step.specs.Plays.{lacks_memory}
-use Rattle.world_step.proofs.PoolPackets.{AreNext, put-next, next-first, put-out}
-use Rattle.world_step.proofs.Standing
-use Rattle.world_step.proofs.Standing.{Stands}
+use Rattle.world.specs.Plays.{lacks_memory}
+use Rattle.world.proofs.PoolPackets.{AreNext, put-next, next-first, put-out}
+use Rattle.world.proofs.Standing
+use Rattle.world.proofs.Standing.{Stands}
 use Rattle.world.specs.Settles.{would_follow, followed, settling_in, settling_at, Settles, IsSettled}
 use Rattle.world.specs.Meets.{StandsAlone, NotesNobody, counter_in, HintsAndDelivers}
 use Rattle.world.proofs.StageOfFlushes.{Keeps, sure}

@@ -7,8 +7,8 @@ use Rattle.address.specs.Ids.{Address}
 use Rattle.view.specs.Members.{View, stands_in}
 use Rattle.state_transfer.specs.Meanings.{Meaning}
 use Rattle.law_acts.proofs.KeepBySteps
-use Rattle.world_step.specs.declared.node_state.NodeState.{NodeState}
-use Rattle.world_step.specs.Worlds.{WorldModel}
+use Rattle.world.specs.declared.node_state.NodeState.{NodeState}
+use Rattle.world.specs.Worlds.{WorldModel}
 use Rattle.world.specs.Settles.{Settles, SettlesShort, EndsSettling}
 use Rattle.world.specs.LowProposals.{promised_past, furthest, beyond, beyond_all, raised_at, asked_at, asked_past, round_at, overtaking_at, Raises, RaisesShort, RaisesTwice, RaisesTwiceShort, RaisesIf, Overtakes, OvertakesAndSettles, OvertakesShort}
 use Rattle.world.specs.LowProposals.RaisesTwiceShort.{InFirst, InSecond}

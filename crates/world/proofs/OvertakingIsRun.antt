@@ -5,10 +5,10 @@ use Rattle.std.specs.Option.{IsSomeAnd}
 use Rattle.address.specs.Ids.{Address}
 use Rattle.state_transfer.specs.Meanings.{Meaning}
 use Rattle.world_model.specs.declared.WorldEvent.TheVariants.{Deliver, Tick}
-use Rattle.world_step.specs.Pools.{first_for}
-use Rattle.world_step.specs.Worlds.{WorldModel, IsLonger}
-use Rattle.world_step.specs.Plays.{Plays, Fails}
-use Rattle.world_step.proofs.PlaysRun.{Ran, none-yet, stepped, failed, ran-longer}
+use Rattle.world.specs.Pools.{first_for}
+use Rattle.world.specs.Worlds.{WorldModel, IsLonger}
+use Rattle.world.specs.Plays.{Plays, Fails}
+use Rattle.world.proofs.PlaysRun.{Ran, none-yet, stepped, failed, ran-longer}
 use Rattle.world.specs.LowProposals.{asked_at, Raises, RaisesShort, RaisesTwice, RaisesTwiceShort, Overtakes, OvertakesAndSettles, OvertakesShort}
 use Rattle.world.specs.LowProposals.RaisesTwiceShort.{InSecond}
 use Rattle.world.specs.LowProposals.RaisesShort.{AtTick, AtFlush, AtBehind}

@@ -13,12 +13,12 @@ use Rattle.law_acts.proofs.KeepBySteps
 use Rattle.member.specs.Members.{MemberModel}
 use Rattle.world_model.specs.Histories.{History, running}
 use Rattle.world.specs.declared.gaps.Pair.{Pair}
-use Rattle.world_step.specs.declared.node_state.NodeState.{NodeState}
-use Rattle.world_step.specs.declared.node_state.NodeState.TheVariants.{Vacant, Ended, Running}
+use Rattle.world.specs.declared.node_state.NodeState.{NodeState}
+use Rattle.world.specs.declared.node_state.NodeState.TheVariants.{Vacant, Ended, Running}
 use Rattle.world.specs.Gaps.{is_open_in, pair_of, pair_in, pair_at, runs_open_in, has_open_pair}
-use Rattle.world_step.proofs.KeepByTurn
-use Rattle.world_step.proofs.MembersAtNodes
-use Rattle.world_step.proofs.WorldsAfterEvents
+use Rattle.world.proofs.KeepByTurn
+use Rattle.world.proofs.MembersAtNodes
+use Rattle.world.proofs.WorldsAfterEvents
 
 -- ---- one member
 

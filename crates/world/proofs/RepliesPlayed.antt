@@ -7,11 +7,11 @@ use Rattle.address.specs.Ids.{Address, same_address}
 use Rattle.view.specs.Members.{stands_in}
 use Rattle.wire_values.specs.Values.{Entry, Missing, Progress}
 use Rattle.wire_values.specs.declared.packet.Body.TheVariants as bodies
+use Rattle.wire_values.specs.Posted.{Posted, packet}
 use Rattle.state_transfer.specs.Meanings.{Meaning}
 use Rattle.trace_props.specs.declared.event.Event.{Event}
 use Rattle.address.proofs.SameIds.{same_address-refl, same_view_id-refl}
-use Rattle.law_acts.specs.Histories.{Posted}
-use Rattle.law_acts.specs.Acts.{packet, others_of}
+use Rattle.law_acts.specs.Acts.{others_of}
 use Rattle.step_output.specs.declared.output.Output.{Output}
 use Rattle.step_output.specs.Outputs.{Puts, Grows}
 use Rattle.traffic.specs.declared.coordinator.Coordinator.{Coordinator}
@@ -26,19 +26,19 @@ use Rattle.member_rules.specs.Messages.{ByKind, AtFollower, OnNak, OnOrder, OnSt
 use Rattle.member.specs.Doing.{Ticks}
 use Rattle.world_model.specs.declared.WorldEvent.TheVariants.{Tick}
 use Rattle.world_model.specs.Packets.{world_group}
-use Rattle.world_step.specs.NodeStates.{bytes_of}
-use Rattle.world_step.specs.Turns.{OthersStand}
-use Rattle.world_step.specs.Worlds.{WorldModel, WorldStep}
-use Rattle.world_step.specs.Plays.{lacks_memory}
+use Rattle.world.specs.NodeStates.{bytes_of}
+use Rattle.world.specs.Turns.{OthersStand}
+use Rattle.world.specs.Worlds.{WorldModel, WorldStep}
+use Rattle.world.specs.Plays.{lacks_memory}
 use Rattle.law_processes.proofs.PostsAreSpelled.{EachSound, bytes_for}
-use Rattle.world_step.proofs.InputsTaken.{when-true}
-use Rattle.world_step.proofs.PlayedEvents
-use Rattle.world_step.proofs.Standing
-use Rattle.world_step.proofs.Standing.{Stands}
+use Rattle.world.proofs.InputsTaken.{when-true}
+use Rattle.world.proofs.PlayedEvents
+use Rattle.world.proofs.Standing
+use Rattle.world.proofs.Standing.{Stands}
 use Rattle.step_output.specs.Steps.{who}
 use Rattle.traffic.specs.InViews.{in_view}
 use Rattle.membership.specs.InSteps.{in_step}
-use Rattle.world_step.proofs.PoolPackets.{put-out, happens}
+use Rattle.world.proofs.PoolPackets.{put-out, happens}
 
 module _ {S : Type 0} (meaning : Meaning S) where
   -- the member of an address runs, in a view, and is not blocked

@@ -8,16 +8,17 @@ use Rattle.address.proofs.SameIds.{same_address-sym}
 use Rattle.view.specs.Members.{View, stands_in}
 use Rattle.view.proofs.MembersListed.{all-by, coordinator-in}
 use Rattle.wire_values.specs.declared.packet.Body.TheVariants as bodies
+use Rattle.wire_values.specs.Posted.{packet}
 use Rattle.state_transfer.specs.Meanings.{Meaning}
 use Rattle.next_view.specs.Candidates.{candidates}
 use Rattle.next_view.proofs.LeadersStandFirst.{candidates-are-a-view}
-use Rattle.law_acts.specs.Acts.{packet, proposed}
+use Rattle.law_acts.specs.Acts.{proposed}
 use Rattle.law_acts.proofs.KeepBySteps
 use Rattle.world_model.specs.declared.WorldEvent.TheVariants.{Deliver, Tick}
-use Rattle.world_step.specs.Pools.{first_for}
-use Rattle.world_step.specs.Worlds.{WorldModel}
-use Rattle.world_step.specs.Plays.{lacks_memory, Plays, Fails}
-use Rattle.world_step.proofs.Standing
+use Rattle.world.specs.Pools.{first_for}
+use Rattle.world.specs.Worlds.{WorldModel}
+use Rattle.world.specs.Plays.{lacks_memory, Plays, Fails}
+use Rattle.world.proofs.Standing
 use Rattle.world.specs.Settles.{would_follow, EndsSettling}
 use Rattle.world.specs.LowProposals.{RaisesShort}
 use Rattle.world.specs.LowProposals.RaisesShort.{AtTick, AtFlush, AtBehind}

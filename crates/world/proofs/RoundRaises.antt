@@ -20,11 +20,12 @@ use Rattle.next_view.specs.ViewNotes.{having_heard}
 use Rattle.next_view.specs.Candidates.{candidates, next_counter}
 use Rattle.wire_values.specs.Values.{Report}
 use Rattle.wire_values.specs.declared.packet.Body.TheVariants as bodies
+use Rattle.wire_values.specs.Posted.{packet}
 use Rattle.state_transfer.specs.Meanings.{Meaning}
 use Rattle.flush.specs.Flushes.{FlushModel, has_reported, is_awaited}
 use Rattle.view_install.specs.Promises.{PromiseModel, answer_past, offered, is_accept, promising}
 use Rattle.view_install.specs.declared.promise.OfferAnswer.TheVariants.{Accept, Ignore}
-use Rattle.law_acts.specs.Acts.{packet, proposed}
+use Rattle.law_acts.specs.Acts.{proposed}
 use Rattle.law_acts.specs.Decisions.{proposal_after, promised_counter}
 use Rattle.law_acts.proofs.KeepBySteps
 use Rattle.step_output.specs.Outputs.{Grows}
@@ -37,19 +38,19 @@ use Rattle.member.specs.Members.{MemberModel}
 use Rattle.member_rules.specs.Views.{OnFlush, OnBehind}
 use Rattle.world_model.specs.declared.WorldEvent.TheVariants.{Deliver, Tick}
 use Rattle.world_model.specs.Packets.{world_group, packet_numbered}
-use Rattle.world_step.specs.declared.node_state.NodeState.{NodeState}
-use Rattle.world_step.specs.declared.node_state.NodeState.TheVariants.{Vacant, Ended, Running}
-use Rattle.world_step.specs.Pools.{is_destined, first_for}
-use Rattle.world_step.specs.Turns.{OthersStand}
-use Rattle.world_step.specs.Worlds.{WorldModel}
-use Rattle.world_step.proofs.MembersAtNodes
-use Rattle.world_step.proofs.InputsTaken.{when-false}
-use Rattle.world_step.proofs.KeepOfWorlds
+use Rattle.world.specs.declared.node_state.NodeState.{NodeState}
+use Rattle.world.specs.declared.node_state.NodeState.TheVariants.{Vacant, Ended, Running}
+use Rattle.world.specs.Pools.{is_destined, first_for}
+use Rattle.world.specs.Turns.{OthersStand}
+use Rattle.world.specs.Worlds.{WorldModel}
+use Rattle.world.proofs.MembersAtNodes
+use Rattle.world.proofs.InputsTaken.{when-false}
+use Rattle.world.proofs.KeepOfWorlds
 use Rattle.law_processes.proofs.PostsAreSpelled.{bytes_for}
-use Rattle.world_step.specs.Plays.{lacks_memory, Plays}
-use Rattle.world_step.proofs.PoolPackets.{bytes_as, IsSound, put-out, put-next, next-first}
-use Rattle.world_step.proofs.Standing
-use Rattle.world_step.proofs.Standing.{Stands}
+use Rattle.world.specs.Plays.{lacks_memory, Plays}
+use Rattle.world.proofs.PoolPackets.{bytes_as, IsSound, put-out, put-next, next-first}
+use Rattle.world.proofs.Standing
+use Rattle.world.proofs.Standing.{Stands}
 use Rattle.world.specs.Settles.{would_follow}
 use Rattle.world.specs.LowProposals.{told, past_in, promised_past, anew_with, raised, raised_in, raised_at, Raises, flush_in, IsRaised}
 use Rattle.world.proofs.ReportsMissing.{awaited_by}

@@ -25,11 +25,11 @@ use Rattle.law_acts.proofs.KeepBySteps
 use Rattle.membership.specs.declared.member_state.MemberState.{MemberState}
 use Rattle.membership.specs.MemberStates.{core_of as core_at, is_connected}
 use Rattle.member.specs.Members.{MemberModel}
-use Rattle.world_step.specs.declared.node_state.NodeState.{NodeState}
-use Rattle.world_step.specs.declared.node_state.NodeState.TheVariants.{Vacant, Ended, Running}
-use Rattle.world_step.specs.Worlds.{WorldModel}
-use Rattle.world_step.proofs.Standing
-use Rattle.world_step.proofs.Standing.{Stands}
+use Rattle.world.specs.declared.node_state.NodeState.{NodeState}
+use Rattle.world.specs.declared.node_state.NodeState.TheVariants.{Vacant, Ended, Running}
+use Rattle.world.specs.Worlds.{WorldModel}
+use Rattle.world.proofs.Standing
+use Rattle.world.proofs.Standing.{Stands}
 use Rattle.world.specs.Settles.{would_follow}
 use Rattle.world.specs.LowProposals.{told, past_in, promised_past, raised_at, asked_at, further, furthest, beyond, beyond_all, followed_by_all, overtaking_at, is_present, CanOvertake}
 use Rattle.world.proofs.WhoFollows

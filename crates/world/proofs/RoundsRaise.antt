@@ -15,8 +15,8 @@ use Rattle.law_acts.specs.Decisions.{promised_counter}
 use Rattle.membership.specs.declared.member_state.MemberState.{MemberState}
 use Rattle.membership.specs.MemberStates.{view_in, anew_past}
 use Rattle.member.specs.Members.{MemberModel}
-use Rattle.world_step.specs.declared.node_state.NodeState.{NodeState}
-use Rattle.world_step.specs.declared.node_state.NodeState.TheVariants.{Running}
+use Rattle.world.specs.declared.node_state.NodeState.{NodeState}
+use Rattle.world.specs.declared.node_state.NodeState.TheVariants.{Running}
 use Rattle.world.specs.declared.rounds.Round.{Round}
 use Rattle.world.specs.LowProposals.{promised_past, anew_with, raised, furthest, asked_of, asked_at, raised_at, round_in, round_at, beyond_all, followed_by_all, overtaking_at}
 use Rattle.world.proofs.RoundRaises.{when-there}

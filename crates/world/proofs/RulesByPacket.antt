@@ -9,8 +9,8 @@ use Rattle.address.proofs.SameIds.{same_view_id-refl}
 use Rattle.view.specs.Members.{View}
 use Rattle.wire_values.specs.Values as wire
 use Rattle.wire_values.specs.declared.packet.Body.TheVariants as bodies
+use Rattle.wire_values.specs.Posted.{packet}
 use Rattle.next_view.specs.ViewNotes.{having_heard}
-use Rattle.law_acts.specs.Acts.{packet}
 use Rattle.step_output.specs.Outputs.{Grows}
 use Rattle.state_transfer.specs.Meanings.{Meaning}
 use Rattle.flush.specs.Flushes.{FlushModel}
@@ -25,7 +25,7 @@ use Rattle.membership.specs.MemberStates.{is_complete, is_expected, recording, w
 use Rattle.membership.specs.Changes.{StaysAs, TakesBy, Promises, BeginsAndGoesOn, FinishesAndProposes, GoesOn, TakesReport, TakesBehind, TakesChunk, TakesInstall, Enters, would_enter}
 use Rattle.membership.specs.HeldChunks.{given_in}
 use Rattle.member_rules.specs.Views.{OnFlush, OnBehind, OnReport, expects, is_proposing}
-use Rattle.world_step.proofs.InputsTaken.{when-true, when-false}
+use Rattle.world.proofs.InputsTaken.{when-true, when-false}
 use Rattle.world.specs.LowProposals.{told}
 
 module _ {S : Type 0} (meaning : Meaning S) (who : Who) where

@@ -9,10 +9,10 @@ use Rattle.view.specs.Members.{View, stands_in, is_distinct}
 use Rattle.view.proofs.MembersListed.{coordinator-in}
 use Rattle.wire_values.specs.Values.{Report}
 use Rattle.wire_values.specs.declared.packet.Body.TheVariants as bodies
+use Rattle.wire_values.specs.Posted.{Posted, packet}
 use Rattle.state_transfer.specs.Meanings.{Meaning}
 use Rattle.flush.specs.Flushes.{FlushModel, previous_of}
-use Rattle.law_acts.specs.Histories.{Posted}
-use Rattle.law_acts.specs.Acts.{packet, proposed, others_of}
+use Rattle.law_acts.specs.Acts.{proposed, others_of}
 use Rattle.law_acts.proofs.KeepBySteps
 use Rattle.traffic.specs.declared.view_state.ViewState.{ViewState}
 use Rattle.traffic.specs.ViewStates.{view_of}
@@ -21,18 +21,18 @@ use Rattle.membership.specs.Installs.{instruction_to}
 use Rattle.world_model.specs.declared.WorldEvent.TheVariants.{Deliver, Tick}
 use Rattle.world_model.specs.Histories.{running}
 use Rattle.world_model.specs.Packets.{world_group}
-use Rattle.world_step.specs.Turns.{OthersStand}
-use Rattle.world_step.specs.Worlds.{WorldModel}
-use Rattle.world_step.proofs.MembersAtNodes
+use Rattle.world.specs.Turns.{OthersStand}
+use Rattle.world.specs.Worlds.{WorldModel}
+use Rattle.world.proofs.MembersAtNodes
 use Rattle.law_processes.proofs.PostsAreSpelled.{EachSound}
-use Rattle.world_step.specs.Plays.{lacks_memory, Fails, Delivers, Breaks}
-use Rattle.world_step.specs.Plays.Delivers.{Still, Next}
-use Rattle.world_step.specs.Plays.Breaks.{Here, Later}
-use Rattle.world_step.proofs.Deliveries.{breaks-none, breaks-next, BreaksLater}
-use Rattle.world_step.proofs.PlayedEvents
-use Rattle.world_step.proofs.PoolPackets.{AreNext}
-use Rattle.world_step.proofs.Standing
-use Rattle.world_step.proofs.Standing.{Stands}
+use Rattle.world.specs.Plays.{lacks_memory, Fails, Delivers, Breaks}
+use Rattle.world.specs.Plays.Delivers.{Still, Next}
+use Rattle.world.specs.Plays.Breaks.{Here, Later}
+use Rattle.world.proofs.Deliveries.{breaks-none, breaks-next, BreaksLater}
+use Rattle.world.proofs.PlayedEvents
+use Rattle.world.proofs.PoolPackets.{AreNext}
+use Rattle.world.proofs.Standing
+use Rattle.world.proofs.Standing.{Stands}
 use Rattle.world.specs.Settles.{settling_at, SettlesShort, EndsSettling}
 use Rattle.world.specs.Settles.SettlesShort.{AtTick, AtFlush, AtReport, AtInstall}
 use Rattle.world.proofs.ChunksInOrder.{chunks_from}

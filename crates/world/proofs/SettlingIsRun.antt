@@ -2,9 +2,9 @@
 use Rattle.std.proofs.Common.{◌≡◌, ℕ, ◌-◌, length, subst, arith}
 use Rattle.state_transfer.specs.Meanings.{Meaning}
 use Rattle.world_model.specs.declared.WorldEvent.TheVariants.{Tick}
-use Rattle.world_step.specs.Worlds.{WorldModel, IsLonger}
-use Rattle.world_step.specs.Plays.{Plays, Delivers, DeliversPast, Breaks, BreaksPast}
-use Rattle.world_step.proofs.PlaysRun.{Ran, none-yet, stepped, failed, delivered, broken, ran-longer}
+use Rattle.world.specs.Worlds.{WorldModel, IsLonger}
+use Rattle.world.specs.Plays.{Plays, Delivers, DeliversPast, Breaks, BreaksPast}
+use Rattle.world.proofs.PlaysRun.{Ran, none-yet, stepped, failed, delivered, broken, ran-longer}
 use Rattle.world.specs.Settles.{begun_in, Settles, SettlesShort}
 use Rattle.world.specs.Settles.SettlesShort.{AtTick, AtFlush, AtReport, AtInstall}
 

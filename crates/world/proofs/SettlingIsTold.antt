@@ -3,7 +3,7 @@ use Rattle.std.proofs.Common.{◌≡◌, ℕ, Bool, false, Option, Some, None, R
 use Rattle.std.specs.Prelude.{IfOk, OnOk, OnErr, MatchOption}
 use Rattle.std.specs.Option.{ForSome, IsSomeAnd}
 use Rattle.state_transfer.specs.Meanings.{Meaning}
-use Rattle.world_step.specs.Worlds.{WorldModel}
+use Rattle.world.specs.Worlds.{WorldModel}
 use Rattle.world.specs.Settles.{IsSettled}
 use Rattle.world.specs.Completing.{completing_at, Completes}
 use Rattle.world.specs.Settled.{SettlesAt}

@@ -20,11 +20,11 @@ use Rattle.state_transfer.specs.Meanings.{Meaning}
 use Rattle.trace_props.specs.Observed.{current_view}
 use Rattle.flush.specs.Flushes.{FlushModel, has_reported, report_from, previous_of}
 use Rattle.view_install.specs.Promises.{PromiseModel, offered, is_accept}
-use Rattle.law_acts.specs.Histories.{Posted}
 use Rattle.law_acts.specs.Cores.{id_of}
-use Rattle.law_acts.specs.Acts.{packet, proposed, others_of, chunk_packets}
+use Rattle.law_acts.specs.Acts.{proposed, others_of, chunk_packets}
 use Rattle.law_acts.specs.Decisions.{promise_of, kept_of}
 use Rattle.wire_values.specs.Chunks.{IsTotal}
+use Rattle.wire_values.specs.Posted.{Posted, packet}
 use Rattle.law_acts.proofs.KeepBySteps
 use Rattle.law_acts.proofs.FinishedFlushes.{report-recorded}
 use Rattle.step_output.specs.Outputs.{spelled}
@@ -38,25 +38,25 @@ use Rattle.world_model.specs.declared.WorldEvent.{WorldEvent}
 use Rattle.world_model.specs.declared.WorldEvent.TheVariants.{Deliver, Tick}
 use Rattle.world_model.specs.Histories.{History, last_of, running, is_connected as connected_in}
 use Rattle.world_model.specs.Packets.{world_group}
-use Rattle.world_step.specs.declared.node_state.NodeState.{NodeState}
-use Rattle.world_step.specs.declared.node_state.NodeState.TheVariants.{Vacant, Ended, Running}
-use Rattle.world_step.specs.NodeStates.{bytes_of}
-use Rattle.world_step.proofs.MembersAsSystem.{system_of}
-use Rattle.world_step.specs.Invariant.{IsNodeStateOf}
-use Rattle.world_step.specs.Worlds.{WorldModel}
-use Rattle.world_step.specs.Plays.{lacks_memory, Plays, Delivers, DeliversPast}
-use Rattle.world_step.specs.Plays.Delivers.{Still, Next}
+use Rattle.world.specs.declared.node_state.NodeState.{NodeState}
+use Rattle.world.specs.declared.node_state.NodeState.TheVariants.{Vacant, Ended, Running}
+use Rattle.world.specs.NodeStates.{bytes_of}
+use Rattle.world.proofs.MembersAsSystem.{system_of}
+use Rattle.world.specs.Invariant.{IsNodeStateOf}
+use Rattle.world.specs.Worlds.{WorldModel}
+use Rattle.world.specs.Plays.{lacks_memory, Plays, Delivers, DeliversPast}
+use Rattle.world.specs.Plays.Delivers.{Still, Next}
 use Rattle.law_processes.proofs.PostsAreSpelled.{EachSound, bytes_for}
-use Rattle.world_step.proofs.InputsTaken.{when-false}
-use Rattle.world_step.proofs.MembersAtNodes
-use Rattle.world_step.proofs.KeepOfWorlds
-use Rattle.world_step.proofs.PoolPackets.{AreNext, put-next}
+use Rattle.world.proofs.InputsTaken.{when-false}
+use Rattle.world.proofs.MembersAtNodes
+use Rattle.world.proofs.KeepOfWorlds
+use Rattle.world.proofs.PoolPackets.{AreNext, put-next}
 use Rattle.world.specs.Settles.{would_follow, followed, settling_in, settling_at, begun_in, Settles, IsSettled}
 use Rattle.world.proofs.SettlingsAreBrief.{shorter, members-few, chunks-few}
 use Rattle.world.proofs.WhoFollows
 use Rattle.world.proofs.ReportsMissing.{unreported, awaited_by, complete-at-last}
-use Rattle.world_step.proofs.Standing
-use Rattle.world_step.proofs.Standing.{Stands}
+use Rattle.world.proofs.Standing
+use Rattle.world.proofs.Standing.{Stands}
 use Rattle.world.proofs.StageOfFlushes
 use Rattle.world.proofs.StageOfFlushes.{Keeps, Accepts, Awaits, AreOthers, report_packets, flush_packets, sure}
 use Rattle.world.proofs.StageOfReports

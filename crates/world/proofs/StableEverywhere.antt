@@ -12,8 +12,8 @@ use Rattle.law_acts.specs.Known.{AllDelivered, Knows}
 use Rattle.law_acts.specs.Members.{installed_as}
 use Rattle.member.specs.Members.{MemberModel, core_of}
 use Rattle.world_model.specs.Histories.{running}
-use Rattle.world_step.specs.declared.node_state.NodeState.TheVariants.{Running}
-use Rattle.world_step.specs.Worlds.{WorldModel}
+use Rattle.world.specs.declared.node_state.NodeState.TheVariants.{Running}
+use Rattle.world.specs.Worlds.{WorldModel}
 use Rattle.world.specs.Known.{MembersKnow, IsStableAt}
 
 module _ {S : Type 0} (meaning : Meaning S) (t : List Event) (p : Address) where

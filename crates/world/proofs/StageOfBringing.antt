@@ -16,11 +16,11 @@ use Rattle.wire_values.specs.Values.{Chunk}
 use Rattle.wire_values.specs.declared.packet.Body.TheVariants as bodies
 use Rattle.wire_values.specs.declared.values.state.GivenState.{GivenState}
 use Rattle.wire_values.specs.declared.values.state.GivenState.TheVariants as forms
+use Rattle.wire_values.specs.Posted.{Posted, packet}
 use Rattle.state_transfer.specs.Meanings.{Meaning}
 use Rattle.flush.specs.Flushes.{FlushModel}
-use Rattle.law_acts.specs.Histories.{Posted, report_of}
+use Rattle.law_acts.specs.Histories.{report_of}
 use Rattle.law_acts.specs.Given.{Tells, chunk_at, chunks_of}
-use Rattle.law_acts.specs.Acts.{packet}
 use Rattle.trace_props.specs.State.{entry_state}
 use Rattle.law_acts.specs.Decisions.{is_entry}
 use Rattle.law_acts.specs.Packets.{IsInstruction}
@@ -40,17 +40,17 @@ use Rattle.membership.specs.HeldChunks.{chunk_count, is_new, is_there, has_all, 
 use Rattle.world_model.specs.declared.WorldEvent.TheVariants.{Deliver, Tick}
 use Rattle.traffic.proofs.NewViewTraffic.{fresh-view}
 use Rattle.world_model.specs.Packets.{world_group, packet_numbered}
-use Rattle.world_step.specs.NodeStates.{bytes_of}
-use Rattle.world_step.specs.Turns.{OthersStand}
-use Rattle.world_step.specs.Worlds.{WorldModel}
-use Rattle.world_step.proofs.MembersAsSystem.{system_of}
-use Rattle.world_step.proofs.InputsTaken.{when-true, when-false}
-use Rattle.world_step.proofs.KeepOfWorlds
-use Rattle.world_step.specs.Plays.{lacks_memory, Plays, Delivers}
-use Rattle.world_step.proofs.PoolPackets.{bytes_as, put-out, put-next, AreNext, next-first, next-rest}
-use Rattle.world_step.proofs.Deliveries.{delivers-none, delivers-next}
-use Rattle.world_step.proofs.Standing
-use Rattle.world_step.proofs.Standing.{Stands}
+use Rattle.world.specs.NodeStates.{bytes_of}
+use Rattle.world.specs.Turns.{OthersStand}
+use Rattle.world.specs.Worlds.{WorldModel}
+use Rattle.world.proofs.MembersAsSystem.{system_of}
+use Rattle.world.proofs.InputsTaken.{when-true, when-false}
+use Rattle.world.proofs.KeepOfWorlds
+use Rattle.world.specs.Plays.{lacks_memory, Plays, Delivers}
+use Rattle.world.proofs.PoolPackets.{bytes_as, put-out, put-next, AreNext, next-first, next-rest}
+use Rattle.world.proofs.Deliveries.{delivers-none, delivers-next}
+use Rattle.world.proofs.Standing
+use Rattle.world.proofs.Standing.{Stands}
 use Rattle.law_processes.proofs.PostsAreSpelled.{EachSound, bytes_for}
 use Rattle.world.proofs.WhoAwaits
 use Rattle.world.proofs.WhoAwaits.{Made, KeepsFor, Awaits, HasPromised}

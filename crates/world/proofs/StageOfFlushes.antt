@@ -11,11 +11,11 @@ use Rattle.address.proofs.SameIds.{same_address-refl, same_address-true, same_ad
 use Rattle.view.specs.Members.{View, stands_in, is_distinct}
 use Rattle.wire_values.specs.Values.{Report}
 use Rattle.wire_values.specs.declared.packet.Body.TheVariants as bodies
+use Rattle.wire_values.specs.Posted.{Posted, packet}
 use Rattle.state_transfer.specs.Meanings.{Meaning}
 use Rattle.flush.specs.Flushes.{FlushModel}
 use Rattle.view_install.specs.Promises.{offered, is_accept}
-use Rattle.law_acts.specs.Histories.{Posted}
-use Rattle.law_acts.specs.Acts.{packet, proposed}
+use Rattle.law_acts.specs.Acts.{proposed}
 use Rattle.law_acts.proofs.KeepBySteps
 use Rattle.step_output.specs.declared.output.Output.{Output}
 use Rattle.step_output.specs.Outputs.{Grows}
@@ -27,18 +27,18 @@ use Rattle.member_rules.specs.Views.{OnFlush, flushes_again, proposes_again, rep
 use Rattle.member.specs.Doing.{Ticks}
 use Rattle.world_model.specs.declared.WorldEvent.TheVariants.{Deliver}
 use Rattle.world_model.specs.Packets.{world_group}
-use Rattle.world_step.specs.Turns.{OthersStand}
-use Rattle.world_step.specs.Invariant.{IsWorld}
-use Rattle.world_step.specs.Worlds.{WorldModel}
-use Rattle.world_step.specs.Plays.{lacks_memory, Plays, Delivers}
+use Rattle.world.specs.Turns.{OthersStand}
+use Rattle.world.specs.Invariant.{IsWorld}
+use Rattle.world.specs.Worlds.{WorldModel}
+use Rattle.world.specs.Plays.{lacks_memory, Plays, Delivers}
 use Rattle.law_processes.proofs.PostsAreSpelled.{EachSound, bytes_for}
-use Rattle.world_step.proofs.InputsTaken.{when-true, when-false}
-use Rattle.world_step.proofs.KeepOfWorlds
-use Rattle.world_step.proofs.PoolPackets.{put-out, AreNext, next-first, next-rest}
-use Rattle.world_step.proofs.Deliveries.{delivers-none, delivers-next}
+use Rattle.world.proofs.InputsTaken.{when-true, when-false}
+use Rattle.world.proofs.KeepOfWorlds
+use Rattle.world.proofs.PoolPackets.{put-out, AreNext, next-first, next-rest}
+use Rattle.world.proofs.Deliveries.{delivers-none, delivers-next}
 use Rattle.world.proofs.RulesByPacket
-use Rattle.world_step.proofs.Standing
-use Rattle.world_step.proofs.Standing.{Stands}
+use Rattle.world.proofs.Standing
+use Rattle.world.proofs.Standing.{Stands}
 
 -- what was put out by one who reported
 abbrev pub report_packet : Address → ViewId → Address × Report → Posted

@@ -14,12 +14,12 @@ use Rattle.wire_values.specs.Values.{Chunk}
 use Rattle.wire_values.specs.declared.packet.Body.TheVariants as bodies
 use Rattle.wire_values.specs.declared.values.state.GivenState.{GivenState}
 use Rattle.wire_values.specs.declared.values.state.GivenState.TheVariants as forms
+use Rattle.wire_values.specs.Posted.{Posted, packet}
 use Rattle.state_transfer.specs.Meanings.{Meaning}
 use Rattle.flush.specs.Flushes.{FlushModel, previous_of}
-use Rattle.law_acts.specs.Histories.{Posted}
 use Rattle.law_acts.specs.Cores.{id_of}
 use Rattle.law_acts.specs.Given.{chunk_at, chunks_of}
-use Rattle.law_acts.specs.Acts.{packet, proposed, chunk_packets}
+use Rattle.law_acts.specs.Acts.{proposed, chunk_packets}
 use Rattle.law_acts.specs.Decisions.{form_of, is_entry}
 use Rattle.law_acts.specs.Packets.{IsInstruction}
 use Rattle.law_acts.proofs.KeepBySteps
@@ -34,21 +34,21 @@ use Rattle.membership.specs.Installs.{instruction_to, instructing}
 use Rattle.membership.specs.Changes.{TakesChunk, TakesInstall, Enters}
 use Rattle.world_model.specs.declared.WorldEvent.TheVariants.{Deliver}
 use Rattle.world_model.specs.Packets.{world_group}
-use Rattle.world_step.specs.NodeStates.{bytes_of}
-use Rattle.world_step.proofs.MembersAsSystem.{system_of}
-use Rattle.world_step.specs.Turns.{OthersStand}
-use Rattle.world_step.specs.Worlds.{WorldModel}
-use Rattle.world_step.specs.Plays.{lacks_memory, Plays, Delivers}
-use Rattle.world_step.specs.Plays.Delivers.{Still, Next}
+use Rattle.world.specs.NodeStates.{bytes_of}
+use Rattle.world.proofs.MembersAsSystem.{system_of}
+use Rattle.world.specs.Turns.{OthersStand}
+use Rattle.world.specs.Worlds.{WorldModel}
+use Rattle.world.specs.Plays.{lacks_memory, Plays, Delivers}
+use Rattle.world.specs.Plays.Delivers.{Still, Next}
 use Rattle.law_processes.proofs.PostsAreSpelled.{EachSound}
-use Rattle.world_step.proofs.KeepOfWorlds
-use Rattle.world_step.proofs.PoolPackets.{put-out, AreNext, next-first, next-rest}
-use Rattle.world_step.proofs.Deliveries.{delivers-none, delivers-next}
+use Rattle.world.proofs.KeepOfWorlds
+use Rattle.world.proofs.PoolPackets.{put-out, AreNext, next-first, next-rest}
+use Rattle.world.proofs.Deliveries.{delivers-none, delivers-next}
 use Rattle.world.proofs.ChunksInOrder.{chunks_from, next-is-new, all-there, one-further}
 use Rattle.world.proofs.PromisedGoIn
 use Rattle.world.proofs.RulesByPacket
-use Rattle.world_step.proofs.Standing
-use Rattle.world_step.proofs.Standing.{Stands}
+use Rattle.world.proofs.Standing
+use Rattle.world.proofs.Standing.{Stands}
 use Rattle.world.proofs.StageOfFlushes
 use Rattle.world.proofs.StageOfFlushes.{Keeps, sure}
 use Rattle.world.proofs.StageOfReports

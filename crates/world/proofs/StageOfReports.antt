@@ -16,9 +16,9 @@ use Rattle.wire_values.specs.declared.packet.Body.TheVariants as bodies
 use Rattle.state_transfer.specs.Meanings.{Meaning}
 use Rattle.trace_props.specs.declared.event.Event.{Event}
 use Rattle.flush.specs.Flushes.{FlushModel, has_reported, report_from, is_awaited, previous_of}
-use Rattle.law_acts.specs.Histories.{Posted, report_of}
+use Rattle.law_acts.specs.Histories.{report_of}
 use Rattle.law_acts.specs.Cores.{id_of, report_with}
-use Rattle.law_acts.specs.Acts.{packet, proposed, others_of}
+use Rattle.law_acts.specs.Acts.{proposed, others_of}
 use Rattle.law_acts.specs.Packets.{IsAnswer}
 use Rattle.law_acts.proofs.KeepBySteps
 use Rattle.law_acts.proofs.FinishedFlushes.{report-recorded}
@@ -29,6 +29,7 @@ use Rattle.step_output.proofs.GrowthAdds.{grows-nothing, grows-then}
 use Rattle.traffic.specs.declared.view_state.ViewState.{ViewState}
 use Rattle.traffic.proofs.NewViewTraffic.{fresh-view}
 use Rattle.wire_values.specs.Chunks.{IsTotal}
+use Rattle.wire_values.specs.Posted.{Posted, packet}
 use Rattle.law_acts.specs.Decisions.{due_proposal, kept_of}
 use Rattle.membership.specs.InSteps.{InStep, in_step}
 use Rattle.membership.specs.declared.member_state.MemberState.{MemberState}
@@ -38,21 +39,21 @@ use Rattle.membership.specs.Changes.{StaysAs, Begins, GoesOn}
 use Rattle.member_rules.specs.Views.{OnReport}
 use Rattle.world_model.specs.declared.WorldEvent.TheVariants.{Deliver}
 use Rattle.world_model.specs.Packets.{world_group}
-use Rattle.world_step.specs.NodeStates.{bytes_of}
-use Rattle.world_step.proofs.MembersAsSystem.{system_of}
-use Rattle.world_step.specs.Turns.{OthersStand}
-use Rattle.world_step.specs.Worlds.{WorldModel}
-use Rattle.world_step.specs.Plays.{lacks_memory, Plays, Delivers}
+use Rattle.world.specs.NodeStates.{bytes_of}
+use Rattle.world.proofs.MembersAsSystem.{system_of}
+use Rattle.world.specs.Turns.{OthersStand}
+use Rattle.world.specs.Worlds.{WorldModel}
+use Rattle.world.specs.Plays.{lacks_memory, Plays, Delivers}
 use Rattle.law_processes.proofs.PostsAreSpelled.{EachSound, bytes_for}
-use Rattle.world_step.proofs.InputsTaken.{when-false}
-use Rattle.world_step.proofs.KeepOfWorlds
-use Rattle.world_step.proofs.PoolPackets.{put-out, AreNext, next-first, next-rest}
-use Rattle.world_step.proofs.Deliveries.{delivers-none, delivers-next}
+use Rattle.world.proofs.InputsTaken.{when-false}
+use Rattle.world.proofs.KeepOfWorlds
+use Rattle.world.proofs.PoolPackets.{put-out, AreNext, next-first, next-rest}
+use Rattle.world.proofs.Deliveries.{delivers-none, delivers-next}
 use Rattle.world.proofs.WhoFollows
 use Rattle.world.proofs.ReportsMissing.{awaited_by, complete-at-last, waits-on, next-report, first-awaited}
 use Rattle.world.proofs.RulesByPacket
-use Rattle.world_step.proofs.Standing
-use Rattle.world_step.proofs.Standing.{Stands}
+use Rattle.world.proofs.Standing
+use Rattle.world.proofs.Standing.{Stands}
 use Rattle.world.proofs.StageOfFlushes.{report_packet, report_packets, Keeps, Awaits, awaits-still, sure}
 
 -- how many FLUSHes a member puts out for its own flush, where it begins one

@@ -26,14 +26,14 @@ use Rattle.membership.specs.declared.member_state.MemberState.{MemberState}
 use Rattle.membership.specs.MemberStates.{core_of as core_at, view_in, is_connected, is_complete, begun_with, anew_proposal}
 use Rattle.member.specs.Members.{MemberModel}
 use Rattle.world_model.specs.declared.WorldEvent.TheVariants.{Deliver, Tick}
-use Rattle.world_step.specs.declared.node_state.NodeState.{NodeState}
-use Rattle.world_step.specs.declared.node_state.NodeState.TheVariants.{Running}
-use Rattle.world_step.specs.Pools.{first_for}
-use Rattle.world_step.specs.Turns.{OthersStand}
-use Rattle.world_step.specs.Worlds.{WorldModel}
-use Rattle.world_step.specs.Plays.{Plays}
-use Rattle.world_step.proofs.Standing
-use Rattle.world_step.proofs.Standing.{Stands}
+use Rattle.world.specs.declared.node_state.NodeState.{NodeState}
+use Rattle.world.specs.declared.node_state.NodeState.TheVariants.{Running}
+use Rattle.world.specs.Pools.{first_for}
+use Rattle.world.specs.Turns.{OthersStand}
+use Rattle.world.specs.Worlds.{WorldModel}
+use Rattle.world.specs.Plays.{Plays}
+use Rattle.world.proofs.Standing
+use Rattle.world.proofs.Standing.{Stands}
 use Rattle.world.specs.Settles.{would_follow, followed, settling_in, settling_at, Settles, IsSettled}
 use Rattle.world.specs.LowProposals.{told, past_in, promised_past, raised_at, Raises, further, furthest, asked_of, asked_in, asked_at, beyond, beyond_all, followed_by_all, overtaking_at, Overtakes}
 use Rattle.world.proofs.SettlingsSettle

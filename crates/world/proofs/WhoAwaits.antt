@@ -34,10 +34,10 @@ use Rattle.membership.specs.MemberStates.{core_of as core_at, is_expected, view_
 use Rattle.membership.proofs.InstallsReadBack.{IsAgain, again-in, kept-are}
 use Rattle.member_rules.specs.Views.{expects}
 use Rattle.world_model.specs.Packets.{world_group}
-use Rattle.world_step.proofs.MembersAsSystem.{system_of}
-use Rattle.world_step.specs.Worlds.{WorldModel}
-use Rattle.world_step.proofs.Standing
-use Rattle.world_step.proofs.Standing.{Stands}
+use Rattle.world.proofs.MembersAsSystem.{system_of}
+use Rattle.world.specs.Worlds.{WorldModel}
+use Rattle.world.proofs.Standing
+use Rattle.world.proofs.Standing.{Stands}
 use Rattle.world.proofs.WhoFollows
 use Rattle.world.proofs.ChunksAreHeld.{are_of, are-all-of, finds}
 use Rattle.world.proofs.StageOfFlushes.{Keeps}

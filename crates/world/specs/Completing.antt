@@ -3,8 +3,8 @@ use Rattle.std.specs.Prelude.{◌≡◌, ◌≤◌, ℕ, ◌+◌, length, is_som
 use Rattle.std.specs.Option.{option_or}
 use Rattle.view.specs.Members.{View}
 use Rattle.state_transfer.specs.Meanings.{Meaning}
-use Rattle.world_step.specs.declared.node_state.NodeState.{NodeState}
-use Rattle.world_step.specs.Worlds.{WorldModel, IsReached}
+use Rattle.world.specs.declared.node_state.NodeState.{NodeState}
+use Rattle.world.specs.Worlds.{WorldModel, IsReached}
 use Rattle.world.specs.Settles.{settling_at, Settles, SettlesShort, IsSettled, EndsSettling}
 use Rattle.world.specs.LostInstalls.{awaited_at, BringsAll, BringsShort}
 use Rattle.world.specs.LowProposals.{overtaking_at, OvertakesAndSettles, OvertakesShort}

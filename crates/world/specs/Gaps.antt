@@ -12,11 +12,11 @@ use Rattle.member.specs.Members.{core_of}
 use Rattle.world_model.specs.declared.WorldEvent.TheVariants.{Deliver, Tick}
 use Rattle.world_model.specs.Histories.{running}
 use Rattle.world.specs.declared.gaps.Pair.{Pair}
-use Rattle.world_step.specs.declared.node_state.NodeState.{NodeState}
-use Rattle.world_step.specs.declared.node_state.NodeState.TheVariants.{Vacant, Ended, Running}
-use Rattle.world_step.specs.Worlds.{WorldModel}
-use Rattle.world_step.specs.Pools.{first_for}
-use Rattle.world_step.specs.Plays.{Plays, Fails, DeliversPast, BreaksPast}
+use Rattle.world.specs.declared.node_state.NodeState.{NodeState}
+use Rattle.world.specs.declared.node_state.NodeState.TheVariants.{Vacant, Ended, Running}
+use Rattle.world.specs.Worlds.{WorldModel}
+use Rattle.world.specs.Pools.{first_for}
+use Rattle.world.specs.Plays.{Plays, Fails, DeliversPast, BreaksPast}
 
 -- ---- whom it is about
 

@@ -9,9 +9,9 @@ use Rattle.law_acts.specs.Known.{AllDelivered, Knows}
 use Rattle.law_acts.specs.Members.{installed_as}
 use Rattle.member.specs.Members.{MemberModel, core_of}
 use Rattle.world_model.specs.Histories.{running}
-use Rattle.world_step.specs.declared.node_state.NodeState.{NodeState}
-use Rattle.world_step.specs.declared.node_state.NodeState.TheVariants.{Vacant, Ended, Running}
-use Rattle.world_step.specs.Worlds.{WorldModel}
+use Rattle.world.specs.declared.node_state.NodeState.{NodeState}
+use Rattle.world.specs.declared.node_state.NodeState.TheVariants.{Vacant, Ended, Running}
+use Rattle.world.specs.Worlds.{WorldModel}
 
 -- each member that runs at a node has not ended, and knows what the trace says
 abbrev pub MembersKnow : {S : Type 0} → Meaning S → WorldModel S → Type 0

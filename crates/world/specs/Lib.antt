@@ -1,3 +1,10 @@
+pub mod NodeStates
+pub mod Outputs
+pub mod Turns
+pub mod Invariant
+pub mod Worlds
+pub mod Pools
+pub mod Plays
 pub mod Settles
 pub mod Meets
 pub mod LostInstalls

@@ -8,10 +8,10 @@ use Rattle.state_transfer.specs.Meanings.{Meaning}
 use Rattle.law_acts.specs.Cores.{id_of}
 use Rattle.membership.specs.MemberStates.{view_in, is_sent_to}
 use Rattle.world_model.specs.declared.WorldEvent.TheVariants.{Deliver, Tick}
-use Rattle.world_step.specs.declared.node_state.NodeState.{NodeState}
-use Rattle.world_step.specs.declared.node_state.NodeState.TheVariants.{Vacant, Ended, Running}
-use Rattle.world_step.specs.Worlds.{WorldModel}
-use Rattle.world_step.specs.Plays.{Plays, Fails, DeliversPast, BreaksPast}
+use Rattle.world.specs.declared.node_state.NodeState.{NodeState}
+use Rattle.world.specs.declared.node_state.NodeState.TheVariants.{Vacant, Ended, Running}
+use Rattle.world.specs.Worlds.{WorldModel}
+use Rattle.world.specs.Plays.{Plays, Fails, DeliversPast, BreaksPast}
 use Rattle.world.specs.Settles.{would_follow}
 
 -- ---- whom it is about

@@ -13,12 +13,12 @@ use Rattle.membership.specs.declared.member_state.MemberState.{MemberState}
 use Rattle.membership.specs.MemberStates.{is_connected, view_in, anew_past}
 pub use Rattle.member.specs.Proposals.{told, past_in}
 use Rattle.world_model.specs.declared.WorldEvent.TheVariants.{Deliver, Tick}
-use Rattle.world_step.specs.declared.node_state.NodeState.{NodeState}
-use Rattle.world_step.specs.declared.node_state.NodeState.TheVariants.{Vacant, Ended, Running}
-use Rattle.world_step.specs.Pools.{first_for}
-use Rattle.world_step.specs.Turns.{OthersStand}
-use Rattle.world_step.specs.Worlds.{WorldModel, IsReached}
-use Rattle.world_step.specs.Plays.{Plays, Fails}
+use Rattle.world.specs.declared.node_state.NodeState.{NodeState}
+use Rattle.world.specs.declared.node_state.NodeState.TheVariants.{Vacant, Ended, Running}
+use Rattle.world.specs.Pools.{first_for}
+use Rattle.world.specs.Turns.{OthersStand}
+use Rattle.world.specs.Worlds.{WorldModel, IsReached}
+use Rattle.world.specs.Plays.{Plays, Fails}
 use Rattle.world.specs.declared.rounds.Round.{Round}
 use Rattle.world.specs.Settles.{would_follow, settling_at, Settles, SettlesShort, IsSettled, EndsSettling}
 

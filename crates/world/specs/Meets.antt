@@ -11,9 +11,9 @@ use Rattle.membership.specs.MemberStates.{view_in}
 use Rattle.member.specs.Members.{MemberModel}
 use Rattle.member_rules.specs.Views.{is_less}
 use Rattle.world_model.specs.declared.WorldEvent.TheVariants.{MergeHint, Deliver}
-use Rattle.world_step.specs.declared.node_state.NodeState.TheVariants.{Running}
-use Rattle.world_step.specs.Worlds.{WorldModel, IsReached}
-use Rattle.world_step.specs.Plays.{Plays}
+use Rattle.world.specs.declared.node_state.NodeState.TheVariants.{Running}
+use Rattle.world.specs.Worlds.{WorldModel, IsReached}
+use Rattle.world.specs.Plays.{Plays}
 use Rattle.world.specs.Settles.{settling_at, Settles, IsSettled}
 
 -- the member of an address runs, alone in its view, and is not blocked

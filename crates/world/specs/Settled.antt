@@ -1,7 +1,7 @@
 -- A change of view that completes where it can.
 use Rattle.std.specs.Prelude.{◌≡◌, ℕ, MatchOption}
 use Rattle.state_transfer.specs.Meanings.{Meaning}
-use Rattle.world_step.specs.Worlds.{WorldModel}
+use Rattle.world.specs.Worlds.{WorldModel}
 use Rattle.world.specs.Settles.{IsSettled}
 use Rattle.world.specs.Completing.{completing_at, Completes}
 

@@ -14,10 +14,10 @@ use Rattle.law_acts.specs.Acts.{proposed, others_of}
 use Rattle.membership.specs.MemberStates.{is_connected, is_complete}
 use Rattle.world_model.specs.declared.WorldEvent.TheVariants.{Tick}
 use Rattle.world_model.specs.Histories.{running}
-use Rattle.world_step.specs.declared.node_state.NodeState.{NodeState}
-use Rattle.world_step.specs.declared.node_state.NodeState.TheVariants.{Vacant, Ended, Running}
-use Rattle.world_step.specs.Worlds.{WorldModel, IsReached}
-use Rattle.world_step.specs.Plays.{Plays, Fails, Delivers, DeliversPast, Breaks, BreaksPast}
+use Rattle.world.specs.declared.node_state.NodeState.{NodeState}
+use Rattle.world.specs.declared.node_state.NodeState.TheVariants.{Vacant, Ended, Running}
+use Rattle.world.specs.Worlds.{WorldModel, IsReached}
+use Rattle.world.specs.Plays.{Plays, Fails, Delivers, DeliversPast, Breaks, BreaksPast}
 
 -- ---- whom it is about
 

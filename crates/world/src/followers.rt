@@ -4,14 +4,14 @@ ghost use Rattle.std.specs.Prelude.{◌≡◌, is_some};
 ghost use Rattle.std.specs.List.{list_all};
 ghost use Rattle.std.specs.Ordering.{nat_cmp};
 ghost use Rattle.std.specs.BTreeMap.{get};
-ghost use Rattle.world_step.specs.NodeStates.{node_states_in};
+ghost use Rattle.world.specs.NodeStates.{node_states_in};
 ghost use Rattle.world.specs.Settles.{would_follow, settling_at, begun_in};
 
+use crate::NodeState;
 use address::{Address, Node};
 use state_transfer::Receiver;
 use std::collections::BTreeMap;
 use wire_values::Roster;
-use world_step::NodeState;
 
 /// Whether the member of an address runs here, is joining or in a view, and would accept a proposal.
 fn would_follow<R: Receiver>(node_state: &NodeState<R>, proposal: &Roster, address: Address) -> bool

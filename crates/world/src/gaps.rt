@@ -11,20 +11,19 @@ ghost use Rattle.world_model.specs.Faithful.{IsFaithful};
 ghost use Rattle.world_model.specs.declared.WorldEvent.TheVariants.{Deliver};
 ghost use Rattle.law_processes.specs.Deployments.{IsPlayed};
 ghost use Rattle.world_model.specs.Packets.{world_group};
-ghost use Rattle.world_step.specs.NodeStates.{deployment_of, node_states_in};
-ghost use Rattle.world_step.specs.Worlds.{shown, IsLonger};
+ghost use Rattle.world.specs.NodeStates.{deployment_of, node_states_in};
+ghost use Rattle.world.specs.Worlds.{shown, IsLonger};
 ghost use Rattle.world.specs.Known.{MembersKnow};
-ghost use Rattle.world_step.specs.Plays.{Fails};
+ghost use Rattle.world.specs.Plays.{Fails};
 ghost use Rattle.world.specs.Gaps.{open_view, is_open_in, pair_of, pair_at, has_open_pair, Hands, CatchesUp, Stops, EndsSo, IsLevel};
 
-use crate::World;
+use crate::{NodeState, World};
 use address::{Address, Node, ViewId};
 use state_transfer::Receiver;
 use std::alloc::AllocError;
 use std::collections::BTreeMap;
 use view::View;
 use world_model::WorldEvent;
-use world_step::NodeState;
 
 /// A member and the coordinator of its view: two members that run in that view and are not blocked.
 #[derive(Clone, Copy)]

@@ -4,15 +4,15 @@ ghost use Rattle.std.specs.Prelude.{◌≡◌, ◌&&◌, ◌||◌};
 ghost use Rattle.std.specs.List.{list_all, list_any};
 ghost use Rattle.std.specs.Ordering.{nat_cmp};
 ghost use Rattle.std.specs.BTreeMap.{get};
-ghost use Rattle.world_step.specs.NodeStates.{node_states_in};
+ghost use Rattle.world.specs.NodeStates.{node_states_in};
 ghost use Rattle.world.specs.LostInstalls.{view_at, keeps_install, awaits_install, is_inside, awaited_at};
 
+use crate::NodeState;
 use crate::followers::follows;
 use address::{Address, Node};
 use state_transfer::Receiver;
 use std::collections::BTreeMap;
 use wire_values::Roster;
-use world_step::NodeState;
 
 /// Whether the member at a node keeps an INSTALL of its view for an address.
 fn keeps_install<R: Receiver>(

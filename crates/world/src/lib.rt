@@ -10,19 +10,22 @@ ghost use Rattle.trace_props.specs.State.{state_of};
 ghost use Rattle.law_processes.specs.Replicas.{ReplicasAgree};
 ghost use Rattle.std.specs.Option.{ForSome, option_copied, option_map};
 ghost use Rattle.world_model.specs.Histories.{running};
-ghost use Rattle.world_step.specs.Worlds.{shown, no_world, IsLonger, WorldStep, Runs};
+ghost use Rattle.world.specs.Worlds.{shown, no_world, IsLonger, WorldStep, Runs};
 ghost use Rattle.law_processes.specs.Deployments.{IsPlayed};
 ghost use Rattle.world_model.specs.Packets.{packet_numbered, world_group};
 ghost use Rattle.world_model.specs.Faithful.{IsFaithful};
-ghost use Rattle.world_step.specs.NodeStates.{deployment_of};
-ghost use Rattle.world_step.specs.Turns.{Carries};
+ghost use Rattle.world.specs.NodeStates.{deployment_of};
+ghost use Rattle.world.specs.Turns.{Carries};
 ghost use Rattle.world.specs.Known.{IsStableAt, MembersKnow, stable_at};
 
 mod followers;
 mod gaps;
 mod installs;
 mod law;
+mod node_state;
+mod nodes;
 mod plays;
+mod pool;
 mod rounds;
 mod settle;
 
@@ -32,6 +35,9 @@ pub use followers::{begun, is_settling};
 pub use installs::{awaited, awaits_install};
 pub use law::{lone_views_meet, low_proposals_rise, views_complete, views_settle};
 use law_processes::deployments_are_synchronous;
+pub use node_state::NodeState;
+pub use nodes::carry;
+pub use pool::Pool;
 pub use rounds::{Round, Rounds, overtaking, round_at};
 use state_transfer::Receiver;
 use std::alloc::{AllocError, Global};
@@ -39,7 +45,6 @@ use std::collections::BTreeMap;
 use std::marker::Model;
 use trace_props::Trace;
 use world_model::{Answer, Reply, WorldEvent};
-use world_step::{NodeState, Pool, carry};
 
 /// A world of members, one at a node at a time, each with its receiver (docs/GUARANTEES.md, "The world"). Contracts see its history and
 /// what stands at each node: nothing yet, one that has ended, or the member that runs.
@@ -68,7 +73,7 @@ impl<R: Receiver> Drop for World<R> {
 impl<R: Receiver> Model for World<R> {
     ghost use Rattle.std.specs.Ordering.{nat_cmp};
     ghost use Rattle.std.specs.BTreeMap.{get};
-    ghost use Rattle.world_step.specs.Worlds.{WorldValue, IsReached, shown};
+    ghost use Rattle.world.specs.Worlds.{WorldValue, IsReached, shown};
 
     // What stands at its nodes, as data, which `shown` shows by node.
     ghost Value = { WorldValue R };

@@ -1,14 +1,24 @@
 //! Events that are played one after another, until the first in which memory is refused.
 
-ghost use Rattle.std.specs.Prelude.{◌-◌, OnOk, OnErr};
-ghost use Rattle.world_step.specs.Worlds.{shown};
-ghost use Rattle.world_step.specs.Plays.{Plays, Fails, Delivers, DeliversPast, Breaks, BreaksPast};
+ghost use Rattle.std.specs.Prelude.{◌≡◌, ◌-◌, OnOk, OnErr};
+ghost use Rattle.world.specs.Worlds.{shown};
+ghost use Rattle.world.specs.Plays.{Plays, lacks_memory, Fails, Delivers, DeliversPast, Breaks, BreaksPast};
 
 use crate::World;
+use address::limits::Refusal;
 use state_transfer::Receiver;
 use std::alloc::AllocError;
-use world_model::WorldEvent;
-use world_step::lacks_memory;
+use world_model::{Answer, WorldEvent};
+
+/// Whether memory was refused in the step that was answered so (7): to the member in it, which has then crashed.
+fn lacks_memory(answer: Answer) -> bool
+    ensures { result ≡ lacks_memory answer }
+{
+    match answer {
+        Answer::Refused(Refusal::Memory) => true,
+        Answer::Done | Answer::Sent(_) | Answer::Refused(_) => false,
+    }
+}
 
 impl<R: Receiver> World<R> {
     /// Carries out one event; an error where the step is not begun, and where memory is refused to the member in it, which has then crashed.

@@ -5,10 +5,11 @@ ghost use Rattle.std.specs.Option.{ForSome, option_map, option_map_or, option_an
 ghost use Rattle.std.specs.Ordering.{nat_cmp};
 ghost use Rattle.std.specs.BTreeMap.{get};
 ghost use Rattle.flush.specs.Flushes.{is_awaited};
-ghost use Rattle.world_step.specs.NodeStates.{node_states_in};
-ghost use Rattle.world_step.specs.declared.node_state.NodeState.TheVariants.{Running};
+ghost use Rattle.world.specs.NodeStates.{node_states_in};
+ghost use Rattle.world.specs.declared.node_state.NodeState.TheVariants.{Running};
 ghost use Rattle.world.specs.LowProposals.{promised_past, furthest, asked_at, round_in, round_at, asked_past, beyond, beyond_all, followed_by_all, overtaking_at};
 
+use crate::NodeState;
 use crate::followers::all_follow;
 use address::limits::GREATEST_NUMBER;
 use address::{Address, Node, ViewId};
@@ -17,7 +18,6 @@ use state_transfer::Receiver;
 use std::alloc::AllocError;
 use std::collections::BTreeMap;
 use wire_values::Roster;
-use world_step::NodeState;
 
 /// A round: whom it asks, and what the member proposes after it.
 #[derive(Drop)]

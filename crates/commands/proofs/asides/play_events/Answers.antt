@@ -1,5 +1,5 @@
 use Rattle.std.proofs.Common.{take_all}
-use Rattle.world_step.specs.Worlds.{shown}
+use Rattle.world.specs.Worlds.{shown}
 use Rattle.commands.proofs.AsidesGrow.{none-beside, more-beside, all-beside}
 use Rattle.commands.proofs.asides.play_events.Goals as goal
 

@@ -1,5 +1,5 @@
 use Rattle.std.proofs.Common.{take}
-use Rattle.world_step.specs.Worlds.{shown}
+use Rattle.world.specs.Worlds.{shown}
 use Rattle.commands.specs.Asides.{HasAsides}
 use Rattle.commands.proofs.RunsPrint.{OwnedReport}
 use Rattle.commands.proofs.asides.play_events.Given as goal

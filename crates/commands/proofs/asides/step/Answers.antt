@@ -1,6 +1,6 @@
 use Rattle.std.proofs.Common.{subst, List}
 use Rattle.world_model.specs.declared.WorldEvent.{WorldEvent}
-use Rattle.world_step.specs.Worlds.{Runs, shown}
+use Rattle.world.specs.Worlds.{Runs, shown}
 use Rattle.commands.proofs.AsidesGrow.{one-ran}
 use Rattle.commands.proofs.asides.step.Goals as goal
 

@@ -1,5 +1,5 @@
 use Rattle.trace_props.specs.declared.verdict.Verdict.TheVariants.{Holds}
-use Rattle.world_step.specs.Worlds.{shown}
+use Rattle.world.specs.Worlds.{shown}
 use Rattle.commands.specs.Draws.{TellsRun}
 use Rattle.commands.proofs.AsidesGrow.{ran-beside}
 use Rattle.commands.proofs.DrawingsEnd.{drawn-as, unread-as}

@@ -1,4 +1,4 @@
-use Rattle.world_step.specs.Worlds.{shown}
+use Rattle.world.specs.Worlds.{shown}
 use Rattle.vsync_text.specs.PacketText.{packet_lines}
 use Rattle.commands.proofs.RunsPrint.{ran-to-end, stopped}
 use Rattle.commands.proofs.packets.play_packets.Goals as goal

@@ -1,4 +1,4 @@
-use Rattle.world_step.specs.Worlds.{shown}
+use Rattle.world.specs.Worlds.{shown}
 use Rattle.commands.proofs.RunsPrint.{played}
 use Rattle.commands.proofs.scripts.play.Goals as goal
 

@@ -1,6 +1,6 @@
 use Rattle.std.proofs.Common.{ℕ, List, length, ap, ◌∙◌}
 use Rattle.world_model.specs.declared.WorldEvent.{WorldEvent}
-use Rattle.world_step.specs.Worlds.{shown}
+use Rattle.world.specs.Worlds.{shown}
 use Rattle.commands.specs.Settled.{padded}
 use Rattle.commands.proofs.SettledRuns.{settled-played, settled-stopped}
 use Rattle.commands.proofs.settles.play_settled.Goals as goal

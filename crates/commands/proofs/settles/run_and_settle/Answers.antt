@@ -1,5 +1,5 @@
 use Rattle.std.proofs.Common.{◌≡◌, ℕ, suc, ◌+◌, subst, arith}
-use Rattle.world_step.specs.Worlds.{shown}
+use Rattle.world.specs.Worlds.{shown}
 use Rattle.commands.specs.Settled.{SettlesTo}
 use Rattle.commands.specs.Settled.SettlesTo.{Nowhere, More}
 use Rattle.commands.proofs.SettledRuns.{longer-same, longer-then}

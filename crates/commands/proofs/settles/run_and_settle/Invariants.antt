@@ -1,4 +1,4 @@
-use Rattle.world_step.specs.Worlds.{IsLonger, shown}
+use Rattle.world.specs.Worlds.{IsLonger, shown}
 use Rattle.commands.specs.Settled.{KeepsRules, SettlesTo}
 use Rattle.commands.proofs.settles.run_and_settle.Given as goal
 

@@ -1,5 +1,5 @@
 use Rattle.std.proofs.Common.{Ok, ap, ◌∙◌, rules}
-use Rattle.world_step.specs.Worlds.{shown}
+use Rattle.world.specs.Worlds.{shown}
 use Rattle.world.proofs.SettlingIsTold.{settled-by}
 use Rattle.commands.proofs.settles.settle_at.Goals as goal
 

@@ -1,4 +1,4 @@
-use Rattle.world_step.specs.Worlds.{shown}
+use Rattle.world.specs.Worlds.{shown}
 use Rattle.commands.specs.States.{state_lines_of}
 use Rattle.commands.proofs.RunsPrint.{ran-to-end, stopped}
 use Rattle.commands.proofs.states.play_states.Goals as goal

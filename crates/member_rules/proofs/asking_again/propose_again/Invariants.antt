@@ -1,8 +1,9 @@
 use Rattle.std.proofs.Common.{map, take, [], not}
 use Rattle.std.specs.Prelude.{filter}
 use Rattle.wire_values.specs.declared.packet.Body.TheVariants as bodies
+use Rattle.wire_values.specs.Posted.{packet}
 use Rattle.flush.specs.Flushes.{has_reported}
-use Rattle.law_acts.specs.Acts.{packet, proposed}
+use Rattle.law_acts.specs.Acts.{proposed}
 use Rattle.step_output.specs.Outputs.{Grows}
 use Rattle.member_rules.proofs.asking_again.propose_again.Given as goal
 

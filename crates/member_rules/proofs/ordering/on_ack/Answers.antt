@@ -1,6 +1,6 @@
 use Rattle.std.proofs.Common.{Some, refl, sym}
 use Rattle.wire_values.specs.declared.packet.Body.TheVariants as bodies
-use Rattle.law_acts.specs.Acts.{packet}
+use Rattle.wire_values.specs.Posted.{packet}
 use Rattle.step_output.proofs.CalmAdds.{calm-nothing}
 use Rattle.member_rules.proofs.MembersAreOpen.{there-is, orderly-in, ordered-by, nothing-did}
 use Rattle.member_rules.proofs.PacketsHeard.{heard-in, heard-member_state, heard-did}

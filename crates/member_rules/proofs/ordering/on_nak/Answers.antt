@@ -1,7 +1,7 @@
 use Rattle.std.proofs.Common.{Some, refl, sym, arith}
 use Rattle.std.proofs.lemmas.Result.{on_ok_weaker}
 use Rattle.wire_values.specs.declared.packet.Body.TheVariants as bodies
-use Rattle.law_acts.specs.Acts.{packet}
+use Rattle.wire_values.specs.Posted.{packet}
 use Rattle.traffic.proofs.ActsOfAnswers.{nak-goes}
 use Rattle.step_output.proofs.CalmAdds.{calm-grown, calm-nothing}
 use Rattle.member_rules.proofs.MembersAreOpen.{there-is, orderly-in, nothing-did}

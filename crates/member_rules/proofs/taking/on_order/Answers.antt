@@ -2,7 +2,7 @@ use Rattle.std.proofs.Common.{◌-◌, Some, not, refl, sym}
 use Rattle.std.specs.Prelude.{nat_lt}
 use Rattle.address.specs.declared.limits.TheConstants.{WINDOW}
 use Rattle.wire_values.specs.declared.packet.Body.TheVariants as bodies
-use Rattle.law_acts.specs.Acts.{packet}
+use Rattle.wire_values.specs.Posted.{packet}
 use Rattle.step_output.proofs.CalmAdds.{calm-nothing}
 use Rattle.member_rules.proofs.MembersAreOpen.{there-is, orderly-in, ordered-by, nothing-did}
 use Rattle.member_rules.proofs.PacketsHeard.{heard-in, heard-member_state, from-in, other-did}

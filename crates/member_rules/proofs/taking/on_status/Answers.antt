@@ -1,7 +1,7 @@
 use Rattle.std.proofs.Common.{Some, refl, sym}
 use Rattle.std.proofs.lemmas.Result.{on_ok_weaker}
 use Rattle.wire_values.specs.declared.packet.Body.TheVariants as bodies
-use Rattle.law_acts.specs.Acts.{packet}
+use Rattle.wire_values.specs.Posted.{packet}
 use Rattle.step_output.proofs.CalmAdds.{calm-nothing}
 use Rattle.traffic.proofs.ActsOfAnswers.{status-goes}
 use Rattle.member_rules.specs.Heard.{is_near}

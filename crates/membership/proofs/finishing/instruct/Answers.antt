@@ -3,7 +3,8 @@ use Rattle.std.specs.Prelude.{unwrap_or}
 use Rattle.std.proofs.lemmas.Result.{on_ok_weaker}
 use Rattle.wire_values.specs.Values as wire
 use Rattle.wire_values.specs.declared.packet.Body.TheVariants as bodies
-use Rattle.law_acts.specs.Acts.{packet, chunk_packets}
+use Rattle.wire_values.specs.Posted.{packet}
+use Rattle.law_acts.specs.Acts.{chunk_packets}
 use Rattle.step_output.specs.Outputs.{Grows}
 use Rattle.step_output.proofs.GrowthAdds.{grows-then}
 use Rattle.membership.specs.Installs.{instruction_to}

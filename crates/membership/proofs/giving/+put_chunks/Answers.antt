@@ -2,7 +2,7 @@ use Rattle.std.proofs.Common.{ℕ, ◌≤◌, List, [], ◌∷◌, map, sym, sub
 use Rattle.std.proofs.lemmas.Result.{on_ok_weaker}
 use Rattle.wire_values.specs.Values as wire
 use Rattle.wire_values.specs.declared.packet.Body.TheVariants as bodies
-use Rattle.law_acts.specs.Acts.{packet}
+use Rattle.wire_values.specs.Posted.{packet}
 use Rattle.law_acts.specs.Given.{chunk_at}
 use Rattle.step_output.specs.Outputs.{Grows}
 use Rattle.step_output.proofs.GrowthAdds.{grows-then}

@@ -1,6 +1,6 @@
 use Rattle.std.proofs.Common.{refl}
 use Rattle.udp_runs.proofs.MemberCommandsEnd.{goes-alone, silent-first, start-failed, start-lacked, start-went}
-use Rattle.node_turns.proofs.LinesKept.{earlier-refl, owes-new}
+use Rattle.udp_runs.proofs.LinesKept.{earlier-refl, owes-new}
 use Rattle.udp_runs.proofs.one_node.start.Goals as goal
 
 pub returns-in-Err : goal.returns-in-Err

@@ -1,4 +1,4 @@
-use Rattle.node_turns.proofs.NodesTell.{nothing-said, quiet-sent}
+use Rattle.udp_runs.proofs.NodesTell.{nothing-said, quiet-sent}
 use Rattle.udp_runs.proofs.searching.say_nothing.Goals as goal
 
 pub returns-in_err-answer-clause-drives : goal.returns-in_err-answer-clause-drives

@@ -1,8 +1,8 @@
 use Rattle.std.proofs.Common.{sym, subst}
-use Rattle.node_turns.specs.Outboxes.{OutboxModel}
-use Rattle.node_turns.specs.Came.{Owes}
-use Rattle.node_turns.proofs.LinesKept.{owes-without-long}
-use Rattle.node_turns.proofs.LinesOwed.{on-any, no-ok, line-of}
+use Rattle.udp_runs.specs.Outboxes.{OutboxModel}
+use Rattle.udp_runs.specs.Came.{Owes}
+use Rattle.udp_runs.proofs.LinesKept.{owes-without-long}
+use Rattle.udp_runs.proofs.LinesOwed.{on-any, no-ok, line-of}
 use Rattle.udp_runs.proofs.sending.next_line.Goals as goal
 
 pub returns-in_err-from_slice-in-Ok-Some-clause-owes : goal.returns-in_err-from_slice-in-Ok-Some-clause-owes

@@ -1,4 +1,4 @@
-use Rattle.node_turns.proofs.LinesOwed.{back-keeps}
+use Rattle.udp_runs.proofs.LinesOwed.{back-keeps}
 use Rattle.udp_runs.proofs.sending.take_back.Goals as goal
 
 pub returns : goal.returns

@@ -1,8 +1,8 @@
 use Rattle.std.proofs.Common.{ℕ, length, ap, ◌∙◌, subst}
 use Rattle.world_model.specs.declared.WorldEvent.TheVariants.{Tick}
-use Rattle.world_step.specs.Worlds.{WorldValue, shown}
-use Rattle.world_step.specs.Plays.{Plays, Fails}
-use Rattle.world_step.proofs.Deliveries.{on-err-map, on-ok-map}
+use Rattle.world.specs.Worlds.{WorldValue, shown}
+use Rattle.world.specs.Plays.{Plays, Fails}
+use Rattle.world.proofs.Deliveries.{on-err-map, on-ok-map}
 use Rattle.world.specs.LostInstalls.BringsInShort.{AtTick}
 use Rattle.world.proofs.BringingIsRun.{at-report, at-install, all-of-it}
 use Rattle.address.proofs.Plain.{on-err}

@@ -1,6 +1,6 @@
 use Rattle.std.proofs.Common.{◌≡◌, ◌<◌, true, false, List, length, get_or, sym, ap, subst, ◌∙◌, refl}
 use Rattle.address.specs.Ids.{Address}
-use Rattle.world_step.specs.Worlds.{WorldValue, shown}
+use Rattle.world.specs.Worlds.{WorldValue, shown}
 use Rattle.world.specs.LostInstalls.{awaits_install}
 use Rattle.world.specs.LostInstalls.BringsAll.{Nobody}
 use Rattle.world.proofs.BringingIsRun.{one-more, stops-at}

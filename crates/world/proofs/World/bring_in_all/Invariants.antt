@@ -1,5 +1,5 @@
 use Rattle.std.proofs.Common.{take}
-use Rattle.world_step.specs.Worlds.{shown}
+use Rattle.world.specs.Worlds.{shown}
 use Rattle.world.specs.LostInstalls.{BringsAll}
 use Rattle.world.proofs.World.bring_in_all.Given as goal
 

@@ -1,8 +1,8 @@
 use Rattle.std.proofs.Common.{ℕ, ap, ◌∙◌, length}
 use Rattle.address.specs.Ids.{Address}
-use Rattle.world_step.specs.Worlds.{WorldValue, shown}
-use Rattle.world_step.specs.Pools.{first_for}
-use Rattle.world_step.proofs.Deliveries.{on-err-map}
+use Rattle.world.specs.Worlds.{WorldValue, shown}
+use Rattle.world.specs.Pools.{first_for}
+use Rattle.world.proofs.Deliveries.{on-err-map}
 use Rattle.world.proofs.CatchUpStops.{at-tick, at-status, at-request, at-answer}
 use Rattle.world.proofs.World.bring_level.Goals as goal
 use Rattle.address.proofs.Plain.{on-err}

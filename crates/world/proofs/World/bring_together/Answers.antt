@@ -1,6 +1,6 @@
 use Rattle.std.proofs.Common.{ap, ◌∙◌, length}
-use Rattle.world_step.specs.Worlds.{WorldValue, shown}
-use Rattle.world_step.proofs.Deliveries.{on-err-map, on-ok-map}
+use Rattle.world.specs.Worlds.{WorldValue, shown}
+use Rattle.world.proofs.Deliveries.{on-err-map, on-ok-map}
 use Rattle.world.specs.Settles.{begun_in}
 use Rattle.world.specs.Settles.SettlesShort.{AtTick}
 use Rattle.world.proofs.SettlingIsRun.{at-flush, at-report, at-install, all-of-it}

@@ -3,10 +3,10 @@ use Rattle.std.specs.Prelude.{is_some}
 use Rattle.std.specs.Option.{IsSomeAnd}
 use Rattle.std.proofs.lemmas.Option.{none-some, same_Some}
 use Rattle.world.specs.declared.gaps.Pair.{Pair}
-use Rattle.world_step.specs.Invariant.{IsWorld}
-use Rattle.world_step.specs.Worlds.{WorldValue, shown}
+use Rattle.world.specs.Invariant.{IsWorld}
+use Rattle.world.specs.Worlds.{WorldValue, shown}
 use Rattle.world.specs.Gaps.{pair_at, EndsSo, IsLevel}
-use Rattle.world_step.proofs.KeepOfWorlds.{reached-keeps}
+use Rattle.world.proofs.KeepOfWorlds.{reached-keeps}
 use Rattle.world.proofs.PairsAreOpen.{open-pair-is}
 use Rattle.world.proofs.CatchUpEnds.{levels}
 use Rattle.world.proofs.CatchUpStops.{ends}

@@ -1,6 +1,6 @@
 use Rattle.std.proofs.Common.{inr, ap, sym, ◌∙◌}
 use Rattle.std.specs.Prelude.{is_some}
-use Rattle.world_step.specs.Worlds.{WorldValue, shown}
+use Rattle.world.specs.Worlds.{WorldValue, shown}
 use Rattle.world.specs.Settles.{settling_at, Settles, SettlesShort}
 use Rattle.world.specs.LostInstalls.{awaited_at, BringsAll, BringsShort}
 use Rattle.world.specs.LowProposals.{overtaking_at, OvertakesAndSettles, OvertakesShort}

@@ -1,6 +1,6 @@
 use Rattle.std.proofs.Common.{arith}
-use Rattle.world_step.specs.Worlds.{shown}
-use Rattle.world_step.proofs.Deliveries.{delivers-start, delivers-one, breaks-one}
+use Rattle.world.specs.Worlds.{shown}
+use Rattle.world.proofs.Deliveries.{delivers-start, delivers-one, breaks-one}
 use Rattle.world.proofs.World.deliver_between.Goals as goal
 use Rattle.address.proofs.Plain.{on-err}
 

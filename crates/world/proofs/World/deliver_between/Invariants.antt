@@ -1,6 +1,6 @@
 use Rattle.std.proofs.Common.{◌-◌, ◌≤◌, max}
-use Rattle.world_step.specs.Worlds.{shown}
-use Rattle.world_step.specs.Plays.{Delivers}
+use Rattle.world.specs.Worlds.{shown}
+use Rattle.world.specs.Plays.{Delivers}
 use Rattle.world.proofs.World.deliver_between.Given as goal
 
 -- all up to this number are delivered

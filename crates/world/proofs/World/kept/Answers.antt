@@ -10,11 +10,11 @@ use Rattle.law_acts.specs.Known.{Knows}
 use Rattle.law_processes.proofs.DeploymentsGoOn.{of-played}
 use Rattle.world_model.specs.Packets.{world_group}
 use Rattle.world_model.specs.Faithful.{IsFaithful}
-use Rattle.world_step.specs.NodeStates.{deployment_of, member_here}
-use Rattle.world_step.specs.declared.node_state.NodeState.TheVariants.{Running}
-use Rattle.world_step.specs.Worlds.{WorldValue, shown}
-use Rattle.world_step.proofs.KeepOfWorlds.{reached-keeps}
-use Rattle.world_step.proofs.MembersAtNodes.{running-here, member-at}
+use Rattle.world.specs.NodeStates.{deployment_of, member_here}
+use Rattle.world.specs.declared.node_state.NodeState.TheVariants.{Running}
+use Rattle.world.specs.Worlds.{WorldValue, shown}
+use Rattle.world.proofs.KeepOfWorlds.{reached-keeps}
+use Rattle.world.proofs.MembersAtNodes.{running-here, member-at}
 use Rattle.world.proofs.World.kept.Goals as goal
 
 pub returns-clause-faithful : goal.returns-clause-faithful

@@ -1,5 +1,5 @@
 use Rattle.std.proofs.Common.{[]}
-use Rattle.world_step.specs.Worlds.Runs.{Still}
+use Rattle.world.specs.Worlds.Runs.{Still}
 use Rattle.world.proofs.World.new.Goals as goal
 
 -- nothing happened, and no node is kept

@@ -2,9 +2,9 @@ use Rattle.std.proofs.Common.{◌≡◌, inr, sym, ap, ◌∙◌, subst}
 use Rattle.std.specs.Prelude.{is_some}
 use Rattle.std.specs.Option.{ForSome, option_map}
 use Rattle.std.proofs.lemmas.Option.{none-some}
-use Rattle.world_step.specs.Invariant.{IsWorld}
-use Rattle.world_step.specs.Worlds.{WorldValue, shown}
-use Rattle.world_step.proofs.KeepOfWorlds.{reached-keeps}
+use Rattle.world.specs.Invariant.{IsWorld}
+use Rattle.world.specs.Worlds.{WorldValue, shown}
+use Rattle.world.proofs.KeepOfWorlds.{reached-keeps}
 use Rattle.world.specs.declared.rounds.Rounds.{Rounds}
 use Rattle.world.specs.LowProposals.{overtaking_at, round_at, asked_past}
 use Rattle.world.proofs.OvertakingEnds.{rounds-stop, settling-stops, overtaken}

@@ -1,5 +1,5 @@
 use Rattle.std.proofs.Common.{inr, ap, sym, ◌∙◌}
-use Rattle.world_step.specs.Plays.{lacks_memory}
+use Rattle.world.specs.Plays.{lacks_memory}
 use Rattle.world.proofs.World.play.Goals as goal
 
 -- a growth was refused to a member in the step

@@ -1,7 +1,7 @@
 use Rattle.std.proofs.Common.{ℕ, length, ap, ◌∙◌}
-use Rattle.world_step.specs.Worlds.{WorldValue, shown}
-use Rattle.world_step.specs.Pools.{first_for}
-use Rattle.world_step.proofs.Deliveries.{on-err-map, on-ok-map}
+use Rattle.world.specs.Worlds.{WorldValue, shown}
+use Rattle.world.specs.Pools.{first_for}
+use Rattle.world.proofs.Deliveries.{on-err-map, on-ok-map}
 use Rattle.world.specs.LowProposals.RaisesShort.{AtTick}
 use Rattle.world.proofs.OvertakingIsRun.{at-flush, at-behind, all-of-it}
 use Rattle.address.proofs.Plain.{on-err}

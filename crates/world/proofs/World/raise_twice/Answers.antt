@@ -1,5 +1,5 @@
-use Rattle.world_step.specs.Worlds.{shown}
-use Rattle.world_step.proofs.Deliveries.{on-err-map, on-ok-map}
+use Rattle.world.specs.Worlds.{shown}
+use Rattle.world.proofs.Deliveries.{on-err-map, on-ok-map}
 use Rattle.world.specs.LowProposals.RaisesTwiceShort.{InFirst}
 use Rattle.world.proofs.OvertakingIsRun.{alone, once-more, once-short}
 use Rattle.address.proofs.Plain.{on-err}

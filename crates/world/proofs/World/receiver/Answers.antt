@@ -4,10 +4,10 @@ use Rattle.std.specs.Ordering.{nat_cmp}
 use Rattle.std.specs.BTreeMap.{get}
 use Rattle.trace_props.specs.State.{state_of}
 use Rattle.world_model.specs.Histories.{running}
-use Rattle.world_step.specs.Worlds.{WorldValue}
-use Rattle.world_step.specs.NodeStates.{node_state_at, node_states_in}
-use Rattle.world_step.proofs.KeepOfWorlds.{reached-keeps}
-use Rattle.world_step.proofs.WorldsAfterEvents.{receiver-is, nobody-yet, nobody-runs}
+use Rattle.world.specs.Worlds.{WorldValue}
+use Rattle.world.specs.NodeStates.{node_state_at, node_states_in}
+use Rattle.world.proofs.KeepOfWorlds.{reached-keeps}
+use Rattle.world.proofs.WorldsAfterEvents.{receiver-is, nobody-yet, nobody-runs}
 use Rattle.world.proofs.World.receiver.Goals as goal
 
 -- the node is not kept

@@ -1,8 +1,8 @@
 use Rattle.std.proofs.Common.{take, take_all, subst, sym, List}
 use Rattle.world_model.specs.declared.WorldEvent.{WorldEvent}
-use Rattle.world_step.specs.Worlds.{WorldModel, IsLonger, Runs, shown}
-use Rattle.world_step.specs.Worlds.Runs.{Still}
-use Rattle.world_step.proofs.EventsInTurn.{runs-on, runs-longer}
+use Rattle.world.specs.Worlds.{WorldModel, IsLonger, Runs, shown}
+use Rattle.world.specs.Worlds.Runs.{Still}
+use Rattle.world.proofs.EventsInTurn.{runs-on, runs-longer}
 use Rattle.world.proofs.World.run.Goals as goal
 
 pub loop-event-init : goal.loop-event-init

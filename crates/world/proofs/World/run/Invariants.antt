@@ -1,5 +1,5 @@
 use Rattle.std.proofs.Common.{take}
-use Rattle.world_step.specs.Worlds.{Runs, shown}
+use Rattle.world.specs.Worlds.{Runs, shown}
 use Rattle.world.proofs.World.run.Given as goal
 
 -- the events so far are carried out

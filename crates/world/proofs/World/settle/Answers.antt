@@ -1,7 +1,7 @@
 use Rattle.std.proofs.Common.{length, sym, ap, subst, arith}
-use Rattle.world_step.specs.Worlds.{WorldModel, WorldValue, IsReached, IsLonger, shown}
-use Rattle.world_step.specs.Worlds.Runs.{Still}
-use Rattle.world_step.proofs.EventsInTurn.{runs-longer}
+use Rattle.world.specs.Worlds.{WorldModel, WorldValue, IsReached, IsLonger, shown}
+use Rattle.world.specs.Worlds.Runs.{Still}
+use Rattle.world.proofs.EventsInTurn.{runs-longer}
 use Rattle.world.specs.Completing.{completing_at, IsUntried}
 use Rattle.world.proofs.CompletesAnyWay.{completes-longer, short-longer}
 use Rattle.world.proofs.SettlingIsTold.{then-of, else-of, well-by, any-by}

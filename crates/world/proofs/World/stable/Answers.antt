@@ -4,11 +4,11 @@ use Rattle.std.specs.Ordering.{nat_cmp}
 use Rattle.std.specs.BTreeMap.{get}
 use Rattle.std.proofs.lemmas.Option.{same_Some}
 use Rattle.world_model.specs.Histories.{running}
-use Rattle.world_step.specs.declared.node_state.NodeState.TheVariants.{Running}
-use Rattle.world_step.specs.Worlds.{WorldValue, shown}
-use Rattle.world_step.specs.NodeStates.{node_state_at, node_states_in}
-use Rattle.world_step.proofs.KeepOfWorlds.{reached-keeps}
-use Rattle.world_step.proofs.WorldsAfterEvents.{running-is}
+use Rattle.world.specs.declared.node_state.NodeState.TheVariants.{Running}
+use Rattle.world.specs.Worlds.{WorldValue, shown}
+use Rattle.world.specs.NodeStates.{node_state_at, node_states_in}
+use Rattle.world.proofs.KeepOfWorlds.{reached-keeps}
+use Rattle.world.proofs.WorldsAfterEvents.{running-is}
 use Rattle.world.specs.Known.{IsStableAt}
 use Rattle.world.proofs.StableEverywhere.{stable-is}
 use Rattle.world.proofs.World.stable.Goals as goal

@@ -1,9 +1,9 @@
 use Rattle.std.proofs.Common.{sym}
 use Rattle.std.specs.Ordering.{nat_cmp}
 use Rattle.std.specs.BTreeMap.{get}
-use Rattle.world_step.specs.NodeStates.{node_states_in}
-use Rattle.world_step.proofs.StepIsWorldStep.{steps-so, stepped-so}
-use Rattle.world_step.proofs.EventsInTurn.{reached-on, reached-same}
+use Rattle.world.specs.NodeStates.{node_states_in}
+use Rattle.world.proofs.StepIsWorldStep.{steps-so, stepped-so}
+use Rattle.world.proofs.EventsInTurn.{reached-on, reached-same}
 use Rattle.world.proofs.World.step.Goals as goal
 
 -- nothing was carried out

@@ -2,7 +2,7 @@ use Rattle.std.proofs.Common.{◌≡◌, drop}
 use Rattle.std.specs.List.{list_all}
 use Rattle.std.specs.Ordering.{nat_cmp}
 use Rattle.std.specs.BTreeMap.{get}
-use Rattle.world_step.specs.NodeStates.{node_states_in}
+use Rattle.world.specs.NodeStates.{node_states_in}
 use Rattle.world.specs.Settles.{would_follow}
 use Rattle.world.proofs.followers.all_follow.Given as goal
 

@@ -3,7 +3,7 @@ use Rattle.std.specs.Prelude.{◌||◌}
 use Rattle.std.specs.List.{list_all}
 use Rattle.std.specs.Ordering.{nat_cmp}
 use Rattle.std.specs.BTreeMap.{get}
-use Rattle.world_step.specs.NodeStates.{node_states_in}
+use Rattle.world.specs.NodeStates.{node_states_in}
 use Rattle.world.specs.LostInstalls.{awaits_install, is_inside}
 use Rattle.world.proofs.installs.all_are_near.Given as goal
 

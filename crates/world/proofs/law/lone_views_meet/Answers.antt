@@ -1,5 +1,5 @@
 use Rattle.law_acts.proofs.KeepBySteps
-use Rattle.world_step.proofs.KeepOfWorlds.{reached-keeps}
+use Rattle.world.proofs.KeepOfWorlds.{reached-keeps}
 use Rattle.world.proofs.LoneViewsMeet.{lone-views-meet, lone-views-join}
 use Rattle.world.proofs.law.lone_views_meet.Goals as goal
 

@@ -1,5 +1,5 @@
 use Rattle.law_acts.proofs.KeepBySteps
-use Rattle.world_step.proofs.KeepOfWorlds.{reached-keeps}
+use Rattle.world.proofs.KeepOfWorlds.{reached-keeps}
 use Rattle.world.proofs.RoundRaises.{raises}
 use Rattle.world.proofs.TwoRounds.{overtakes, overtakes-settle, overtakes-brief}
 use Rattle.world.proofs.RoundsAreEnough.{enough}

@@ -1,5 +1,5 @@
 use Rattle.law_acts.proofs.KeepBySteps
-use Rattle.world_step.proofs.KeepOfWorlds.{reached-keeps}
+use Rattle.world.proofs.KeepOfWorlds.{reached-keeps}
 use Rattle.world.proofs.CompletesAnyWay.{settled, brief, ends}
 use Rattle.world.proofs.law.views_complete.Goals as goal
 

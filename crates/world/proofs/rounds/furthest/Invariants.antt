@@ -2,7 +2,7 @@ use Rattle.std.proofs.Common.{◌≡◌, None, take}
 use Rattle.std.specs.Prelude.{fold}
 use Rattle.std.specs.Ordering.{nat_cmp}
 use Rattle.std.specs.BTreeMap.{get}
-use Rattle.world_step.specs.NodeStates.{node_states_in}
+use Rattle.world.specs.NodeStates.{node_states_in}
 use Rattle.world.specs.LowProposals.{promised_past, further}
 use Rattle.world.proofs.rounds.furthest.Given as goal
 

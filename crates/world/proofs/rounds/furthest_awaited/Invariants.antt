@@ -4,7 +4,7 @@ use Rattle.std.specs.Option.{option_map_or}
 use Rattle.std.specs.Ordering.{nat_cmp}
 use Rattle.std.specs.BTreeMap.{get}
 use Rattle.flush.specs.Flushes.{is_awaited}
-use Rattle.world_step.specs.NodeStates.{node_states_in}
+use Rattle.world.specs.NodeStates.{node_states_in}
 use Rattle.world.specs.LowProposals.{promised_past, further}
 use Rattle.world.proofs.rounds.furthest_awaited.Given as goal
 

@@ -1,7 +1,7 @@
 use Rattle.std.proofs.Common.{Option, ap, ◌∙◌}
 use Rattle.std.specs.Ordering.{nat_cmp}
 use Rattle.std.specs.BTreeMap.{get}
-use Rattle.world_step.specs.NodeStates.{node_state_at}
+use Rattle.world.specs.NodeStates.{node_state_at}
 use Rattle.world.specs.LowProposals.{promised_past}
 use Rattle.world.proofs.rounds.promised_past.Goals as goal
 

@@ -2,7 +2,7 @@ use Rattle.std.proofs.Common.{List, sym, ap, ◌∙◌}
 use Rattle.std.specs.Ordering.{nat_cmp}
 use Rattle.std.specs.BTreeMap.{get}
 use Rattle.address.specs.Ids.{Address}
-use Rattle.world_step.specs.NodeStates.{node_states_in}
+use Rattle.world.specs.NodeStates.{node_states_in}
 use Rattle.world.specs.LowProposals.{furthest}
 use Rattle.world.proofs.RoundsRaise.{told_of, no-candidates, nobody, somebody}
 use Rattle.world.proofs.rounds.round_of.Goals as goal

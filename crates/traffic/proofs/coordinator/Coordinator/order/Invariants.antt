@@ -1,5 +1,5 @@
 use Rattle.std.proofs.Common.{Option, length}
-use Rattle.law_acts.specs.Histories.{Posted}
+use Rattle.wire_values.specs.Posted.{Posted}
 use Rattle.traffic.specs.ViewStates.{waiting_of}
 use Rattle.traffic.specs.Goings.{CoordinatorGoes}
 use Rattle.traffic.specs.Turns.{Ordering, IsSettled}

@@ -1,6 +1,7 @@
 use Rattle.std.proofs.Common.{map, take, []}
 use Rattle.wire_values.specs.declared.packet.Body.TheVariants as bodies
-use Rattle.law_acts.specs.Acts.{packet, others_of}
+use Rattle.wire_values.specs.Posted.{packet}
+use Rattle.law_acts.specs.Acts.{others_of}
 use Rattle.step_output.specs.Outputs.{Grows}
 use Rattle.traffic.specs.Takes.{progress_of}
 use Rattle.traffic.proofs.coordinator.Coordinator.tick.Given as goal

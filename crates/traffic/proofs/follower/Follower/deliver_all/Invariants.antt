@@ -1,6 +1,6 @@
 use Rattle.std.proofs.Common.{Option, ◌+◌, ◌-◌}
 use Rattle.address.specs.declared.limits.TheConstants.{WINDOW}
-use Rattle.law_acts.specs.Histories.{Posted}
+use Rattle.wire_values.specs.Posted.{Posted}
 use Rattle.traffic.specs.Goings.{FollowerGoes}
 use Rattle.traffic.specs.Takes.{DeliversHeld}
 use Rattle.traffic.proofs.follower.Follower.deliver_all.Given as goal

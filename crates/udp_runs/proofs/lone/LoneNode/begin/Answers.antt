@@ -1,5 +1,5 @@
-use Rattle.node_turns.proofs.NodesTell.{begins-turn, from-went}
-use Rattle.node_turns.proofs.LinesOwed.{on-any, same-keeps}
+use Rattle.udp_runs.proofs.NodesTell.{begins-turn, from-went}
+use Rattle.udp_runs.proofs.LinesOwed.{on-any, same-keeps}
 use Rattle.udp_runs.proofs.lone.LoneNode.begin.Goals as goal
 
 pub returns-in-Ok-clause-tells : goal.returns-in-Ok-clause-tells

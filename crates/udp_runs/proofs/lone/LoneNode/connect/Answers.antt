@@ -1,6 +1,6 @@
 use Rattle.std.proofs.Common.{false, refl}
-use Rattle.node_turns.specs.Telling.{Waiting}
-use Rattle.node_turns.proofs.NodesTell.{begins-call}
+use Rattle.udp_runs.specs.Telling.{Waiting}
+use Rattle.udp_runs.proofs.NodesTell.{begins-call}
 use Rattle.udp_runs.proofs.lone.LoneNode.connect.Goals as goal
 use Rattle.udp_runs.proofs.lone.LoneNode.connect.Goals.{in-Some, in-None-2}
 

@@ -1,7 +1,7 @@
 use Rattle.std.proofs.Common.{refl}
 use Rattle.std.specs.Option.{option_copied}
 use Rattle.law_runners.specs.Runs.{Wait}
-use Rattle.node_turns.proofs.NodesTell.{quiet-by, quiet-none, quiet-then}
+use Rattle.udp_runs.proofs.NodesTell.{quiet-by, quiet-none, quiet-then}
 use Rattle.udp_runs.proofs.lone.LoneNode.find.Goals as goal
 
 pub returns-then-self-clause-drives : goal.returns-then-self-clause-drives

@@ -1,6 +1,6 @@
 use Rattle.std.proofs.Common.{◌≡◌, true, false, refl, sym, ◌∙◌}
-use Rattle.node_turns.proofs.NodesTell.{end-none, end-turn, end-went}
-use Rattle.node_turns.proofs.ProcessesTurn.{left-so}
+use Rattle.udp_runs.proofs.NodesTell.{end-none, end-turn, end-went}
+use Rattle.udp_runs.proofs.ProcessesTurn.{left-so}
 use Rattle.udp_runs.proofs.lone.LoneNode.leave.Goals as goal
 use Rattle.udp_runs.proofs.lone.LoneNode.leave.Goals.{then-leaves, else-leaves}
 

@@ -1,8 +1,8 @@
 use Rattle.std.proofs.Common.{refl}
 use Rattle.law_runners.specs.Runs.{Listen}
-use Rattle.node_turns.proofs.NodesTell.{quiet-none, quiet-by, quiet-then}
-use Rattle.node_turns.proofs.LinesOwed.{filled-owes, on-any}
-use Rattle.node_turns.proofs.LinesKept.{fills-earlier}
+use Rattle.udp_runs.proofs.NodesTell.{quiet-none, quiet-by, quiet-then}
+use Rattle.udp_runs.proofs.LinesOwed.{filled-owes, on-any}
+use Rattle.udp_runs.proofs.LinesKept.{fills-earlier}
 use Rattle.udp_runs.proofs.lone.LoneNode.listen.Goals as goal
 
 pub returns-in_err-take_lines-clause-drives : goal.returns-in_err-take_lines-clause-drives

@@ -1,6 +1,6 @@
-use Rattle.node_turns.proofs.NodesTell.{tells-turn, tells-waits}
-use Rattle.node_turns.specs.Came.{Owes}
-use Rattle.node_turns.proofs.LinesOwed.{on-map, on-went}
+use Rattle.udp_runs.proofs.NodesTell.{tells-turn, tells-waits}
+use Rattle.udp_runs.specs.Came.{Owes}
+use Rattle.udp_runs.proofs.LinesOwed.{on-map, on-went}
 use Rattle.udp_runs.proofs.lone.LoneNode.listen_for.Goals as goal
 
 pub returns-in-Ok-clause-tells : goal.returns-in-Ok-clause-tells

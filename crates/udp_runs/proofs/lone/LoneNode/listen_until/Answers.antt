@@ -1,6 +1,6 @@
 use Rattle.std.proofs.Common.{refl, ◌∙◌}
-use Rattle.node_turns.proofs.LinesKept.{earlier-refl, earlier-trans}
-use Rattle.node_turns.proofs.NodesTell.{tells-none, tells-then}
+use Rattle.udp_runs.proofs.LinesKept.{earlier-refl, earlier-trans}
+use Rattle.udp_runs.proofs.NodesTell.{tells-none, tells-then}
 use Rattle.udp_runs.proofs.lone.LoneNode.listen_until.Goals as goal
 
 pub returns-then-round-eq0-clause-tells : goal.returns-then-round-eq0-clause-tells

@@ -1,6 +1,6 @@
 use Rattle.std.proofs.Common.{refl}
-use Rattle.node_turns.proofs.LinesKept.{earlier-refl}
-use Rattle.node_turns.proofs.NodesTell.{from-then, told-all, alone-cut, alone-shown, alone-whole}
+use Rattle.udp_runs.proofs.LinesKept.{earlier-refl}
+use Rattle.udp_runs.proofs.NodesTell.{from-then, told-all, alone-cut, alone-shown, alone-whole}
 use Rattle.udp_runs.proofs.lone.LoneNode.play.Goals as goal
 
 pub returns-in-Err-clause-plays : goal.returns-in-Err-clause-plays

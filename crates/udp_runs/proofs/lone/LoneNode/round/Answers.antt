@@ -1,7 +1,7 @@
 use Rattle.std.proofs.Common.{refl}
 use Rattle.law_runners.specs.Runs.{Round, Seek, Wait}
-use Rattle.node_turns.proofs.NodesTell.{quiet-by, quiet-then}
-use Rattle.node_turns.proofs.LinesOwed.{keeps-same, on-any}
+use Rattle.udp_runs.proofs.NodesTell.{quiet-by, quiet-then}
+use Rattle.udp_runs.proofs.LinesOwed.{keeps-same, on-any}
 use Rattle.udp_runs.proofs.lone.LoneNode.round.Goals as goal
 
 pub returns-in_err-send_all-clause-drives : goal.returns-in_err-send_all-clause-drives

@@ -1,4 +1,4 @@
-use Rattle.node_turns.proofs.NodesTell.{quiet-none, quiet-then}
+use Rattle.udp_runs.proofs.NodesTell.{quiet-none, quiet-then}
 use Rattle.udp_runs.proofs.lone.LoneNode.send_all.Goals as goal
 
 pub returns-then-holds-clause-drives : goal.returns-then-holds-clause-drives

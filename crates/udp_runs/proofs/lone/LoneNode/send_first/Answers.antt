@@ -1,6 +1,6 @@
 use Rattle.std.proofs.Common.{sym}
-use Rattle.node_turns.proofs.NodesTell.{quiet-none}
-use Rattle.node_turns.proofs.LinesOwed.{may-first}
+use Rattle.udp_runs.proofs.NodesTell.{quiet-none}
+use Rattle.udp_runs.proofs.LinesOwed.{may-first}
 use Rattle.udp_runs.proofs.lone.LoneNode.send_first.Goals as goal
 
 pub returns-in_default-clause-drives : goal.returns-in_default-clause-drives

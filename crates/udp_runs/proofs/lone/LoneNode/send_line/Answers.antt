@@ -1,9 +1,9 @@
 use Rattle.std.proofs.Common.{◌≡◌, ℕ, List, Option, ◌⊎◌, inl, inr, subst, sym, ◌∙◌}
-use Rattle.node_turns.specs.Came.{IsLineOf, Owes}
-use Rattle.node_turns.proofs.NodesTell.{quiet-none}
-use Rattle.node_turns.specs.Outboxes.{OutboxModel, without_next}
-use Rattle.node_turns.specs.Unsaid.{UnsaidModel}
-use Rattle.node_turns.proofs.LinesKept.{owes-without}
+use Rattle.udp_runs.specs.Came.{IsLineOf, Owes}
+use Rattle.udp_runs.proofs.NodesTell.{quiet-none}
+use Rattle.udp_runs.specs.Outboxes.{OutboxModel, without_next}
+use Rattle.udp_runs.specs.Unsaid.{UnsaidModel}
+use Rattle.udp_runs.proofs.LinesKept.{owes-without}
 use Rattle.udp_runs.proofs.lone.LoneNode.send_line.Goals as goal
 
 pub returns-in_err-line-clause-drives : goal.returns-in_err-line-clause-drives

@@ -1,5 +1,5 @@
 use Rattle.std.proofs.Common.{◌∙◌}
-use Rattle.node_turns.proofs.NodesTell.{quiet-none, quiet-then}
+use Rattle.udp_runs.proofs.NodesTell.{quiet-none, quiet-then}
 use Rattle.udp_runs.proofs.lone.LoneNode.send_lines.Goals as goal
 
 pub returns-in_err-take_back-clause-drives : goal.returns-in_err-take_back-clause-drives

@@ -1,8 +1,8 @@
 use Rattle.std.proofs.Common.{◌≡◌, ℕ, List, Option}
 use Rattle.std.specs.Option.{option_copied}
-use Rattle.node_turns.specs.Came.{IsEarlier, Keeps, Owes}
-use Rattle.node_turns.specs.Said.{MaySay}
-use Rattle.node_turns.specs.Telling.{Quietly}
+use Rattle.udp_runs.specs.Came.{IsEarlier, Keeps, Owes}
+use Rattle.udp_runs.specs.Said.{MaySay}
+use Rattle.udp_runs.specs.Telling.{Quietly}
 use Rattle.udp_runs.proofs.lone.LoneNode.send_lines.Given as goal
 
 -- lines were sent

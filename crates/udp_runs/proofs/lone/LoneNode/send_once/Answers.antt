@@ -1,7 +1,7 @@
 use Rattle.std.proofs.Common.{ap, inl}
 use Rattle.std.specs.Option.{option_copied}
-use Rattle.node_turns.proofs.NodesTell.{quiet-none}
-use Rattle.node_turns.proofs.LinesKept.{earlier-refl}
+use Rattle.udp_runs.proofs.NodesTell.{quiet-none}
+use Rattle.udp_runs.proofs.LinesKept.{earlier-refl}
 use Rattle.udp_runs.proofs.lone.LoneNode.send_once.Goals as goal
 
 pub returns-in_default-clause-drives : goal.returns-in_default-clause-drives

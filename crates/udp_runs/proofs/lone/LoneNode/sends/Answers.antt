@@ -1,4 +1,4 @@
-use Rattle.node_turns.proofs.NodesTell.{quiet-sent, that-said}
+use Rattle.udp_runs.proofs.NodesTell.{quiet-sent, that-said}
 use Rattle.udp_runs.proofs.lone.LoneNode.sends.Goals as goal
 
 pub returns-in_err-answer-clause-drives : goal.returns-in_err-answer-clause-drives

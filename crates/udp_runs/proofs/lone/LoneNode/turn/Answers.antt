@@ -1,8 +1,8 @@
 use Rattle.std.proofs.Common.{refl}
-use Rattle.node_turns.proofs.NodesTell.{tells-cut, tells-turn, tells-went}
-use Rattle.node_turns.specs.Came.{Keeps, Owes}
-use Rattle.node_turns.proofs.LinesOwed.{filled-then, on-map}
-use Rattle.node_turns.proofs.LinesKept.{fills-earlier}
+use Rattle.udp_runs.proofs.NodesTell.{tells-cut, tells-turn, tells-went}
+use Rattle.udp_runs.specs.Came.{Keeps, Owes}
+use Rattle.udp_runs.proofs.LinesOwed.{filled-then, on-map}
+use Rattle.udp_runs.proofs.LinesKept.{fills-earlier}
 use Rattle.udp_runs.proofs.lone.LoneNode.turn.Goals as goal
 
 pub returns-in-Err-clause-tells : goal.returns-in-Err-clause-tells

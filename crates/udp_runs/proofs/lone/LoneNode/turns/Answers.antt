@@ -1,7 +1,7 @@
 use Rattle.std.proofs.Common.{refl, ◌∙◌}
-use Rattle.node_turns.proofs.LinesKept.{earlier-refl, earlier-trans}
-use Rattle.node_turns.proofs.NodesTell.{tells-none, tells-then, told-all}
-use Rattle.node_turns.proofs.LinesOwed.{same-keeps}
+use Rattle.udp_runs.proofs.LinesKept.{earlier-refl, earlier-trans}
+use Rattle.udp_runs.proofs.NodesTell.{tells-none, tells-then, told-all}
+use Rattle.udp_runs.proofs.LinesOwed.{same-keeps}
 use Rattle.udp_runs.proofs.lone.LoneNode.turns.Goals as goal
 
 pub loop-round-init : goal.loop-round-init

@@ -1,8 +1,8 @@
 use Rattle.std.proofs.Common.{◌≡◌, ℕ, List, [], Ok, Option}
 use Rattle.std.specs.Option.{option_copied}
-use Rattle.node_turns.specs.Came.{IsEarlier, Owes}
-use Rattle.node_turns.specs.Said.{MaySay}
-use Rattle.node_turns.specs.Telling.{TellsOn}
+use Rattle.udp_runs.specs.Came.{IsEarlier, Owes}
+use Rattle.udp_runs.specs.Said.{MaySay}
+use Rattle.udp_runs.specs.Telling.{TellsOn}
 use Rattle.udp_runs.proofs.lone.LoneNode.turns.Given as goal
 
 -- what happened so far was told, and what is owed is owed still

@@ -1,6 +1,6 @@
 use Rattle.std.proofs.Common.{Bool, refl, sym, ◌∙◌}
 use Rattle.udp_runs.specs.Carrying.{Called}
-use Rattle.node_turns.specs.Calls.{MakesCall}
+use Rattle.udp_runs.specs.Calls.{MakesCall}
 use Rattle.udp_runs.proofs.CallsAmongOthers.{refused, uncalled-so, turn-on, turn-off, turn-cut}
 use Rattle.udp_runs.proofs.node_state.NodeState.call.Goals as goal
 

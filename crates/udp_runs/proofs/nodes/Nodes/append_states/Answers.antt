@@ -1,6 +1,6 @@
 use Rattle.std.proofs.Common.{refl, sym, arith}
 use Rattle.std.proofs.lemmas.List.{append-nil}
-use Rattle.node_turns.proofs.LinesAndEvents.{on-err}
+use Rattle.udp_runs.proofs.LinesAndEvents.{on-err}
 use Rattle.udp_runs.proofs.CallsAmongOthers.{states-all, states-more, states-some}
 use Rattle.udp_runs.proofs.nodes.Nodes.append_states.Goals as goal
 

@@ -1,7 +1,7 @@
 use Rattle.std.proofs.Common.{◌≡◌, ◌++◌, map, take}
 use Rattle.std.specs.List.{concat}
 use Rattle.udp_runs.specs.Nodes.{processes_in}
-use Rattle.node_turns.specs.Processes.{state_text}
+use Rattle.udp_runs.specs.Processes.{state_text}
 use Rattle.udp_runs.proofs.nodes.Nodes.append_states.Given as goal
 
 -- the states of so many were appended

@@ -1,5 +1,5 @@
 use Rattle.std.proofs.Common.{◌≡◌, sym, subst, ◌∙◌, arith}
-use Rattle.node_turns.specs.Calls.{Asks}
+use Rattle.udp_runs.specs.Calls.{Asks}
 use Rattle.udp_runs.proofs.PlacesSet.{at-place, some-at}
 use Rattle.udp_runs.proofs.CallsAmongOthers.{asked-of, goes-line, refused-all, unlisted-so}
 use Rattle.udp_runs.proofs.nodes.Nodes.call.Goals as goal

@@ -1,7 +1,7 @@
 use Rattle.std.proofs.Common.{◌≡◌, ◌≤◌, ℕ, map, take, length, slice_get}
-use Rattle.node_turns.specs.Machines.{GivesBack}
+use Rattle.udp_runs.specs.Machines.{GivesBack}
 use Rattle.udp_runs.specs.Nodes.{processes_in}
-use Rattle.node_turns.specs.Processes.{net_of}
+use Rattle.udp_runs.specs.Processes.{net_of}
 use Rattle.udp_runs.proofs.nodes.Nodes.close.Given as goal
 
 -- the nets of so many were given back, and the others are as they were

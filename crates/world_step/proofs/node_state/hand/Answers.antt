@@ -1,5 +1,0 @@
-use Rattle.world_step.proofs.NodesGive.{fits}
-use Rattle.world_step.proofs.node_state.hand.Goals as goal
-
-pub settle-requires-clause-fits : goal.settle-requires-clause-fits
-settle-requires-clause-fits g c = fits g.R.Receiver.meaning _ _ _ _ c.handled-called.ensures
