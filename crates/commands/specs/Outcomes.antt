@@ -1,5 +1,5 @@
 -- What is written of a script that is run.
-use Rattle.std.specs.Prelude.{◌≡◌, List, ℕ, ◌++◌, Option, take}
+use Rattle.std.specs.Prelude.{List, ℕ, ◌++◌, Option, take}
 use Rattle.std.specs.List.{concat}
 use Rattle.state_transfer.specs.Meanings.{Meaning}
 use Rattle.trace_props.specs.Places.{EachPlace}

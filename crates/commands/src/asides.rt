@@ -199,16 +199,6 @@ fn line_at(lines: &[u64], index: usize) -> u64
     }
 }
 
-// Carries out one event.
-fn step<R: Receiver>(world: &mut World<R>, event: &WorldEvent) -> Result<(), AllocError>
-    ensures step { OnOk result (WorldStep R.meaning (shown world.old) event.now (shown world.new)) }
-    ensures sound { OnOk result (IsFaithful world.new.history × EachPlace IsWellOrdered world.new.history.trace
-        × IsVirtuallySynchronous R.meaning world.new.history.trace × EachPlace (ReplicasAgree R.meaning) world.new.history.trace) }
-{
-    world.run(slice::from_ref(event))?;
-    Ok(())
-}
-
 // Carries out the event of a line, and adds what was refused.
 fn play_alone<R: Receiver>(
     world: &mut World<R>,
@@ -222,37 +212,11 @@ fn play_alone<R: Receiver>(
     ensures asides { OnOk result (asides.new.items ≡ asides.old.items ++ asides_between false line event.now world.old.history world.new.history) }
 {
     let replied = world.replies().len();
-    step(world, event)?;
+    world.run(slice::from_ref(event))?;
     add(asides, refused_of(line, event, world.replies(), replied))
 }
 
-// Carries out the event of a line, and adds what was refused, and which packets were handed over and put out.
-fn play_with_packets<R: Receiver>(
-    world: &mut World<R>,
-    asides: &mut Vec<Aside>,
-    line: u64,
-    event: &WorldEvent,
-) -> Result<(), AllocError>
-    ensures step { OnOk result (WorldStep R.meaning (shown world.old) event.now (shown world.new)) }
-    ensures sound { OnOk result (IsFaithful world.new.history × EachPlace IsWellOrdered world.new.history.trace
-        × IsVirtuallySynchronous R.meaning world.new.history.trace × EachPlace (ReplicasAgree R.meaning) world.new.history.trace) }
-    ensures asides { OnOk result (asides.new.items ≡ asides.old.items ++ asides_between true line event.now world.old.history world.new.history) }
-{
-    let past = world.packets().len();
-    let site = site_of(world, event.target());
-    add(asides, handed_over(world, event.target(), site.as_ref()))?;
-    play_alone(world, asides, line, event)?;
-    add_put_out_at(
-        asides,
-        world.trace().events().len(),
-        site,
-        past,
-        world.packets(),
-    )?;
-    Ok(())
-}
-
-// Carries out the event of a line, and adds what stands beside what happens.
+// Carries out the event of a line, and adds what was refused, and, where they are asked for, which packets were handed over and put out.
 fn play_event<R: Receiver>(
     world: &mut World<R>,
     asides: &mut Vec<Aside>,
@@ -265,11 +229,20 @@ fn play_event<R: Receiver>(
         × IsVirtuallySynchronous R.meaning world.new.history.trace × EachPlace (ReplicasAgree R.meaning) world.new.history.trace) }
     ensures asides { OnOk result (asides.new.items ≡ asides.old.items ++ asides_between packets line event.now world.old.history world.new.history) }
 {
-    if packets {
-        play_with_packets(world, asides, line, event)
-    } else {
-        play_alone(world, asides, line, event)
+    if !packets {
+        return play_alone(world, asides, line, event);
     }
+    let past = world.packets().len();
+    let site = site_of(world, event.target());
+    add(asides, handed_over(world, event.target(), site.as_ref()))?;
+    play_alone(world, asides, line, event)?;
+    add_put_out_at(
+        asides,
+        world.trace().events().len(),
+        site,
+        past,
+        world.packets(),
+    )
 }
 
 /// Carries out events in a new world, and adds what stands beside what happens: what is refused of the events of these lines, and, where they

@@ -1,4 +1,5 @@
 pub mod Blocks
+pub mod Ends
 pub mod AllPieces
 pub mod GatheredSends
 pub mod KeepsCame

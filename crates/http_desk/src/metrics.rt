@@ -1,5 +1,6 @@
 //! How a node stands, in the text format that Prometheus reads.
 
+use crate::counts::Counts;
 use crate::kept::{Keeps, Kept};
 use crate::standing::Standing;
 use std::alloc::Global;
@@ -23,8 +24,7 @@ fn put_metrics(out: &mut Text, kind: &'static [u8], metrics: &[(&'static [u8], u
 }
 
 // What only rises.
-fn put_counters(out: &mut Text, standing: &Standing<'_>) {
-    let counts = standing.counts;
+fn put_counters(out: &mut Text, counts: &Counts) {
     put_metrics(
         out,
         b"counter",
@@ -83,7 +83,7 @@ fn put_kept(out: &mut Text, kept: &Kept) {
 /// The metrics: counters only rise.
 pub(crate) fn metrics(alloc: Global, standing: &Standing<'_>) -> Text {
     let mut out = Text::new(alloc);
-    put_counters(&mut out, standing);
+    put_counters(&mut out, standing.counts);
     put_gauges(&mut out, standing);
     put_kept(&mut out, standing.kept);
     let uptime = standing.uptime.as_secs();

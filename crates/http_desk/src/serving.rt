@@ -41,15 +41,6 @@ impl Drop for HttpDesk {
     }
 }
 
-// Those of these connections that are ready may go on.
-fn wake(clients: &mut Vec<Client>, door: &Door) {
-    for client in clients.iter_mut() {
-        if door.is_ready(client.id) {
-            client.wake();
-        }
-    }
-}
-
 // Each connection has its turn, and those that are over are let go. Answers whether one has more to do at once.
 fn give_turns(desk: &mut Desk, clients: &mut Vec<Client>) -> bool {
     desk.connections = clients.len();
@@ -152,7 +143,11 @@ impl HttpDesk {
     pub fn serve(&mut self, now: Duration) {
         self.desk.now = now;
         if self.door.look().is_ok() {
-            wake(&mut self.clients, &self.door);
+            for client in self.clients.iter_mut() {
+                if self.door.is_ready(client.id) {
+                    client.wake();
+                }
+            }
         }
         self.desk.settle_all();
         let accepted = self.accept();

@@ -1,8 +1,10 @@
 //! How a node stands, for programs.
 
+use crate::counts::Counts;
 use crate::json::{put_all, put_fields, put_quoted, put_view};
 use crate::kept::Keeps;
 use crate::standing::Standing;
+use address::Address;
 use address::limits::VERSION;
 use std::alloc::Global;
 use std::time::Duration;
@@ -30,9 +32,9 @@ fn items_of(keeps: Keeps) -> &'static [u8] {
 }
 
 // The view, its members and its coordinator.
-fn put_members(out: &mut Text, standing: &Standing<'_>) {
-    let members = standing.counts.members.as_slice();
-    put_view(out, b",\"view\":", standing.counts.view);
+fn put_members(out: &mut Text, counts: &Counts) {
+    let members = counts.members.as_slice();
+    put_view(out, b",\"view\":", counts.view);
     out.put(b",\"members\":");
     put_all(out, members);
     match members.first() {
@@ -42,8 +44,8 @@ fn put_members(out: &mut Text, standing: &Standing<'_>) {
 }
 
 // Whether its member is blocked, and for how long.
-fn put_blocked(out: &mut Text, standing: &Standing<'_>) {
-    match standing.blocked {
+fn put_blocked(out: &mut Text, blocked: Option<Duration>) {
+    match blocked {
         Some(time) => {
             out.put(b",\"blocked\":true");
             put_fields(out, &[(b"blocked_ms", milliseconds(time))]);
@@ -53,9 +55,9 @@ fn put_blocked(out: &mut Text, standing: &Standing<'_>) {
 }
 
 // The last incarnation of each node that was in a view.
-fn put_seen(out: &mut Text, standing: &Standing<'_>) {
+fn put_seen(out: &mut Text, seen: &[Address]) {
     out.put(b",\"incarnations\":{");
-    for (i, address) in standing.counts.seen.iter().enumerate() {
+    for (i, address) in seen.iter().enumerate() {
         let before: &[u8] = if i > 0 { b",\"" } else { b"\"" };
         out.put_parts(&[
             Part::Text(before),
@@ -98,10 +100,10 @@ pub(crate) fn status(alloc: Global, standing: &Standing<'_>) -> Text {
         Part::Text(name_of(standing.kept.keeps())),
         Part::Text(b"\""),
     ]);
-    put_members(&mut out, standing);
-    put_blocked(&mut out, standing);
+    put_members(&mut out, standing.counts);
+    put_blocked(&mut out, standing.blocked);
     put_counts(&mut out, standing);
-    put_seen(&mut out, standing);
+    put_seen(&mut out, standing.counts.seen.as_slice());
     out.put_parts(&[
         Part::Text(b",\"uptime_ms\":"),
         Part::Number(milliseconds(standing.uptime)),

@@ -1,3 +1,4 @@
+pub mod ListsGrow
 pub mod LocksLeft
 pub mod LocksRoll
 pub mod MessagesTurnLocks

@@ -50,7 +50,6 @@ fn put_locks(out: &mut Vec<u8>, entries: &[KeyedEntry<Lock>]) -> Result<(), Allo
 }
 
 // Appends the line of a member whose table has this last token and these locks.
-#[tactic(auto, using(vsync_text::proofs::KeepFront::goes_on))]
 pub(crate) fn put_table_line(
     out: &mut Vec<u8>,
     member: &Address,

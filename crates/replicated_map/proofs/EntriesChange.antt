@@ -86,3 +86,10 @@ puts-in last t view k v s u n is id key value next same size room =
     let made = given_is_map view k v (state_of last s) is id key value (omega (arith, size, sizes, fits)) (omega (arith, counts, few)) in
     let there = subst (λ (x : Token). IsMap (state_of x (put k (held x v) s))) (sym next) made in
     (subst (λ (e : Entries). IsMap (state_of t e)) (sym same) there, size ∙ ap map_size (sym same))
+
+-- what an entry takes is part of the size
+pub removes-fit : (s : Entries) (k : List ℕ) (i : ℕ) (x : KeyedEntry Held) (n a b : ℕ) → IsHeldAt k s i → slice_get s i ≡ Some x → n ≡ map_size s → a ≡ length x.key → b ≡ length x.value.value → 25 + a + b ≤ n
+removes-fit s k i x n a b held stands size key value =
+    let sums = sum_by-remove entry_size s i x held.within in
+    let at : entry_size (get_or s i x) ≡ entry_size x = ap entry_size (get_or_from_slice_get s i x x stands) in
+    omega (arith, sums, at, size, key, value)

@@ -12,7 +12,6 @@ use std::alloc::AllocError;
 use vsync_text::{put, put_address, put_hex};
 
 // Appends an entry behind one byte.
-#[tactic(auto, using(vsync_text::proofs::KeepFront::goes_on))]
 fn put_entry(out: &mut Vec<u8>, before: u8, entry: &KeyedEntry<Held>) -> Result<(), AllocError>
     ensures text { OnOk result (out.new.items ≡ out.old.items ++ before ∷ text_of_entry entry.now) }
     ensures kept { GoesOnFrom out.old.items out.new.items }
@@ -36,7 +35,6 @@ fn put_more(out: &mut Vec<u8>, entries: &[KeyedEntry<Held>]) -> Result<(), Alloc
 }
 
 // Appends entries behind a space, joined by commas, `-` for none.
-#[tactic(auto, using(vsync_text::proofs::KeepFront::goes_on))]
 fn put_entries(out: &mut Vec<u8>, entries: &[KeyedEntry<Held>]) -> Result<(), AllocError>
     ensures text { OnOk result (out.new.items ≡ out.old.items ++ 32 ∷ text_of_entries entries.now) }
     ensures kept { GoesOnFrom out.old.items out.new.items }
@@ -51,7 +49,6 @@ fn put_entries(out: &mut Vec<u8>, entries: &[KeyedEntry<Held>]) -> Result<(), Al
 }
 
 // Appends the line of a member whose map has these entries.
-#[tactic(auto, using(vsync_text::proofs::KeepFront::goes_on))]
 pub(crate) fn put_map_line(
     out: &mut Vec<u8>,
     member: &Address,

@@ -522,6 +522,10 @@ module _ {N S : Type 0} where
   line-of-one line_of None = refl
   line-of-one line_of (Some q) = sym (append-nil (state_text line_of q))
 
+  pub states-kept : (line_of : Address → S → List ℕ) (all now : List (NodeState N S)) (k : ℕ) (x new : NodeState N S) (text mid : List ℕ) → Stated line_of all now k text mid
+      → (length now ≡ length all → k < length now) → x ≡ get_or now k x → new ≡ x → slice_set now k new ≡ all
+  states-kept line_of all now k x new text mid (said, same) within is kept = ap (slice_set now k) kept ∙ set-self now k x (at-place now k x (within (ap length same)) is) ∙ same
+
   pub states-more : (line_of : Address → S → List ℕ) (all now : List (NodeState N S)) (k : ℕ) (x new : NodeState N S) (text mid text' : List ℕ) → Stated line_of all now k text mid
       → (length now ≡ length all → k < length now) → x ≡ get_or now k x → text' ≡ mid ++ option_map_or (state_text line_of) x.process [] → new ≡ x
       → Stated line_of all (slice_set now k new) (k + 1) text text'
@@ -534,7 +538,7 @@ module _ {N S : Type 0} where
             ∙ ap (λ (l : List ℕ). text ++ l)
             (ap (λ (l : List ℕ). concat before ++ l) (line-of-one line_of x.process) ∙ sym (concat-then before last)
             ∙ ap concat (sym (map-append (state_text line_of) (processes_in (take k all)) (option_to_list x.process)) ∙ ap (map (state_text line_of)) (sym (processes-more all k x here)))),
-        ap (slice_set now k) kept ∙ set-self now k x there ∙ same,
+        states-kept line_of all now k x new text mid (said, same) within is kept,
       )
 
   pub states-all : (line_of : Address → S → List ℕ) (all now : List (NodeState N S)) (k : ℕ) (text mid : List ℕ) → Stated line_of all now k text mid → length all ≤ k

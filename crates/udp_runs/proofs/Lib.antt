@@ -1,5 +1,6 @@
 pub mod FirstLines
 pub mod LinesKept
+pub mod LinesFilled
 pub mod LinesAndEvents
 pub mod ProcessesTurn
 pub mod RunTextsEnd

@@ -1,14 +1,16 @@
 -- The nodes that settings list, and those of a run.
-use Rattle.std.proofs.Common.{◌≡◌, ℕ, zero, suc, ◌+◌, ◌<◌, ◌≤◌, Bool, true, false, ◌||◌, nat_eq, eqb-true, None, Some, List, [], ◌∷◌, ◌++◌, map, take, length, slice_get, slice_index_or, refl, sym, subst, ap, ◌∙◌, arith}
+use Rattle.std.proofs.Common.{◌≡◌, ℕ, zero, suc, ◌+◌, ◌<◌, ◌≤◌, Bool, true, false, ◌||◌, nat_eq, eqb-true, None, Some, List, [], ◌∷◌, ◌++◌, map, take, length, slice_get, slice_index_or, refl, sym, subst, ap, ◌∙◌, get_or, IsSomeAnd, inl, inr, ◌⊎◌, arith}
 use Rattle.std.specs.List.{list_any}
 use Rattle.std.specs.List.Sorted.{IsPermutation, IsNonDecreasing, IsNonDecreasingBy}
+use Rattle.std.proofs.lemmas.Bool.{eqb-false}
+use Rattle.std.proofs.lemmas.Option.{same_Some}
 use Rattle.std.proofs.lemmas.List.{get_or-map, length-map, map-append, take_all}
 use Rattle.std.proofs.lemmas.List.Sorted.{IsPermutation-map}
 use Rattle.udp_net.specs.declared.node_ports.NodePort.{NodePort}
 use Rattle.udp_runs.specs.declared.node_state.NodeState.{NodeState}
 use Rattle.udp_runs.specs.Carrying.{AreListed, node_of, place_of}
 use Rattle.udp_runs.specs.Nodes.{IsFirst}
-use Rattle.udp_runs.proofs.PlacesSet.{take-more}
+use Rattle.udp_runs.proofs.PlacesSet.{take-more, at-place, places, some-of}
 
 -- places by number have numbers that do not fall
 pub numbers-rise : (places : List NodePort) → IsNonDecreasingBy place_of places → IsNonDecreasing (map place_of places)
@@ -46,3 +48,18 @@ module _ {N S : Type 0} where
       by : (b : Bool) → nat_eq x.node node ≡ b → list_any (λ y. nat_eq y.node node) states ≡ false → (nat_eq x.node node || list_any (λ y. nat_eq y.node node) states) ≡ false
       by true is none = absurd (f zero x (omega arith) refl (eqb-true x.node node is))
       by false is none = ap (λ (b : Bool). b || list_any (λ y. nat_eq y.node node) states) is ∙ none
+
+  -- a node that has the number
+  pub some-node : (node : ℕ) (states : List (NodeState N S)) (k : ℕ) (x : NodeState N S) → k < length states → x ≡ get_or states k x → nat_eq x.node node ≡ true
+      → IsSomeAnd (slice_get states k) (λ y. y.node ≡ node)
+  some-node node states k x within is same = some-of (λ (y : NodeState N S). y.node ≡ node) (slice_get states k) x (at-place states k x within is) (eqb-true x.node node same)
+
+  -- one more does not have it
+  pub first-more : (node : ℕ) (states : List (NodeState N S)) (k : ℕ) (x : NodeState N S) → IsFirst node k states → k < length states → x ≡ get_or states k x → nat_eq x.node node ≡ false
+      → IsFirst node (k + 1) states
+  first-more node states k x f within is other j y before at same = by (places j k)
+    where
+      by : (j ≡ k) ⊎ ((j < k) ⊎ (k < j)) → ⊥
+      by (inl e) = (let one : x ≡ y = same_Some x y (sym (at-place states k x within is) ∙ sym (ap (slice_get states) e) ∙ at) in let has : x.node ≡ node = ap (λ (z : NodeState N S). z.node) one ∙ same in eqb-false x.node node other has)
+      by (inr (inl low)) = f j y low at same
+      by (inr (inr high)) = absurd (omega arith)

@@ -1,9 +1,10 @@
 -- A text that goes on from another keeps it at its front.
-use Rattle.std.proofs.Common.{◌≡◌, ℕ, ◌+◌, ◌≤◌, ◌<◌, List, [], ◌∷◌, get_or, zero, suc, refl, append_assoc, append-nil, ◌++◌, length, take, sym, ◌∙◌, ap, arith, length-take}
+use Rattle.std.proofs.Common.{◌≡◌, ℕ, ◌+◌, ◌≤◌, ◌<◌, true, false, List, [], ◌∷◌, get_or, zero, suc, refl, append_assoc, append-nil, ◌++◌, length, take, sym, ◌∙◌, ap, arith, length-take}
 use Rattle.std.proofs.Math.Seq.{take-length, take-suc, take-append_seam, take-take}
-use Rattle.std.specs.Prelude.{flat_map}
+use Rattle.std.specs.Prelude.{flat_map, ◌==◌}
 use Rattle.std.specs.List.{join_by}
 use Rattle.std.proofs.lemmas.Grind.{flat_map-append}
+use Rattle.std.proofs.lemmas.List.{take_all}
 use Rattle.vsync_text.specs.TraceText.{GoesOnFrom}
 
 pub stays : (a : List ℕ) → GoesOnFrom a a
@@ -28,6 +29,21 @@ two_fields old a b c new word first second end e f g h =
     ∙ append_assoc (old ++ word) first (second ++ end)
     ∙ append_assoc old word (first ++ (second ++ end))
     ∙ ap (λ t. old ++ (word ++ t)) (sym (append_assoc first second end))
+
+-- three texts, one behind another
+pub three_texts : (old a b new p q s : List ℕ) → a ≡ old ++ p → b ≡ a ++ q → new ≡ b ++ s → new ≡ old ++ ((p ++ q) ++ s)
+three_texts old a b new p q s e f g =
+    g ∙ ap (λ x. x ++ s) (f ∙ ap (λ x. x ++ q) e) ∙ append_assoc (old ++ p) q s ∙ append_assoc old p (q ++ s) ∙ ap (λ x. old ++ x) (sym (append_assoc p q s))
+
+-- five texts, one behind another
+pub five_texts : (old a b c d new p q s t u : List ℕ) → a ≡ old ++ p → b ≡ a ++ q → c ≡ b ++ s → d ≡ c ++ t → new ≡ d ++ u → new ≡ old ++ ((p ++ q) ++ ((s ++ t) ++ u))
+five_texts old a b c d new p q s t u e f g h k =
+    k ∙ ap (λ x. x ++ u) (h ∙ ap (λ x. x ++ t) (g ∙ ap (λ x. x ++ s) (f ∙ ap (λ x. x ++ q) e)))
+    ∙ append_assoc (((old ++ p) ++ q) ++ s) t u
+    ∙ append_assoc ((old ++ p) ++ q) s (t ++ u)
+    ∙ append_assoc (old ++ p) q (s ++ (t ++ u))
+    ∙ append_assoc old p (q ++ (s ++ (t ++ u)))
+    ∙ ap (λ x. old ++ x) (sym (append_assoc p q (s ++ (t ++ u))) ∙ ap (λ x. (p ++ q) ++ x) (sym (append_assoc s t u)))
 
 pub next_text : {X : Type 0} (f : X → List ℕ) (xs : List X) (i : ℕ) (x d : X) → x ≡ get_or xs i d → i < length xs
     → flat_map f (take (i + 1) xs) ≡ flat_map f (take i xs) ++ f x
@@ -58,6 +74,14 @@ pub record Joined {X : Type 0} (f : X → List ℕ) (first : ℕ) (old new : Lis
   pub next : mark ≡ mark_at first i
   pub text : new ≡ old ++ marked f first (take i xs)
   pub kept : GoesOnFrom old new
+
+pub none_joined : {X : Type 0} (f : X → List ℕ) (first : ℕ) (old : List ℕ) (xs : List X) → Joined f first old old xs 0 first
+none_joined f first old xs = record { next = refl; text = sym (append-nil old); kept = stays old }
+
+pub all_joined : {X : Type 0} (f : X → List ℕ) (first : ℕ) (a b : List ℕ) (xs : List X) (i mark : ℕ) → (length xs == 0) ≡ false → length xs ≤ i
+    → Joined f first a b xs i mark → b ≡ a ++ first ∷ join_by f (44 ∷ []) xs
+all_joined f first a b [] i mark some all j = let n : true ≡ false = some in absurd (cc)
+all_joined f first a b (x ∷ xs) i mark some all j = j.text ∙ ap (λ ys. a ++ marked f first ys) (take_all i (x ∷ xs) all)
 
 marked_next : {X : Type 0} (f : X → List ℕ) (first : ℕ) (xs : List X) (i : ℕ) (x d : X) → x ≡ get_or xs i d → i < length xs
     → marked f first (take (i + 1) xs) ≡ marked f first (take i xs) ++ mark_at first i ∷ f x

@@ -65,7 +65,6 @@ fn put_front(out: &mut Vec<u8>, number: u64, bytes: &[u8]) -> Result<&'static [u
 }
 
 /// Appends the line of a packet or a part of it, and answers its kind.
-#[tactic(auto, using(crate::proofs::KeepFront::goes_on))]
 fn put_packet(out: &mut Vec<u8>, number: u64, bytes: &[u8]) -> Result<&'static [u8], AllocError>
     ensures text { OnOk result (out.new.items ≡ out.old.items ++ packet_line number bytes.now) }
     ensures kind { IfOk result (λ kind. kind.now ≡ kind_in bytes.now) }

@@ -22,7 +22,6 @@ pub enum Part<'a> {
 }
 
 /// Appends a part.
-#[tactic(auto, using(crate::proofs::KeepFront::goes_on))]
 fn put_part(out: &mut Vec<u8>, part: &Part<'_>) -> Result<(), AllocError>
     ensures text { OnOk result (out.new.items ≡ out.old.items ++ text_of_part part.now) }
     ensures kept { GoesOnFrom out.old.items out.new.items }
@@ -42,7 +41,6 @@ fn put_part(out: &mut Vec<u8>, part: &Part<'_>) -> Result<(), AllocError>
 }
 
 /// Appends parts, one behind the other. Where memory is refused, what stood before is kept, and a part may have been appended.
-#[tactic(auto, using(crate::proofs::KeepFront::goes_on, crate::proofs::KeepFront::stays))]
 pub fn put_parts(out: &mut Vec<u8>, parts: &[Part<'_>]) -> Result<(), AllocError>
     ensures text { OnOk result (out.new.items ≡ out.old.items ++ flat_map text_of_part parts.now) }
     ensures kept { GoesOnFrom out.old.items out.new.items }

@@ -56,7 +56,6 @@ fn put_delivery_fields(out: &mut Vec<u8>, delivery: &Delivery) -> Result<(), All
     put_payload(out, b' ', delivery.message.payload.as_slice())
 }
 
-#[tactic(auto, using(crate::proofs::KeepFront::goes_on))]
 fn put_install_fields(out: &mut Vec<u8>, install: &Install) -> Result<(), AllocError>
     ensures text { OnOk result (out.new.items ≡ out.old.items ++ (install_view install.now ++ install_rest install.now)) }
     ensures kept { GoesOnFrom out.old.items out.new.items }
@@ -108,7 +107,6 @@ fn event_word(event: &Event) -> &'static [u8]
 }
 
 /// Appends the line of an event or a part of it.
-#[tactic(auto, using(crate::proofs::KeepFront::goes_on))]
 fn put_event(out: &mut Vec<u8>, event: &Event) -> Result<(), AllocError>
     ensures text { OnOk result (out.new.items ≡ out.old.items ++ line_of event.now) }
     ensures kept { GoesOnFrom out.old.items out.new.items }

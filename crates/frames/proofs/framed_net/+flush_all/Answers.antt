@@ -1,9 +1,9 @@
-use Rattle.std.proofs.Common.{◌∷◌, subst, sym, List}
+use Rattle.std.proofs.Common.{◌∷◌, ◌∙◌, refl, subst, sym, List}
 use Rattle.frames.specs.Outlets.{OutletModel}
 use Rattle.frames.specs.Sendings.{AreSameWays, IsFrameOf, KeepLongs, WaitOf}
 use Rattle.frames.proofs.GatheredSends.{ways-on}
-use Rattle.frames.proofs.Logs.{grows-none, grows-on}
-use Rattle.frames.proofs.SendsCarried.{adds-on, same-ways}
+use Rattle.frames.proofs.Logs.{grows-none, grows-on, up}
+use Rattle.frames.proofs.SendsCarried.{adds-none, adds-on, same-ways}
 use Rattle.frames.proofs.framed_net.+flush_all.Goals as goal
 
 pub returns-clause-sends : goal.returns-clause-sends
@@ -33,3 +33,12 @@ returns-in_default-clause-grows g t c = grows-none (g.N.Net.log c.args.net.now)
 
 pub returns-in_default-clause-ways : goal.returns-in_default-clause-ways
 returns-in_default-clause-ways g t c = same-ways c.args.outlets.now
+
+pub returns-clause-failed : goal.returns-clause-failed
+returns-clause-failed g t c = c.flush_all.ensures.failed ∙ c.flush_first.ensures.failed
+
+pub returns-clause-unsent : goal.returns-clause-unsent
+returns-clause-unsent g t c = up _ _ _ _ c.flush_first.ensures.unsent refl c.flush_all.ensures.unsent
+
+pub returns-in_default-clause-sends : goal.returns-in_default-clause-sends
+returns-in_default-clause-sends g t c = λ long sent of known. (adds-none (IsFrameOf c.args.seal.now long sent) (g.N.Net.log c.args.net.now), of, known)

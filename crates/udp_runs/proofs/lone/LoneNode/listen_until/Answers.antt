@@ -37,3 +37,48 @@ returns-then-self-is_over-clause-owes g c = let (told, voice, gone, once, grows,
 
 pub returns-clause-owes : goal.returns-clause-owes
 returns-clause-owes g c = let (told, voice, gone, once, grows, owes) = c.loop.invariant in owes
+
+pub returns-then-round-eq0-clause-same : goal.returns-then-round-eq0-clause-same
+returns-then-round-eq0-clause-same g c = (refl, refl)
+
+pub returns-then-round-eq0-clause-owes : goal.returns-then-round-eq0-clause-owes
+returns-then-round-eq0-clause-owes g c = λ start owed. owed
+
+pub returns-then-round-eq0-clause-gone : goal.returns-then-round-eq0-clause-gone
+returns-then-round-eq0-clause-gone g c = refl
+
+pub returns-then-round-eq0-clause-grows : goal.returns-then-round-eq0-clause-grows
+returns-then-round-eq0-clause-grows g c = earlier-refl _
+
+pub returns-then-self-is_over-clause-same : goal.returns-then-self-is_over-clause-same
+returns-then-self-is_over-clause-same g c = let (told, voice, gone, once, grows, owes) = c.loop.invariant in (voice, once)
+
+pub returns-then-self-is_over-clause-tells : goal.returns-then-self-is_over-clause-tells
+returns-then-self-is_over-clause-tells g c = let (told, voice, gone, once, grows, owes) = c.loop.invariant in told
+
+pub returns-then-self-is_over-clause-grows : goal.returns-then-self-is_over-clause-grows
+returns-then-self-is_over-clause-grows g c = let (told, voice, gone, once, grows, owes) = c.loop.invariant in grows
+
+pub returns-then-self-is_over-clause-gone : goal.returns-then-self-is_over-clause-gone
+returns-then-self-is_over-clause-gone g c = let (told, voice, gone, once, grows, owes) = c.loop.invariant in c.now-self.ensures ∙ gone
+
+pub returns-in-Err-clause-same : goal.returns-in-Err-clause-same
+returns-in-Err-clause-same g c = let (told, voice, gone, once, grows, owes) = c.loop.invariant in (c.listen_for.ensures.same.0 ∙ voice, c.listen_for.ensures.same.1 ∙ once)
+
+pub returns-in-Err-clause-owes : goal.returns-in-Err-clause-owes
+returns-in-Err-clause-owes g c = λ start owed. tt
+
+pub returns-in-Err-clause-gone : goal.returns-in-Err-clause-gone
+returns-in-Err-clause-gone g c = let (told, voice, gone, once, grows, owes) = c.loop.invariant in c.now-self.ensures ∙ gone
+
+pub returns-clause-same : goal.returns-clause-same
+returns-clause-same g c = let (told, voice, gone, once, grows, owes) = c.loop.invariant in (voice, once)
+
+pub returns-clause-tells : goal.returns-clause-tells
+returns-clause-tells g c = let (told, voice, gone, once, grows, owes) = c.loop.invariant in told
+
+pub returns-clause-grows : goal.returns-clause-grows
+returns-clause-grows g c = let (told, voice, gone, once, grows, owes) = c.loop.invariant in grows
+
+pub returns-clause-gone : goal.returns-clause-gone
+returns-clause-gone g c = let (told, voice, gone, once, grows, owes) = c.loop.invariant in gone

@@ -51,3 +51,45 @@ returns-then-self-is_over-clause-owes g c = let (told, voice, gone, once, grows,
 
 pub returns-clause-owes : goal.returns-clause-owes
 returns-clause-owes g c = let (told, voice, gone, once, grows, owes) = c.loop-round.invariant in owes
+
+pub returns-then-self-is_over-clause-same : goal.returns-then-self-is_over-clause-same
+returns-then-self-is_over-clause-same g c = let (told, voice, gone, once, grows, owes) = c.loop-round.invariant in (voice, once)
+
+pub returns-then-self-is_over-clause-tells : goal.returns-then-self-is_over-clause-tells
+returns-then-self-is_over-clause-tells g c = let (told, voice, gone, once, grows, owes) = c.loop-round.invariant in told
+
+pub returns-then-self-is_over-clause-grows : goal.returns-then-self-is_over-clause-grows
+returns-then-self-is_over-clause-grows g c = let (told, voice, gone, once, grows, owes) = c.loop-round.invariant in grows
+
+pub returns-then-self-is_over-clause-gone : goal.returns-then-self-is_over-clause-gone
+returns-then-self-is_over-clause-gone g c = let (told, voice, gone, once, grows, owes) = c.loop-round.invariant in gone
+
+pub returns-in-Err-clause-same : goal.returns-in-Err-clause-same
+returns-in-Err-clause-same g c = let (told, voice, gone, once, grows, owes) = c.loop-round.invariant in (c.listen_until.ensures.same.0 ∙ voice, c.listen_until.ensures.same.1 ∙ once)
+
+pub returns-in-Err-clause-owes : goal.returns-in-Err-clause-owes
+returns-in-Err-clause-owes g c = λ start owed. tt
+
+pub returns-in-Err-clause-gone : goal.returns-in-Err-clause-gone
+returns-in-Err-clause-gone g c = let (told, voice, gone, once, grows, owes) = c.loop-round.invariant in c.listen_until.ensures.gone ∙ gone
+
+pub returns-in-Err-turn-clause-same : goal.returns-in-Err-turn-clause-same
+returns-in-Err-turn-clause-same g c = let (told, voice, gone, once, grows, owes) = c.loop-round.invariant in (c.turn.ensures.same.0 ∙ c.listen_until.ensures.same.0 ∙ voice, c.turn.ensures.same.1 ∙ c.listen_until.ensures.same.1 ∙ once)
+
+pub returns-in-Err-turn-clause-owes : goal.returns-in-Err-turn-clause-owes
+returns-in-Err-turn-clause-owes g c = λ start owed. tt
+
+pub returns-in-Err-turn-clause-gone : goal.returns-in-Err-turn-clause-gone
+returns-in-Err-turn-clause-gone g c = let (told, voice, gone, once, grows, owes) = c.loop-round.invariant in c.listen_until.ensures.gone ∙ gone
+
+pub returns-clause-same : goal.returns-clause-same
+returns-clause-same g c = let (told, voice, gone, once, grows, owes) = c.loop-round.invariant in (voice, once)
+
+pub returns-clause-tells : goal.returns-clause-tells
+returns-clause-tells g c = let (told, voice, gone, once, grows, owes) = c.loop-round.invariant in told
+
+pub returns-clause-grows : goal.returns-clause-grows
+returns-clause-grows g c = let (told, voice, gone, once, grows, owes) = c.loop-round.invariant in grows
+
+pub returns-clause-gone : goal.returns-clause-gone
+returns-clause-gone g c = let (told, voice, gone, once, grows, owes) = c.loop-round.invariant in gone
