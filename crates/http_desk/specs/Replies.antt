@@ -20,6 +20,7 @@ use Rattle.http_desk.specs.declared.known.Known.{Known}
 pub record Says (code : ℕ) (content : List ℕ) (r : Reply) : Type 0 where
   pub status : r.status ≡ code
   pub body : r.body.is_short ≡ false → r.body.items ≡ content
+  pub alone : r.shared ≡ None
 
 -- a token in quotes, such as "3@1.1/2"
 abbrev pub quoted_token : Token → List ℕ

@@ -1,13 +1,13 @@
 //! What changed in the map, for those who wait for it.
 
 use crate::CHANGES;
-use crate::history::Tag;
 use std::alloc::{AllocError, Global};
+use tickets::Place;
 
 /// A change: the place behind which it stands, and its key.
 #[derive(Drop)]
 pub(crate) struct Change {
-    tag: Tag,
+    tag: Place,
     pub(crate) key: Vec<u8>,
 }
 
@@ -15,9 +15,9 @@ pub(crate) struct Change {
 pub(crate) struct Changes {
     alloc: Global,
     // The place behind which they begin.
-    first: Option<Tag>,
+    first: Option<Place>,
     /// The place of the last change.
-    pub(crate) last: Option<Tag>,
+    pub(crate) last: Option<Place>,
     log: Vec<Change>,
 }
 
@@ -43,14 +43,14 @@ impl Changes {
     }
 
     /// All may have changed.
-    pub(crate) fn begin(&mut self, tag: Tag) {
+    pub(crate) fn begin(&mut self, tag: Place) {
         self.log.clear();
         self.last = Some(tag);
         self.first = self.last;
     }
 
     /// A key changed.
-    pub(crate) fn note(&mut self, tag: Tag, key: &[u8]) -> Result<(), AllocError> {
+    pub(crate) fn note(&mut self, tag: Place, key: &[u8]) -> Result<(), AllocError> {
         let key = Vec::from_slice(self.alloc, key)?;
         if self.log.len() >= CHANGES {
             let oldest = self.log.remove(0);
@@ -64,7 +64,7 @@ impl Changes {
     }
 
     /// What changed behind a place, the oldest first; `None` if that is not known, or not any more.
-    pub(crate) fn since(&self, after: Option<&Tag>) -> Option<&[Change]> {
+    pub(crate) fn since(&self, after: Option<&Place>) -> Option<&[Change]> {
         let tag = after?;
         let log = self.log.as_slice();
         if self.first.as_ref() == Some(tag) {

@@ -1,9 +1,8 @@
 //! A connection. Its requests are read ahead by one `Connection`, and answered by another one that is given the same bytes: what the second one sends are answers to
 //! the requests that came, whatever the first one makes of them.
 
-use crate::IDLE;
+use crate::{IDLE, RESERVED_IDLE};
 use crate::accepting::Caller;
-use crate::history::Tag;
 use crate::kept::Keeps;
 use crate::reply::Reply;
 use crate::request::Asked;
@@ -13,14 +12,19 @@ use mio::net::TcpStream;
 use std::alloc::{AllocError, Global};
 use std::hash::RandomState;
 use std::io;
-use std::io::{ErrorKind, Read};
+use std::io::{ErrorKind, Read, Write};
 use std::time::Duration;
+use tickets::Place;
 
 /// The most bytes of a request's body.
 const BODY: usize = 65_536;
 
 /// The most bytes that are read at once.
 const READ: usize = 8_192;
+
+/// The most bytes that are written at once, and how often at most before others have their turn.
+const WRITE: usize = 65_536;
+const WRITES: u32 = 2;
 
 /// How many steps a connection has before others have theirs.
 const STEPS: u32 = 16;
@@ -46,17 +50,18 @@ pub(crate) enum Hold {
     /// The answer for a ticket: for a lock until the first of these times, and at most until the second.
     Ticket {
         ticket: u64,
-        until: Duration,
+        wait: Duration,
         end: Duration,
     },
-    /// That all members of a view have delivered what stands up to a place; then it is given an answer.
+    /// That all members of a view have delivered what stands up to a place, at most until this time; then it is given an answer.
     Stable {
-        at: Tag,
+        at: Place,
         reply: Reply,
+        end: Duration,
     },
     /// That something changes behind a place, at most until this time.
     Change {
-        after: Option<Tag>,
+        after: Option<Place>,
         until: Duration,
     },
 }
@@ -107,8 +112,14 @@ pub(crate) struct Client {
     pub(crate) is_due: bool,
     /// Whether it is over, and not kept.
     pub(crate) is_over: bool,
+    /// Whether it is one of those that are for a few requests alone.
+    pub(crate) is_reserved: bool,
+    /// Whether it is closed once its answers are sent.
+    pub(crate) is_last: bool,
     // Whether a read may find something.
     is_readable: bool,
+    // Whether it was looked, since its socket was ready last, whether its peer has gone.
+    is_looked_at: bool,
     /// When something was last read.
     pub(crate) heard: Duration,
     buffer: Vec<u8>,
@@ -127,7 +138,10 @@ impl Drop for Client {
             hold: _,
             is_due: _,
             is_over: _,
+            is_reserved: _,
+            is_last: _,
             is_readable: _,
+            is_looked_at: _,
             heard: _,
             buffer: _,
         } = self;
@@ -159,6 +173,7 @@ impl Client {
         keeps: Keeps,
         caller: Caller,
         now: Duration,
+        is_reserved: bool,
     ) -> Result<Client, AllocError> {
         let buffer = vec![in alloc; 0; READ]?;
         let Caller { id, stream } = caller;
@@ -177,7 +192,10 @@ impl Client {
             hold: Hold::Nothing,
             is_due: true,
             is_over: false,
+            is_reserved,
+            is_last: false,
             is_readable: true,
+            is_looked_at: false,
             heard: now,
             buffer,
         })
@@ -187,22 +205,35 @@ impl Client {
     pub(crate) fn wake(&mut self) {
         self.is_due = true;
         self.is_readable = true;
+        self.is_looked_at = false;
     }
 
-    // Writes what waits; answers whether all of it went.
-    fn flush(&mut self) -> io::Result<bool> {
-        for _ in 0..STEPS {
+    // Writes a piece of what waits; answers how much went.
+    fn write(&mut self) -> io::Result<usize> {
+        let output = self.server.connection.output();
+        let piece = output.get(..output.len().min(WRITE)).unwrap_or(&[]);
+        let count = self.stream.write(piece)?;
+        self.server.connection.sent(count);
+        Ok(count)
+    }
+
+    // Writes what waits, as much as may go in one turn; answers what is next, unless all of it went.
+    fn flush(&mut self) -> io::Result<Option<Step>> {
+        for _ in 0..WRITES {
             if !self.server.connection.wants_write() {
-                return Ok(true);
+                return Ok(None);
             }
-            match self.server.connection.write_to(&mut self.stream) {
+            match self.write() {
                 Ok(0) => return Err(ErrorKind::WriteZero.into()),
                 Ok(_) => (),
-                Err(error) if error.kind() == ErrorKind::WouldBlock => return Ok(false),
+                Err(error) if error.kind() == ErrorKind::WouldBlock => return Ok(Some(Step::Rests)),
                 Err(error) => return Err(error),
             }
         }
-        Ok(false)
+        if self.server.connection.wants_write() {
+            return Ok(Some(Step::More));
+        }
+        Ok(None)
     }
 
     // Gives both the bytes that came.
@@ -249,10 +280,10 @@ impl Client {
 
     // One step; `None` if it goes on.
     fn step(&mut self, now: Duration) -> io::Result<Option<Step>> {
-        if !self.flush()? {
-            return Ok(Some(Step::Rests));
+        if let Some(step) = self.flush()? {
+            return Ok(Some(step));
         }
-        if self.server.connection.is_done() {
+        if self.is_last | self.server.connection.is_done() {
             return Ok(Some(Step::Over));
         }
         if self.reads_ahead() {
@@ -294,6 +325,25 @@ impl Client {
         }
     }
 
+    /// Whether its peer has gone while it waits: there is nothing more to read, and there will not be.
+    pub(crate) fn has_gone(&mut self) -> bool {
+        if !self.is_held() | !self.is_readable | self.is_looked_at {
+            return false;
+        }
+        match self.stream.peek(self.buffer.as_mut_slice()) {
+            Ok(0) => true,
+            Ok(_) => {
+                self.is_looked_at = true;
+                false
+            }
+            Err(error) if error.kind() == ErrorKind::WouldBlock => {
+                self.is_readable = false;
+                false
+            }
+            Err(_) => true,
+        }
+    }
+
     /// The ticket for whose answer it waits.
     pub(crate) fn ticket(&self) -> Option<u64> {
         match &self.hold {
@@ -305,7 +355,12 @@ impl Client {
     /// Whether it said nothing for long, and waits for nothing.
     pub(crate) fn is_idle(&self, now: Duration) -> bool {
         let silence = now.saturating_sub(self.heard);
-        !self.is_held() & (silence > Duration::from_secs(IDLE))
+        let most = if self.is_reserved {
+            RESERVED_IDLE
+        } else {
+            IDLE
+        };
+        !self.is_held() & (silence > Duration::from_secs(most))
     }
 
     /// It waits for nothing, and is given what there is for it: the answer to what it asked, which `go_on` sends, or what it waits for.

@@ -1,9 +1,10 @@
 //! What a desk knows of its node beside what the node keeps.
 
-use crate::history::{Tag, member_of};
-use address::{Address, ViewId};
+use crate::history::member_of;
+use address::{Address, Node, ViewId};
 use std::alloc::{AllocError, Global};
 use std::time::Duration;
+use tickets::Place;
 use trace_props::{Event, Install};
 use view::Addresses;
 
@@ -84,10 +85,20 @@ impl Counts {
     }
 
     /// The place where its member is, if it is in a view.
-    pub(crate) fn at(&self) -> Option<Tag> {
+    pub(crate) fn at(&self) -> Option<Place> {
         let view = self.view?;
-        let place = self.place;
-        Some(Tag { view, place })
+        let count = self.place;
+        Some(Place { view, count })
+    }
+
+    /// Whether a member of a node is in its view.
+    pub(crate) fn has_member_at(&self, node: Node) -> bool {
+        for member in self.members.as_slice() {
+            if member.node() == node {
+                return true;
+            }
+        }
+        false
     }
 
     // Notes the incarnation of a node.

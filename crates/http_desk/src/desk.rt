@@ -1,50 +1,63 @@
+//! What a node keeps for those who ask it over HTTP: its copy, the writes that are under way, and the answers that wait for their connections.
+
 use crate::changes::Changes;
-use crate::client::Hold;
 use crate::counts::Counts;
-use crate::history::{History, Tag, member_of};
+use crate::history::{History, member_of};
 use crate::kept::{Keeps, Kept};
 use crate::known::Known;
+use crate::lock_request::release_of;
+use crate::orders::Orders;
 use crate::reply::Reply;
-use crate::request::Order;
+use crate::request::{Errand, Order};
 use crate::standing::Standing;
-use crate::writes::{Write, Writes};
-use crate::{CLIENTS, PATIENCE};
-use address::{Address, ViewId};
+use crate::{PATIENCE, WRITES};
+use address::{Address, Node};
+use bytes::Bytes;
 use http::StatusCode;
 use keyed_state::Token;
 use replicated_map::Command;
 use std::alloc::{AllocError, Global};
 use std::time::Duration;
-use trace_props::{Delivery, Event, Sending};
+use tickets::{Place, Tickets};
+use trace_props::{Delivery, Event};
 
-/// The answer of a ticket, perhaps only once all members have delivered what stands up to a place.
+/// What a ticket is answered, perhaps only once all members have delivered what stands up to a place.
 #[derive(Drop)]
 pub(crate) struct Answer {
     pub(crate) ticket: u64,
     pub(crate) reply: Reply,
-    pub(crate) at: Option<Tag>,
+    pub(crate) at: Option<Place>,
 }
 
-/// What a node keeps for those who ask it, and what it answers them.
+/// What a node keeps for those who ask it.
 pub(crate) struct Desk {
     pub(crate) alloc: Global,
     pub(crate) own: Address,
-    // Whether its node says again by itself what a view hands back.
-    says_again: bool,
-    // How many connections there were as their turn began.
+    /// The nodes of the settings.
+    nodes: Vec<Node>,
+    /// How many connections there were as their turn began.
     pub(crate) connections: usize,
     pub(crate) kept: Kept,
     pub(crate) changes: Changes,
     pub(crate) history: History,
     pub(crate) counts: Counts,
-    pub(crate) writes: Writes,
-    // The view of which it was told last how many messages are stable, and how many.
-    pub(crate) stable: Option<(ViewId, u64)>,
-    // Answers that their connections have not taken.
+    pub(crate) tickets: Tickets,
+    pub(crate) orders: Orders,
+    /// The locks of which a client was told that the node holds them, or waits for them on.
+    claims: Vec<Vec<u8>>,
+    /// How many messages of its view the node knows to be stable.
+    pub(crate) stable: Option<Place>,
+    /// The datagrams that were dropped as strange.
+    strange: u64,
+    /// Answers that their connections have not taken.
     pub(crate) replies: Vec<Answer>,
-    tickets: u64,
+    /// All that is kept as JSON, at this place.
+    pub(crate) rendered: Option<(Place, Bytes)>,
+    last_ticket: u64,
     pub(crate) has_ended: bool,
-    // Whether memory was refused to what it keeps.
+    /// Whether it was asked that the node leaves.
+    pub(crate) is_leaving: bool,
+    /// Whether it ran out of memory for what it keeps.
     is_short: bool,
     pub(crate) now: Duration,
 }
@@ -54,17 +67,22 @@ impl Drop for Desk {
         let Desk {
             alloc: _,
             own: _,
-            says_again: _,
+            nodes: _,
             connections: _,
             kept: _,
             changes: _,
             history: _,
             counts: _,
-            writes: _,
-            stable: _,
-            replies: _,
             tickets: _,
+            orders: _,
+            claims: _,
+            stable: _,
+            strange: _,
+            replies: _,
+            rendered: _,
+            last_ticket: _,
             has_ended: _,
+            is_leaving: _,
             is_short: _,
             now: _,
         } = self;
@@ -91,47 +109,60 @@ fn touched_by<'a>(kept: &Kept, delivery: &'a Delivery) -> Touched<'a> {
     Touched::Key(key, kept.version(key))
 }
 
+// A time in milliseconds.
+fn milliseconds(time: Duration) -> u64 {
+    u64::try_from(time.as_millis()).unwrap_or(u64::MAX)
+}
+
 impl Desk {
-    /// Of a node that keeps this and whose member has this address, by whether the node says again by itself what a view hands back.
+    /// Creates the desk of a node that keeps this, whose member has this address, and whose settings list these nodes.
     pub(crate) fn new(
         alloc: Global,
         keeps: Keeps,
         own: Address,
-        says_again: bool,
+        nodes: Vec<Node>,
     ) -> Result<Desk, AllocError> {
         Ok(Desk {
             alloc,
             own,
-            says_again,
+            nodes,
             connections: 0,
             kept: Kept::new(alloc, keeps, own)?,
             changes: Changes::new(alloc),
             history: History::new(alloc),
             counts: Counts::new(alloc, own),
-            writes: Writes::new(alloc),
+            tickets: Tickets::new(alloc),
+            orders: Orders::new(alloc),
+            claims: Vec::new(alloc),
             stable: None,
+            strange: 0,
             replies: Vec::new(alloc),
-            tickets: 0,
+            rendered: None,
+            last_ticket: 0,
             has_ended: false,
+            is_leaving: false,
             is_short: false,
             now: Duration::ZERO,
         })
     }
 
-    /// Notes whether memory was refused to what it keeps: it lacks something from then on, which `tell` says.
+    /// Notes whether it ran out of memory for what it keeps: it lacks something from then on, and `next_write` fails.
     pub(crate) fn note(&mut self, kept: Result<(), AllocError>) {
         if kept.is_err() {
             self.is_short = true;
         }
     }
 
-    /// Appends the lines that the node is to send next, each with a line feed; an error if memory was refused to them, or to something before.
-    pub(crate) fn tell(&mut self, text: &mut Vec<u8>) -> Result<(), AllocError> {
-        if self.is_short {
-            return Err(AllocError);
+    /// Learns at a time how many messages are stable, and how many datagrams were dropped as strange.
+    pub(crate) fn learn(&mut self, now: Duration, stable: Option<Place>, strange: u64) {
+        self.now = now;
+        self.strange = strange;
+        if stable.is_some() {
+            self.stable = stable;
         }
-        self.writes.tell(text)
     }
+
+    // ---- what happens at the node
 
     // What an event may change in the map: with a state all, and with the first view.
     fn touched<'a>(&self, event: &'a Event) -> Touched<'a> {
@@ -144,41 +175,27 @@ impl Desk {
     }
 
     // Notes that a key changed, if its version is another one.
-    fn note_key(&mut self, at: Tag, key: &[u8], before: Option<Token>) {
+    fn note_key(&mut self, at: Place, key: &[u8], before: Option<Token>) {
         if self.kept.version(key) != before {
             let noted = self.changes.note(at, key);
             self.note(noted);
         }
     }
 
-    // What its member did goes into all that is kept of it.
+    // Takes an event into all that is kept.
     fn follow(&mut self, event: &Event) -> Result<(), AllocError> {
         self.history.hear(event)?;
         self.counts.hear(event, self.now)?;
+        self.drop_claims(event)?;
         self.kept.hear(event)
     }
 
-    // A message was sent: if a write says it, its ticket waits for what becomes of it.
-    fn hear_sent(&mut self, sending: &Sending) -> Result<(), AllocError> {
-        let said = self
-            .kept
-            .said(self.alloc, sending.message.payload.as_slice())?;
-        match self.writes.sent(said.as_slice())? {
-            Some(ticket) => self.kept.note(sending.message.number, ticket),
-            None => Ok(()),
-        }
-    }
-
-    /// What happened next at the node. It may begin again with another member.
+    /// Takes the next event at the node, and settles the tickets of which it says what became. Another member of the node may begin with it.
     pub(crate) fn hear(&mut self, event: &Event) {
         let member = member_of(event);
         if member != self.own {
             let begun = self.begin_again(member);
             self.note(begun);
-        }
-        if let Event::Sent(sending) = event {
-            let heard = self.hear_sent(sending);
-            self.note(heard);
         }
         let touched = self.touched(event);
         let followed = self.follow(event);
@@ -190,161 +207,345 @@ impl Desk {
                 Touched::All => self.changes.begin(at),
             }
         }
+        if self.kept.has_answers() {
+            self.settle_known();
+        }
     }
 
-    // Another member of its node is there now.
+    // Another member of its node begins. What the last one sent is not heard of any more: others may have delivered it.
     fn begin_again(&mut self, member: Address) -> Result<(), AllocError> {
         self.own = member;
         self.kept = Kept::new(self.alloc, self.kept.keeps(), member)?;
         self.changes = Changes::new(self.alloc);
         self.counts.begin_again(member);
-        self.writes.begin_again()
+        self.stable = None;
+        self.rendered = None;
+        self.claims.clear();
+        self.tickets.begin_again();
+        self.drop_ended(false)
     }
 
-    /// The member has ended: all who wait are answered 503, and so is each write from now on.
+    /// The node has ended: each open ticket ends, and no more is opened.
     pub(crate) fn end(&mut self) {
         self.has_ended = true;
-        let given_up = self.writes.give_up();
-        self.note(given_up);
-        self.expire(Duration::MAX);
+        self.tickets.close();
+        let dropped = self.drop_ended(false);
+        self.note(dropped);
     }
 
-    /// Whether there is something to do at once: a line to send, or an answer to give.
-    pub(crate) fn is_due(&self) -> bool {
-        self.writes.has_line() | self.kept.has_answers()
+    // ---- writes
+
+    /// Opens the ticket of a command; `None` if there is no room for it, and nothing is done for it then.
+    pub(crate) fn open(&mut self, order: Order) -> Option<u64> {
+        if self.has_ended | self.is_leaving | (self.orders.len() >= WRITES) {
+            return None;
+        }
+        let until = self.until(order.timeout);
+        let ticket = self.last_ticket.wrapping_add(1);
+        self.last_ticket = ticket;
+        if self.orders.keep(ticket, order).is_err() {
+            return None;
+        }
+        if self.tickets.open(ticket, milliseconds(until)).is_err() {
+            self.orders.remove(ticket);
+            return None;
+        }
+        Some(ticket)
     }
 
-    // The answer of a ticket is there.
-    fn answer(&mut self, ticket: u64, reply: Reply, at: Option<Tag>) {
-        if self.replies.push(Answer { ticket, reply, at }).is_err() {
-            self.is_short = true;
+    /// The line of the next command that is to be sent, if there is one; an error if it ran out of memory for that, or for what it keeps.
+    pub(crate) fn next_write(&self) -> Result<Option<Vec<u8>>, AllocError> {
+        if self.is_short {
+            return Err(AllocError);
+        }
+        let Some(ticket) = self.tickets.next() else {
+            return Ok(None);
+        };
+        match self.orders.of(ticket) {
+            Some(order) => Ok(Some(Vec::from_slice(self.alloc, order.line.as_slice())?)),
+            None => Ok(None),
         }
     }
 
-    fn refuse(&mut self, ticket: u64) {
-        let reply = Reply::plain(self.alloc, StatusCode::SERVICE_UNAVAILABLE);
-        self.answer(ticket, reply, None);
-    }
-
-    // Those are refused whose writes were asked for before a time and never told.
-    fn expire(&mut self, before: Duration) {
-        for _ in 0..self.writes.len() {
-            if let Some(ticket) = self.writes.expire(before) {
-                self.refuse(ticket);
+    /// Notes that the command that `next_write` gave was sent as the message of a number; or that it says nothing that can be sent.
+    pub(crate) fn wrote(&mut self, number: Option<u64>) {
+        let Some(ticket) = self.tickets.next() else {
+            return;
+        };
+        match number {
+            Some(number) => {
+                self.tickets.send(ticket);
+                let noted = self.kept.note(number, ticket);
+                self.note(noted);
+            }
+            None => {
+                let reply = Reply::plain(self.alloc, StatusCode::BAD_REQUEST);
+                self.answer(ticket, reply, None);
             }
         }
     }
 
-    // A write came back with its view: it is sent again, once, at this index among those that are to be sent. Answers whether it is.
-    fn take_back(&mut self, write: Option<Write>, ticket: u64, index: usize) -> bool {
-        match write {
-            Some(write) if !write.is_again => {
-                let sent = self.writes.send_again(write, index, self.says_again);
-                self.note(sent);
-                true
-            }
-            _ => {
-                self.refuse(ticket);
-                false
-            }
+    // Answers a ticket, if it is open still.
+    fn answer(&mut self, ticket: u64, reply: Reply, at: Option<Place>) {
+        if self.tickets.is_open(ticket) {
+            self.tickets.settle(ticket);
+            let pushed = self.replies.push(Answer { ticket, reply, at });
+            self.is_short |= pushed.is_err();
+        }
+        self.orders.remove(ticket);
+    }
+
+    // Its message was handed back: it is sent again, unless who asked has gone.
+    fn hand_back(&mut self, ticket: u64) {
+        self.tickets.hand_back(ticket);
+        if self.orders.is_orphan(ticket) {
+            self.tickets.go(ticket);
+            self.orders.remove(ticket);
         }
     }
 
-    // What a write came to is known, at a place: it is answered at once, or once all members have delivered it.
-    fn settle_at(&mut self, ticket: u64, at: Tag, reply: Reply, write: &Option<Write>) {
-        let reply = reply.at(self.alloc, &at);
-        let is_done = reply.status == StatusCode::OK;
-        match write {
-            Some(write) if is_done & write.is_stable => self.answer(ticket, reply, Some(at)),
-            _ => self.answer(ticket, reply, None),
-        }
-    }
-
-    // What became of a write is known. Answers whether it is sent again, at this index.
-    fn settle(&mut self, known: Known, index: usize) -> bool {
+    // What became of the message of a ticket is known, at a place: it is answered at once, or once all members have delivered it.
+    fn settle(&mut self, known: Known) {
         let Known { ticket, at, reply } = known;
-        let write = self.writes.settle(ticket);
         let Some(reply) = reply else {
-            return self.take_back(write, ticket, index);
+            self.hand_back(ticket);
+            return;
         };
         self.counts.write();
+        let is_done = reply.status == StatusCode::OK;
+        if is_done {
+            self.claim_or_release(ticket);
+        }
+        let is_stable = match self.orders.of(ticket) {
+            Some(order) => order.is_stable,
+            None => false,
+        };
         match at {
-            Some((view, place)) => self.settle_at(ticket, Tag { view, place }, reply, &write),
+            Some((view, count)) => {
+                let at = Place { view, count };
+                let reply = reply.at(self.alloc, &at);
+                let waits = if is_done & is_stable { Some(at) } else { None };
+                self.answer(ticket, reply, waits);
+            }
             None => self.answer(ticket, reply, None),
+        }
+    }
+
+    // Settles the tickets of whose messages it is known what became.
+    fn settle_known(&mut self) {
+        match self.kept.take(self.alloc) {
+            Ok(all) => {
+                for known in all {
+                    self.settle(known);
+                }
+            }
+            Err(error) => self.note(Err(error)),
+        }
+    }
+
+    // Forgets the commands of tickets that have ended; or of all but those whose holders have gone while their messages were under way, which are settled yet.
+    fn drop_ended(&mut self, keeps_orphans: bool) -> Result<(), AllocError> {
+        for ticket in self.orders.tickets(self.alloc)? {
+            let stays = self.tickets.is_open(ticket)
+                | (keeps_orphans & self.orders.is_orphan(ticket));
+            if !stays {
+                self.orders.remove(ticket);
+            }
+        }
+        Ok(())
+    }
+
+    /// Ends the tickets whose time is over, and withdraws the requests for locks of those who have gone.
+    pub(crate) fn pass_time(&mut self) {
+        self.tickets.expire(milliseconds(self.now));
+        let withdrawn = self.withdraw_queued();
+        self.note(withdrawn);
+    }
+
+    // Those who wait for locks are the tickets of connections, and those whose holders have gone.
+    fn keep_queued(&mut self, mut tickets: Vec<u64>) -> Result<(), AllocError> {
+        for orphan in self.orders.orphans(self.alloc)? {
+            tickets.push(orphan)?;
+        }
+        self.kept.keep(tickets.as_slice());
+        Ok(())
+    }
+
+    /// Forgets what its connections, which wait for these tickets, had to take in this turn.
+    pub(crate) fn end_turn(&mut self, tickets: Vec<u64>) {
+        self.replies.clear();
+        self.tickets.forget();
+        let dropped = self.drop_ended(true);
+        self.note(dropped);
+        if self.kept.queued() > 0 {
+            let kept = self.keep_queued(tickets);
+            self.note(kept);
+        }
+    }
+
+    /// Who holds a ticket has gone. What was not sent is withdrawn, and so is a request for a lock. Answers whether nothing is to be answered any more.
+    pub(crate) fn go(&mut self, ticket: u64) -> bool {
+        self.tickets.go(ticket);
+        if !self.tickets.is_open(ticket) {
+            self.orders.remove(ticket);
+            return true;
+        }
+        if self.orders.lock_of(ticket).is_none() {
+            return false;
+        }
+        self.orders.abandon(ticket);
+        true
+    }
+
+    // ---- locks
+
+    /// A client was told that the node holds a lock, or waits for it on: it stays so until somebody releases it.
+    pub(crate) fn claim(&mut self, name: &[u8]) {
+        if self.is_claimed(name) {
+            return;
+        }
+        let claimed = match Vec::from_slice(self.alloc, name) {
+            Ok(name) => self.claims.push(name).is_ok(),
+            Err(_) => false,
+        };
+        self.is_short |= !claimed;
+    }
+
+    fn is_claimed(&self, name: &[u8]) -> bool {
+        for claimed in self.claims.iter() {
+            if claimed.as_slice() == name {
+                return true;
+            }
         }
         false
     }
 
-    // What became of the writes of which something is known.
-    fn settle_known(&mut self, known: Vec<Known>) {
-        let mut again = 0usize;
-        for known in known {
-            if self.settle(known, again) {
-                again = again.saturating_add(1);
+    // A release of its own ends a claim, and another table all of them.
+    fn drop_claims(&mut self, event: &Event) -> Result<(), AllocError> {
+        if self.claims.is_empty() {
+            return Ok(());
+        }
+        match event {
+            Event::Delivered(delivery) if delivery.message.sender == self.own => {
+                let payload = delivery.message.payload.as_slice();
+                if let Some(name) = self.kept.released(self.alloc, payload)? {
+                    self.claims.retain(|claimed| claimed.as_slice() != name.as_slice());
+                }
             }
+            Event::Installed(install) if install.get().given.is_some() => self.claims.clear(),
+            _ => (),
+        }
+        Ok(())
+    }
+
+    // Releases a lock that nobody who is there has, asks for, or was told to wait for.
+    fn release_unwanted(&mut self, name: &[u8]) -> Result<(), AllocError> {
+        if self.is_claimed(name) | self.orders.is_wanted(name) {
+            return Ok(());
+        }
+        let order = release_of(self.alloc, name, PATIENCE)?;
+        let ticket = self.last_ticket.wrapping_add(1);
+        self.last_ticket = ticket;
+        self.orders.keep(ticket, order)?;
+        // It is sent however late, since nobody else would release the lock.
+        self.tickets.open(ticket, u64::MAX)
+    }
+
+    // The request of a ticket for a lock was granted. Who asked has it, or has gone.
+    fn claim_or_release(&mut self, ticket: u64) {
+        let name = match self.orders.lock_of(ticket) {
+            Some(name) => Vec::from_slice(self.alloc, name),
+            None => return,
+        };
+        match name {
+            Ok(name) => {
+                if self.orders.is_orphan(ticket) {
+                    let released = self.release_unwanted(name.as_slice());
+                    self.note(released);
+                } else {
+                    self.claim(name.as_slice());
+                }
+            }
+            Err(error) => self.note(Err(error)),
         }
     }
 
-    /// What became of all writes so far.
-    pub(crate) fn settle_all(&mut self) {
-        match self.kept.take(self.alloc) {
-            Ok(known) => self.settle_known(known),
-            Err(error) => self.note(Err(error)),
+    // Withdraws the requests of those who have gone, where the node waits for the lock.
+    fn withdraw_queued(&mut self) -> Result<(), AllocError> {
+        for ticket in self.orders.orphans(self.alloc)? {
+            if self.kept.is_queued(ticket) {
+                let name = match self.orders.lock_of(ticket) {
+                    Some(name) => Vec::from_slice(self.alloc, name)?,
+                    None => continue,
+                };
+                self.tickets.settle(ticket);
+                self.orders.remove(ticket);
+                self.release_unwanted(name.as_slice())?;
+            }
         }
-        self.expire(self.now.saturating_sub(Duration::from_secs(PATIENCE)));
+        Ok(())
+    }
+
+    /// For how long a ticket waits for a lock.
+    pub(crate) fn wait_of(&self, order: &Order) -> Duration {
+        match &order.errand {
+            Errand::Acquire { wait, .. } => self.until(*wait),
+            Errand::Other => Duration::MAX,
+        }
+    }
+
+    /// Whether an answer waits for its connection.
+    pub(crate) fn has_replies(&self) -> bool {
+        !self.replies.is_empty()
+    }
+
+    // ---- how it stands
+
+    // The nodes of the settings that are not in the view.
+    fn sought(&self) -> Result<Vec<Node>, AllocError> {
+        let mut sought = Vec::new(self.alloc);
+        for node in self.nodes.iter() {
+            let is_there = self.counts.has_member_at(*node) | (*node == self.own.node());
+            if !is_there {
+                sought.push(*node)?;
+            }
+        }
+        Ok(sought)
     }
 
     /// How its node stands.
-    pub(crate) fn standing(&self) -> Standing<'_> {
+    pub(crate) fn standing(&self) -> Result<Standing<'_>, AllocError> {
         let counts = &self.counts;
         let stable = match self.stable {
-            Some((view, count)) if counts.view == Some(view) => count,
+            Some(stable) if counts.view == Some(stable.view) => stable.count,
             _ => 0,
         };
         let blocked = match counts.blocked {
             Some(since) => Some(self.now.saturating_sub(since)),
             None => None,
         };
-        Standing {
+        let mut waiting = 0usize;
+        for pending in self.tickets.all() {
+            if !pending.stage.is_sent() {
+                waiting = waiting.saturating_add(1);
+            }
+        }
+        Ok(Standing {
             own: self.own,
             counts,
             kept: &self.kept,
-            waiting_writes: self.writes.len(),
+            waiting_writes: waiting,
             clients: self.connections,
             stable,
             blocked,
             uptime: self.now,
-        }
-    }
-
-    /// Whether all members of a place's view have delivered what stands up to the place: it is stable, or they have gone on to another view, and then each that goes on with
-    /// this one has.
-    pub(crate) fn is_stable(&self, at: &Tag) -> bool {
-        match (self.counts.view, self.stable) {
-            (Some(now), _) if now != at.view => true,
-            (Some(_), Some((view, count))) => (view == at.view) & (at.place <= count),
-            _ => false,
-        }
+            strange: self.strange,
+            sought: self.sought()?,
+        })
     }
 
     /// Until when who asks now waits for so many seconds.
     pub(crate) fn until(&self, seconds: u64) -> Duration {
         self.now.saturating_add(Duration::from_secs(seconds))
-    }
-
-    /// A write is to be sent; answers the wait for what it comes to.
-    pub(crate) fn write(&mut self, order: &Order) -> Hold {
-        self.tickets = self.tickets.wrapping_add(1);
-        let ticket = self.tickets;
-        let is_full = self.has_ended | (self.writes.len() >= CLIENTS);
-        let writes = &mut self.writes;
-        if is_full || writes.ask(self.alloc, ticket, order, self.now).is_err() {
-            self.refuse(ticket);
-        }
-        Hold::Ticket {
-            ticket,
-            until: self.until(order.patience),
-            end: self.until(PATIENCE),
-        }
     }
 }

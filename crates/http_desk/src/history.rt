@@ -1,9 +1,10 @@
 //! What happened at the node last.
 
 use crate::EVENTS;
-use address::{Address, Bytes, ViewId};
+use address::{Address, Bytes};
 use keyed_state::token_in;
 use std::alloc::{AllocError, Global};
+use tickets::Place;
 use trace_drawing::draw;
 use trace_props::{
     BoxedInstall, Delivery, Event, HandedBack, Install, Message, Numbered, Sending, Verdict,
@@ -11,23 +12,16 @@ use trace_props::{
 use view::View;
 use vsync_text::Text;
 
-/// A place in the order: so many messages of a view are delivered there.
-#[derive(Clone, Copy, PartialEq, Eq)]
-pub(crate) struct Tag {
-    pub(crate) view: ViewId,
-    pub(crate) place: u64,
-}
-
 /// The place that a text names, with or without quotes: it is written as a token is.
-pub(crate) fn tag_in(text: &[u8]) -> Option<Tag> {
+pub(crate) fn place_in(text: &[u8]) -> Option<Place> {
     let bare = match text {
         [b'"', bare @ .., b'"'] => bare,
         other => other,
     };
     let token = token_in(bare)?;
-    Some(Tag {
+    Some(Place {
         view: token.view,
-        place: token.count,
+        count: token.count,
     })
 }
 

@@ -1,30 +1,78 @@
-//! Values as text.
+//! Values as JSON.
 
 ghost use Rattle.http_desk.specs.Replies.{quoted_token};
 ghost use Rattle.vsync_text.specs.Written.{Appends};
 
 use crate::changes::Change;
 use address::{Address, ViewId};
+use base64::engine::general_purpose::STANDARD;
 use keyed_state::Token;
 use lock_table::{Lock, LockTable};
 use replicated_map::ReplicatedMap;
+use std::alloc::Global;
 use vsync_text::{Part, Text};
 
-/// Appends bytes as a string of JSON: a byte that is no printable ASCII is written by its number.
-pub(crate) fn put_string(out: &mut Text, bytes: &[u8]) {
-    out.push(b'"');
-    for byte in bytes {
-        match *byte {
-            b'"' => out.put(b"\\\""),
-            b'\\' => out.put(b"\\\\"),
-            32..=126 => out.push(*byte),
-            other => {
-                out.put(b"\\u00");
-                out.put_hex(&[other]);
-            }
+// Whether a byte stands for itself in a string of JSON.
+fn is_plain(byte: u8) -> bool {
+    (byte >= 32) & (byte != b'"') & (byte != b'\\')
+}
+
+// Appends a byte that does not.
+fn put_escaped(out: &mut Text, byte: u8) {
+    match byte {
+        b'"' => out.put(b"\\\""),
+        b'\\' => out.put(b"\\\\"),
+        other => {
+            out.put(b"\\u00");
+            out.put_hex(&[other]);
         }
     }
+}
+
+// Appends text as it stands in a string of JSON: runs of plain bytes at once.
+fn put_text(out: &mut Text, bytes: &[u8]) {
+    let mut start = 0usize;
+    for (i, byte) in bytes.iter().enumerate() {
+        if !is_plain(*byte) {
+            out.put(bytes.get(start..i).unwrap_or(&[]));
+            put_escaped(out, *byte);
+            start = i.saturating_add(1);
+        }
+    }
+    out.put(bytes.get(start..).unwrap_or(&[]));
+}
+
+// Appends bytes in base64.
+fn put_base64(out: &mut Text, alloc: Global, bytes: &[u8]) {
+    match STANDARD.encode(alloc, bytes) {
+        Ok(text) => out.put(text.as_bytes()),
+        Err(_) => out.refuse(),
+    }
+}
+
+/// Appends bytes as a value of JSON: UTF-8 as a string, other bytes as an object with their base64.
+pub(crate) fn put_value(out: &mut Text, alloc: Global, bytes: &[u8]) {
+    if str::from_utf8(bytes).is_ok() {
+        out.push(b'"');
+        put_text(out, bytes);
+        out.push(b'"');
+    } else {
+        out.put(b"{\"base64\": \"");
+        put_base64(out, alloc, bytes);
+        out.put(b"\"}");
+    }
+}
+
+/// Appends bytes as the name of a field: UTF-8 as it is, other bytes as `base64:` and their base64.
+pub(crate) fn put_name(out: &mut Text, alloc: Global, bytes: &[u8]) {
     out.push(b'"');
+    if str::from_utf8(bytes).is_ok() {
+        put_text(out, bytes);
+    } else {
+        out.put(b"base64:");
+        put_base64(out, alloc, bytes);
+    }
+    out.put(b"\":");
 }
 
 /// Appends fields, each behind a comma: a name, which stands as it is, and a number.
@@ -69,14 +117,13 @@ pub(crate) fn put_view(out: &mut Text, before: &[u8], view: Option<ViewId>) {
 }
 
 /// Appends all entries of a map as an object, the keys rising.
-pub(crate) fn put_entries(out: &mut Text, map: &ReplicatedMap) {
+pub(crate) fn put_entries(out: &mut Text, alloc: Global, map: &ReplicatedMap) {
     out.put(b"{");
     for i in 0..map.len() {
         if let Some((key, held)) = map.entry(i) {
             out.put(if i > 0 { b"," } else { b"" });
-            put_string(out, key);
-            out.put(b":");
-            put_string(out, held.value.as_slice());
+            put_name(out, alloc, key);
+            put_value(out, alloc, held.value.as_slice());
         }
     }
     out.put(b"}\n");
@@ -93,17 +140,21 @@ fn have_key(changes: &[Change], key: &[u8]) -> bool {
 }
 
 // A key, and what it has.
-fn put_key(out: &mut Text, map: &ReplicatedMap, key: &[u8]) {
-    put_string(out, key);
-    out.put(b":");
+fn put_key(out: &mut Text, alloc: Global, map: &ReplicatedMap, key: &[u8]) {
+    put_name(out, alloc, key);
     match map.get(key) {
-        Some(held) => put_string(out, held.value.as_slice()),
+        Some(held) => put_value(out, alloc, held.value.as_slice()),
         None => out.put(b"null"),
     }
 }
 
 /// Appends the keys of these changes of a map as an object, each once: with its value, or `null` if it has none.
-pub(crate) fn put_changes(out: &mut Text, map: &ReplicatedMap, changes: &[Change]) {
+pub(crate) fn put_changes(
+    out: &mut Text,
+    alloc: Global,
+    map: &ReplicatedMap,
+    changes: &[Change],
+) {
     out.put(b"{");
     let mut is_first = true;
     for (i, change) in changes.iter().enumerate() {
@@ -112,7 +163,7 @@ pub(crate) fn put_changes(out: &mut Text, map: &ReplicatedMap, changes: &[Change
         if !have_key(later, key) {
             out.put(if is_first { b"" } else { b"," });
             is_first = false;
-            put_key(out, map, key);
+            put_key(out, alloc, map, key);
         }
     }
     out.put(b"}\n");
@@ -148,13 +199,12 @@ pub(crate) fn put_lock(out: &mut Text, lock: &Lock) {
 }
 
 /// Appends all locks that are held as an object, the names rising.
-pub(crate) fn put_locks(out: &mut Text, table: &LockTable) {
+pub(crate) fn put_locks(out: &mut Text, alloc: Global, table: &LockTable) {
     out.put(b"{");
     for i in 0..table.len() {
         if let Some((name, lock)) = table.entry(i) {
             out.put(if i > 0 { b"," } else { b"" });
-            put_string(out, name);
-            out.put(b":");
+            put_name(out, alloc, name);
             put_lock(out, lock);
         }
     }

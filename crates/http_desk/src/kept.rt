@@ -1,12 +1,10 @@
 //! What a node keeps, and what becomes of those who ask for a change of it.
 
 use crate::known::{Known, all_of_locks, all_of_map};
-use crate::lock_request::line_of;
-use crate::map_request::line_of as line_of_map;
 use address::Address;
 use keyed_state::Token;
-use lock_table::{Command as LockCommand, Lock, LockService};
-use replicated_map::{Command as MapCommand, MapService, ReplicatedMap};
+use lock_table::{Command, Lock, LockService};
+use replicated_map::{MapService, ReplicatedMap};
 use std::alloc::{AllocError, Global};
 use trace_props::Event;
 
@@ -38,15 +36,6 @@ impl Drop for Kept {
     }
 }
 
-// The line that says a command to the locks; nothing for a roll, which nobody asks for.
-fn line_of_lock(alloc: Global, command: &LockCommand<'_>) -> Result<Vec<u8>, AllocError> {
-    match command {
-        LockCommand::Acquire { view: _, name } => line_of(alloc, b"acquire", name.as_slice()),
-        LockCommand::Release { view: _, name } => line_of(alloc, b"release", name.as_slice()),
-        LockCommand::Roll(_) => Ok(Vec::new(alloc)),
-    }
-}
-
 impl Kept {
     pub(crate) fn new(alloc: Global, keeps: Keeps, own: Address) -> Result<Kept, AllocError> {
         match keeps {
@@ -64,18 +53,20 @@ impl Kept {
         }
     }
 
-    /// By what a message is known: the line that says it, since that names no view. Nothing where no line does.
-    pub(crate) fn said(&self, alloc: Global, payload: &[u8]) -> Result<Vec<u8>, AllocError> {
-        match self.keeps() {
-            Keeps::Map => match MapCommand::decode(payload) {
-                Some(command) => line_of_map(alloc, &command),
-                None => Ok(Vec::new(alloc)),
-            },
-            Keeps::Locks => match LockCommand::decode(alloc, payload)? {
-                Some(command) => line_of_lock(alloc, &command),
-                None => Ok(Vec::new(alloc)),
-            },
-            Keeps::Nothing => Ok(Vec::new(alloc)),
+    /// The lock that a message releases, if it releases one.
+    pub(crate) fn released(
+        &self,
+        alloc: Global,
+        payload: &[u8],
+    ) -> Result<Option<Vec<u8>>, AllocError> {
+        let Kept::Locks(_) = self else {
+            return Ok(None);
+        };
+        match Command::decode(alloc, payload)? {
+            Some(Command::Release { view: _, name }) => {
+                Ok(Some(Vec::from_slice(alloc, name.as_slice())?))
+            }
+            _ => Ok(None),
         }
     }
 

@@ -1,24 +1,12 @@
 //! What a request asks of the table of locks.
 
-use crate::PATIENCE;
-use crate::query::field_of;
+use crate::query::{Takes, parameters};
 use crate::refusal::Refusal;
-use crate::request::{Asked, Order};
+use crate::request::{Asked, Errand, Order, misread, read_only};
 use bytes::Bytes;
 use http::Request;
 use std::alloc::{AllocError, Global};
 use vsync_text::{Part, Text};
-
-// For how many seconds a request waits for a lock; `None` if it says no such number.
-fn wait_of(request: &Request<Bytes>) -> Option<u64> {
-    let Some(text) = field_of(request.uri().query(), "wait") else {
-        return Some(PATIENCE);
-    };
-    match text.parse::<u64>() {
-        Ok(seconds) if seconds <= PATIENCE => Some(seconds),
-        _ => None,
-    }
-}
 
 /// The line of a word and a lock's name.
 pub(crate) fn line_of<'a>(
@@ -31,13 +19,38 @@ pub(crate) fn line_of<'a>(
     line.whole()
 }
 
-// A command of a word and a lock's name, for which a request waits so long.
-fn order(alloc: Global, word: &[u8], name: &[u8], patience: u64) -> Result<Asked, AllocError> {
-    Ok(Asked::Write(Order {
-        line: line_of(alloc, word, name)?,
+// A request for a lock.
+fn acquire(alloc: Global, request: &Request<Bytes>, name: &[u8]) -> Result<Asked, AllocError> {
+    match parameters(request.uri().query(), Takes::Acquire) {
+        Ok(found) => Ok(Asked::Write(Order {
+            line: line_of(alloc, b"acquire", name)?,
+            errand: Errand::Acquire {
+                name: Vec::from_slice(alloc, name)?,
+                wait: found.wait,
+            },
+            is_stable: false,
+            timeout: found.timeout,
+        })),
+        Err(refused) => Ok(misread(alloc, &refused)),
+    }
+}
+
+/// The command that releases a lock, to be answered within so many seconds.
+pub(crate) fn release_of(alloc: Global, name: &[u8], timeout: u64) -> Result<Order, AllocError> {
+    Ok(Order {
+        line: line_of(alloc, b"release", name)?,
+        errand: Errand::Other,
         is_stable: false,
-        patience,
-    }))
+        timeout,
+    })
+}
+
+// A release of a lock.
+fn release(alloc: Global, request: &Request<Bytes>, name: &[u8]) -> Result<Asked, AllocError> {
+    match parameters(request.uri().query(), Takes::Release) {
+        Ok(found) => release_of(alloc, name, found.timeout).map(Asked::Write),
+        Err(refused) => Ok(misread(alloc, &refused)),
+    }
 }
 
 /// What is asked of the lock of a name.
@@ -47,12 +60,12 @@ pub(crate) fn asked_of_lock(
     name: &[u8],
 ) -> Result<Asked, AllocError> {
     match request.method().as_str() {
-        "POST" => match wait_of(request) {
-            Some(seconds) => order(alloc, b"acquire", name, seconds),
-            None => Ok(Asked::Refused(Refusal::BadWait)),
-        },
-        "DELETE" => order(alloc, b"release", name, PATIENCE),
-        "GET" | "HEAD" => Vec::from_slice(alloc, name).map(Asked::Lock),
+        "POST" => acquire(alloc, request, name),
+        "DELETE" => release(alloc, request, name),
+        "GET" | "HEAD" => {
+            let asked = Asked::Lock(Vec::from_slice(alloc, name)?);
+            Ok(read_only(alloc, request, asked))
+        }
         _ => Ok(Asked::Refused(Refusal::OtherMethod)),
     }
 }

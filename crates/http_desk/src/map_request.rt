@@ -1,10 +1,9 @@
 //! What a request asks of the map.
 
-use crate::PATIENCE;
-use crate::history::tag_in;
-use crate::query::{decoded, field_of};
+use crate::history::place_in;
+use crate::query::{Parameters, Takes, decoded, parameters};
 use crate::refusal::Refusal;
-use crate::request::{Asked, Order, read_only};
+use crate::request::{Asked, Errand, Order, is_read, misread, read_only};
 use address::limits::PAYLOAD;
 use bytes::Bytes;
 use http::{HeaderName, Request, header};
@@ -101,8 +100,8 @@ pub(crate) fn line_of(alloc: Global, command: &Command<'_>) -> Result<Vec<u8>, A
 // A command whose line fits.
 fn write_of(
     alloc: Global,
-    request: &Request<Bytes>,
     command: &Command<'_>,
+    found: &Parameters<'_>,
 ) -> Result<Asked, AllocError> {
     let line = line_of(alloc, command)?;
     if line.contains(&b'\n') {
@@ -113,8 +112,9 @@ fn write_of(
     }
     Ok(Asked::Write(Order {
         line,
-        is_stable: field_of(request.uri().query(), "stable").is_some(),
-        patience: PATIENCE,
+        errand: Errand::Other,
+        is_stable: found.is_stable,
+        timeout: found.timeout,
     }))
 }
 
@@ -169,23 +169,32 @@ pub(crate) fn asked_of_key<'a>(
     let command = match request.method().as_str() {
         "PUT" => put(request, key),
         "DELETE" => remove(request, key),
-        "GET" | "HEAD" => return Vec::from_slice(alloc, key.as_slice()).map(Asked::Value),
+        "GET" | "HEAD" => {
+            let asked = Asked::Value(Vec::from_slice(alloc, key.as_slice())?);
+            return Ok(read_only(alloc, request, asked));
+        }
         _ => Err(Refusal::OtherMethod),
     };
-    match command {
-        Ok(command) => write_of(alloc, request, &command),
-        Err(refusal) => Ok(Asked::Refused(refusal)),
+    match (command, parameters(request.uri().query(), Takes::MapWrite)) {
+        (Err(refusal), _) => Ok(Asked::Refused(refusal)),
+        (Ok(_), Err(refused)) => Ok(misread(alloc, &refused)),
+        (Ok(command), Ok(found)) => write_of(alloc, &command, &found),
     }
 }
 
-/// What is asked of all entries: what they are, or what changed behind a tag.
+/// What is asked of all entries: what they are, or what changed behind a place.
 pub(crate) fn asked_of_all(alloc: Global, request: &Request<Bytes>) -> Result<Asked, AllocError> {
-    let asked = match field_of(request.uri().query(), "after") {
-        Some(text) => {
-            let text = decoded(alloc, text.as_bytes())?;
-            Asked::Changes(tag_in(text.as_slice()))
-        }
-        None => Asked::All,
-    };
-    Ok(read_only(request, asked))
+    if !is_read(request) {
+        return Ok(Asked::Refused(Refusal::OtherMethod));
+    }
+    match parameters(request.uri().query(), Takes::MapRead) {
+        Ok(found) => match found.after {
+            Some(text) => {
+                let text = decoded(alloc, text.as_bytes())?;
+                Ok(Asked::Changes(place_in(text.as_slice())))
+            }
+            None => Ok(Asked::All),
+        },
+        Err(refused) => Ok(misread(alloc, &refused)),
+    }
 }

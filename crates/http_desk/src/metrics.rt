@@ -24,7 +24,7 @@ fn put_metrics(out: &mut Text, kind: &'static [u8], metrics: &[(&'static [u8], u
 }
 
 // What only rises.
-fn put_counters(out: &mut Text, counts: &Counts) {
+fn put_counters(out: &mut Text, counts: &Counts, strange: u64) {
     put_metrics(
         out,
         b"counter",
@@ -36,6 +36,7 @@ fn put_counters(out: &mut Text, counts: &Counts) {
             (b"suspicions_total", counts.lost),
             (b"http_requests_total", counts.requests),
             (b"http_writes_total", counts.writes),
+            (b"strange_datagrams_total", strange),
         ],
     );
 }
@@ -60,6 +61,7 @@ fn put_gauges(out: &mut Text, standing: &Standing<'_>) {
             (b"outstanding_sends", standing.kept.waits() as u64),
             (b"waiting_writes", standing.waiting_writes as u64),
             (b"connections", standing.clients as u64),
+            (b"nodes_sought", standing.sought.len() as u64),
         ],
     );
 }
@@ -83,7 +85,7 @@ fn put_kept(out: &mut Text, kept: &Kept) {
 /// The metrics: counters only rise.
 pub(crate) fn metrics(alloc: Global, standing: &Standing<'_>) -> Text {
     let mut out = Text::new(alloc);
-    put_counters(&mut out, standing.counts);
+    put_counters(&mut out, standing.counts, standing.strange);
     put_gauges(&mut out, standing);
     put_kept(&mut out, standing.kept);
     let uptime = standing.uptime.as_secs();

@@ -9,7 +9,6 @@ pub(crate) enum Refusal {
     BadValue,
     BadCondition,
     BadVersion,
-    BadWait,
     LongValue,
     NoPath,
     NotKept,
@@ -21,7 +20,7 @@ impl Refusal {
     pub(crate) fn status(self) -> StatusCode {
         match self {
             Refusal::BadKey | Refusal::BadValue | Refusal::BadCondition => StatusCode::BAD_REQUEST,
-            Refusal::BadVersion | Refusal::BadWait => StatusCode::BAD_REQUEST,
+            Refusal::BadVersion => StatusCode::BAD_REQUEST,
             Refusal::LongValue => StatusCode::PAYLOAD_TOO_LARGE,
             Refusal::NoPath | Refusal::NotKept => StatusCode::NOT_FOUND,
             Refusal::OtherMethod => StatusCode::METHOD_NOT_ALLOWED,
@@ -36,7 +35,6 @@ impl Refusal {
             Refusal::BadValue => b"a value has no line feed\n",
             Refusal::BadCondition => b"no such condition: see docs/HTTP.md\n",
             Refusal::BadVersion => b"If-Match takes an ETag of the key, such as \"3@1.1/7\"\n",
-            Refusal::BadWait => b"wait takes a number of seconds, at most 30\n",
             Refusal::LongValue =>
                 b"a value has at most 400 bytes, and the whole command at most 512\n",
             Refusal::NoPath => b"there is no such path\n",

@@ -1,14 +1,15 @@
 //! What is answered to a request.
 
-ghost use Rattle.std.specs.Prelude.{◌≡◌, false};
+ghost use Rattle.std.specs.Prelude.{◌≡◌, None, Some, false};
 ghost use Rattle.http_desk.specs.Replies.{Says, IsTagged};
 
-use crate::history::Tag;
 use crate::json::put_token;
+use bytes::Bytes;
 use http::StatusCode;
 use keyed_state::Token;
 use replicated_map::Held;
 use std::alloc::Global;
+use tickets::Place;
 use vsync_text::{Part, Text};
 
 /// What a body is.
@@ -45,6 +46,8 @@ pub(crate) struct Reply {
     /// The view and the place that it speaks of.
     pub(crate) place: Option<Text>,
     pub(crate) body: Text,
+    /// What stands behind the body: bytes that several answers share.
+    pub(crate) shared: Option<Bytes>,
 }
 
 impl Drop for Reply {
@@ -55,6 +58,7 @@ impl Drop for Reply {
             tag: _,
             place: _,
             body: _,
+            shared: _,
         } = self;
     }
 }
@@ -67,7 +71,7 @@ fn words_of(status: StatusCode) -> &'static [u8] {
         404 => b"there is none\n",
         409 => b"another holds the lock: the node waits for it on, until DELETE\n",
         410 => b"that is too long ago: GET /map has all\n",
-        503 => b"not now: it may have been carried out, or may be later\n",
+        503 => b"not now\n",
         _ => b"",
     }
 }
@@ -85,6 +89,7 @@ impl Reply {
     pub(crate) fn of(status: StatusCode, media: Media, body: Text) -> Reply
         ensures status { result.status ≡ status }
         ensures body { result.body ≡ body }
+        ensures shared { result.shared ≡ None }
     {
         Reply {
             status,
@@ -92,6 +97,7 @@ impl Reply {
             tag: None,
             place: None,
             body,
+            shared: None,
         }
     }
 
@@ -125,6 +131,7 @@ impl Reply {
     pub(crate) fn of_version(mut self, alloc: Global, version: &Token) -> Reply
         ensures status { result.status ≡ self.status }
         ensures body { result.body ≡ self.body }
+        ensures shared { result.shared ≡ self.shared }
         ensures tag { IsTagged version.now result }
     {
         let mut tag = Text::new(alloc);
@@ -133,27 +140,50 @@ impl Reply {
         self
     }
 
+    /// A refusal of a request, whose body is an object of JSON that names the error, such as `{"error": "unknown"}`.
+    pub(crate) fn error(alloc: Global, status: StatusCode, error: &[u8]) -> Reply
+        ensures { result.status ≡ status }
+    {
+        let mut body = Text::new(alloc);
+        body.put(b"{\"error\": \"");
+        body.put(error);
+        body.put(b"\"}\n");
+        Reply::of(status, Media::Json, body)
+    }
+
+    /// JSON that other answers share.
+    pub(crate) fn sharing(alloc: Global, shared: Bytes) -> Reply
+        ensures status { result.status ≡ 200 }
+        ensures shared { result.shared ≡ Some shared }
+    {
+        let mut reply = Reply::of(StatusCode::OK, Media::Json, Text::new(alloc));
+        reply.shared = Some(shared);
+        reply
+    }
+
     /// The same, whose entity tag is a place, which is written as a token is.
-    pub(crate) fn since(self, alloc: Global, last: Option<Tag>) -> Reply
+    pub(crate) fn since(self, alloc: Global, last: Option<Place>) -> Reply
         ensures status { result.status ≡ self.status }
         ensures body { result.body ≡ self.body }
+        ensures shared { result.shared ≡ self.shared }
     {
         match last {
-            Some(Tag { view, place }) => self.of_version(alloc, &Token { view, count: place }),
+            Some(Place { view, count }) => self.of_version(alloc, &Token { view, count }),
             None => self,
         }
     }
 
     /// The same, which speaks of a place, such as 2@1.1/7.
-    pub(crate) fn at(mut self, alloc: Global, at: &Tag) -> Reply
+    pub(crate) fn at(mut self, alloc: Global, at: &Place) -> Reply
         ensures status { result.status ≡ self.status }
         ensures body { result.body ≡ self.body }
+        ensures shared { result.shared ≡ self.shared }
     {
         let mut place = Text::new(alloc);
         place.put_parts(&[
             Part::View(at.view),
             Part::Text(b"/"),
-            Part::Number(at.place),
+            Part::Number(at.count),
         ]);
         self.place = Some(place);
         self

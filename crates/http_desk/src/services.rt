@@ -2,6 +2,7 @@
 
 ghost use Rattle.std.specs.Prelude.{◌≡◌, false, OnOk};
 ghost use Rattle.http_server.specs.Response.{IsBlank};
+ghost use Rattle.http_desk.specs.Gives.{body_of};
 
 use crate::kept::Keeps;
 use crate::reply::Reply;
@@ -88,14 +89,18 @@ fn fill(alloc: Global, reply: &Reply, response: &mut Response) -> Result<(), All
     requires { IsBlank response.old }
     ensures whole { OnOk result (reply.now.body.is_short ≡ false) }
     ensures status { OnOk result (response.new.status ≡ reply.now.status) }
-    ensures body { OnOk result (response.new.body.items ≡ reply.now.body.items) }
+    ensures body { OnOk result (response.new.body.items ≡ body_of reply.now) }
 {
     if reply.is_short() {
         return Err(AllocError);
     }
     add_fields(alloc, reply, response)?;
     response.status = reply.status;
-    response.body.put_slice(reply.body.as_slice())
+    response.body.put_slice(reply.body.as_slice())?;
+    match &reply.shared {
+        Some(shared) => response.body.push(shared.clone()?),
+        None => Ok(()),
+    }
 }
 
 impl Service for Giving {

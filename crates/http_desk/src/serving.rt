@@ -1,11 +1,11 @@
 //! The desk of a node, with the connections that it answers.
 
-use crate::CLIENTS;
 use crate::accepting::{Caller, Door};
 use crate::client::Client;
 use crate::desk::Desk;
-use crate::kept::{Keeps, Kept};
-use address::{Address, ViewId};
+use crate::kept::Keeps;
+use crate::{CLIENTS, RESERVED};
+use address::{Address, Node};
 use std::alloc::{AllocError, Global};
 use std::hash::RandomState;
 use std::io;
@@ -13,6 +13,7 @@ use std::net::{Net, SocketAddr};
 use std::os::fd::RawFd;
 use std::random::RandomSource;
 use std::time::Duration;
+use tickets::Place;
 use trace_props::Event;
 
 /// How many connections are accepted before others have their turn.
@@ -52,33 +53,29 @@ fn give_turns(desk: &mut Desk, clients: &mut Vec<Client>) -> bool {
     has_more
 }
 
-// Nobody waits for a lock any more whose connection is over.
-fn forget(alloc: Global, kept: &mut Kept, clients: &[Client]) -> Result<(), AllocError> {
-    if kept.queued() == 0 {
-        return Ok(());
-    }
+// The tickets for whose answers connections wait.
+fn tickets_of(alloc: Global, clients: &[Client]) -> Result<Vec<u64>, AllocError> {
     let mut tickets = Vec::new(alloc);
     for client in clients {
         if let Some(ticket) = client.ticket() {
             tickets.push(ticket)?;
         }
     }
-    kept.keep(tickets.as_slice());
-    Ok(())
+    Ok(tickets)
 }
 
 impl HttpDesk {
-    /// The desk of a node that keeps this and whose member has this address, by whether the node says again by itself what a view hands back. It listens at a socket address.
+    /// Creates the desk of a node that keeps this, whose member has this address, and whose settings list these nodes. It listens at a socket address.
     pub fn bind<R: Net + RandomSource>(
         alloc: Global,
         rt: &R,
         keeps: Keeps,
         own: Address,
-        says_again: bool,
+        nodes: Vec<Node>,
         at: SocketAddr,
     ) -> io::Result<HttpDesk> {
         let keys = RandomState::new(rt)?;
-        let desk = Desk::new(alloc, keeps, own, says_again)?;
+        let desk = Desk::new(alloc, keeps, own, nodes)?;
         Ok(HttpDesk {
             alloc,
             door: Door::bind(alloc, rt, at)?,
@@ -99,25 +96,30 @@ impl HttpDesk {
         self.desk.hear(event);
     }
 
-    /// How many messages of a view are stable, as far as the node knows.
-    pub fn learn(&mut self, view: ViewId, stable: u64) {
-        self.desk.stable = Some((view, stable));
-    }
-
-    /// The member has ended: all who wait are answered 503, and so is each write from now on.
+    /// Ends all that is asked: those who wait are answered, and so is each write from now on.
     pub fn end(&mut self) {
         self.desk.end();
     }
 
-    /// Appends the lines that the node is to send next, each with a line feed; an error if memory was refused to them, or to what the desk keeps of what it heard and
-    /// of those who asked: it lacks something from then on, and this says so each time.
-    pub fn tell(&mut self, text: &mut Vec<u8>) -> Result<(), AllocError> {
-        self.desk.tell(text)
+    /// The line of the write that the node is to send next, if there is one. The node calls `wrote` then, or asks again later.
+    /// `AllocError` (7) if the desk ran out of memory for it, or before for what it keeps: it lacks something from then on.
+    pub fn next_write(&mut self) -> Result<Option<Vec<u8>>, AllocError> {
+        self.desk.next_write()
     }
 
-    /// Whether there is something to do at once: a line to send, or an answer to give.
+    /// Notes that the write that `next_write` gave was sent as the message of this number; or, with `None`, that its line says nothing that can be sent.
+    pub fn wrote(&mut self, number: Option<u64>) {
+        self.desk.wrote(number);
+    }
+
+    /// Whether the node is to leave its group, and to end.
+    pub fn is_leaving(&self) -> bool {
+        self.desk.is_leaving
+    }
+
+    /// Whether there is something to do at once.
     pub fn is_due(&self) -> bool {
-        self.has_more | self.desk.is_due()
+        self.has_more | self.desk.is_leaving | self.desk.has_replies()
     }
 
     // Accepts those who stand before the door.
@@ -127,21 +129,37 @@ impl HttpDesk {
                 return Ok(());
             }
             if let Some(caller) = self.door.accept() {
-                if self.clients.len() < CLIENTS {
-                    let keeps = self.desk.kept.keeps();
-                    let client = Client::new(self.alloc, self.keys, keeps, caller, self.desk.now)?;
-                    self.clients.push(client)?;
-                } else {
-                    caller.turn_away();
-                }
+                self.welcome(caller)?;
             }
         }
         Ok(())
     }
 
-    /// Serves all connections, each for a bounded number of steps. It does not wait.
-    pub fn serve(&mut self, now: Duration) {
-        self.desk.now = now;
+    // Takes a connection, or tells it that it is one too many.
+    fn welcome(&mut self, caller: Caller) -> Result<(), AllocError> {
+        let count = self.clients.len();
+        if count >= CLIENTS + RESERVED {
+            caller.turn_away();
+            return Ok(());
+        }
+        let keeps = self.desk.kept.keeps();
+        let is_reserved = count >= CLIENTS;
+        let client = Client::new(
+            self.alloc,
+            self.keys,
+            keeps,
+            caller,
+            self.desk.now,
+            is_reserved,
+        )?;
+        self.clients.push(client)?;
+        Ok(())
+    }
+
+    /// Serves all connections, each for a bounded number of steps. It is this time since the node began, so many messages of its view are stable as far as the node knows,
+    /// and so many datagrams were dropped as strange. It does not wait.
+    pub fn serve(&mut self, now: Duration, stable: Option<Place>, strange: u64) {
+        self.desk.learn(now, stable, strange);
         if self.door.look().is_ok() {
             for client in self.clients.iter_mut() {
                 if self.door.is_ready(client.id) {
@@ -149,14 +167,14 @@ impl HttpDesk {
                 }
             }
         }
-        self.desk.settle_all();
+        self.desk.pass_time();
         let accepted = self.accept();
         self.desk.note(accepted);
         let has_more = give_turns(&mut self.desk, &mut self.clients);
-        self.desk.replies.clear();
-        let clients = self.clients.as_slice();
-        let forgot = forget(self.alloc, &mut self.desk.kept, clients);
-        self.desk.note(forgot);
+        match tickets_of(self.alloc, self.clients.as_slice()) {
+            Ok(tickets) => self.desk.end_turn(tickets),
+            Err(error) => self.desk.note(Err(error)),
+        }
         self.has_more = has_more | self.door.has_callers;
     }
 }

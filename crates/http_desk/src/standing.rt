@@ -2,7 +2,7 @@
 
 use crate::counts::Counts;
 use crate::kept::Kept;
-use address::Address;
+use address::{Address, Node};
 use std::time::Duration;
 
 /// How a node stands.
@@ -20,4 +20,8 @@ pub(crate) struct Standing<'a> {
     pub(crate) blocked: Option<Duration>,
     /// For how long it runs.
     pub(crate) uptime: Duration,
+    /// The datagrams that were dropped as strange.
+    pub(crate) strange: u64,
+    /// The other nodes of the settings that are not in its view.
+    pub(crate) sought: Vec<Node>,
 }

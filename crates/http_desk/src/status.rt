@@ -4,7 +4,7 @@ use crate::counts::Counts;
 use crate::json::{put_all, put_fields, put_quoted, put_view};
 use crate::kept::Keeps;
 use crate::standing::Standing;
-use address::Address;
+use address::{Address, Node};
 use address::limits::VERSION;
 use std::alloc::Global;
 use std::time::Duration;
@@ -86,8 +86,20 @@ fn put_counts(out: &mut Text, standing: &Standing<'_>) {
             (b"views", counts.views),
             (b"merges", counts.merges),
             (b"suspicions", counts.lost),
+            (b"strange", standing.strange),
         ],
     );
+}
+
+// The nodes that are not in the view.
+fn put_sought(out: &mut Text, sought: &[Node]) {
+    out.put(b",\"sought\":[");
+    for (i, node) in sought.iter().enumerate() {
+        let before: &[u8] = if i > 0 { b"," } else { b"" };
+        out.put(before);
+        out.put_decimal(u64::from(node.number()));
+    }
+    out.put(b"]");
 }
 
 /// The status as JSON.
@@ -103,6 +115,7 @@ pub(crate) fn status(alloc: Global, standing: &Standing<'_>) -> Text {
     put_members(&mut out, standing.counts);
     put_blocked(&mut out, standing.blocked);
     put_counts(&mut out, standing);
+    put_sought(&mut out, standing.sought.as_slice());
     put_seen(&mut out, standing.counts.seen.as_slice());
     out.put_parts(&[
         Part::Text(b",\"uptime_ms\":"),

@@ -82,6 +82,7 @@ module _ (start came : List ℕ) where
   sent-later more (sent.Line line) x = line-later more line.items x
   sent-later more sent.Once x = tt
   sent-later more sent.First x = tt
+  sent-later more sent.Write x = tt
 
   -- lines, and then others
   lines-then : (a b : List ℕ) → AreLines start came a → AreLines start came b → AreLines start came (a ++ b)
@@ -94,6 +95,7 @@ module _ (start came : List ℕ) where
   lines-in (sent.Line line ∷ l) x = subst (AreLines start came) (sym (append_assoc line.items (10 ∷ []) (flat_map line_in l))) (OneLine line.items (flat_map line_in l) x.0 (lines-in l x.1))
   lines-in (sent.Once ∷ l) x = lines-in l x.1
   lines-in (sent.First ∷ l) x = lines-in l x.1
+  lines-in (sent.Write ∷ l) x = lines-in l x.1
 
   -- ---- what waits
 

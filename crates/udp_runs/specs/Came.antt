@@ -64,6 +64,7 @@ abbrev pub IsSentLine : List ℕ → List ℕ → Sent → Type 0
 IsSentLine start came (sent.Line line) = IsLine start came line.items
 IsSentLine start came sent.Once = Unit {0}
 IsSentLine start came sent.First = Unit {0}
+IsSentLine start came sent.Write = Unit {0}
 
 -- OWES: all that waits, was sent, or came back, are lines of what came since a start, where a list of that is kept
 abbrev pub Owes : Option (List ℕ) → Option (List ℕ) → OutboxModel → UnsaidModel → Type 0
@@ -86,6 +87,7 @@ abbrev pub IsSentOf : Option (List ℕ) → Option (List ℕ) → Sent → Type 
 IsSentOf start came (sent.Line line) = IsLineOf start came line.items
 IsSentOf start came sent.Once = Unit {0}
 IsSentOf start came sent.First = Unit {0}
+IsSentOf start came sent.Write = Unit {0}
 
 -- KEEPS: what is owed is owed still
 abbrev pub Keeps : OutboxModel → UnsaidModel → OutboxModel → UnsaidModel → Type 0

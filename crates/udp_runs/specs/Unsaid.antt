@@ -4,7 +4,7 @@ use Rattle.address.specs.Ids.{same_address}
 use Rattle.trace_props.specs.declared.event.Event.{Event}
 use Rattle.trace_props.specs.declared.event.Event.TheVariants.{Started, Sent as SentEvent, Delivered, Blocked, Installed, Left, Crashed}
 use Rattle.udp_runs.specs.declared.unsaid.Sent.{Sent}
-use Rattle.udp_runs.specs.declared.unsaid.Sent.TheVariants.{Line, Once, First}
+use Rattle.udp_runs.specs.declared.unsaid.Sent.TheVariants.{Line, Once, First, Write}
 
 -- the messages that are outstanding, the oldest first, and the lines that came back
 pub record UnsaidModel : Type 0 where
@@ -16,6 +16,7 @@ abbrev pub line_in : Sent → List ℕ
 line_in (Line line) = line.items ++ 10 ∷ []
 line_in Once = []
 line_in First = []
+line_in Write = []
 
 -- COMES BACK: so many messages came back, the oldest: their lines are to be said again before those that came back earlier, in the order in which they were sent
 abbrev pub coming_back : ℕ → UnsaidModel → UnsaidModel

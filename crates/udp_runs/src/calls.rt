@@ -65,19 +65,19 @@ pub(crate) fn asked_by(event: &WorldEvent) -> Asked<'_>
     }
 }
 
-/// Sends a payload by a channel. The outer error says that memory was refused before that.
+/// Sends a payload by a channel; answers the number of its message in the view. The outer error says that memory was refused before that.
 pub(crate) fn send<N: Net, C: Application>(
     alloc: Global,
     runner: &mut Runner<N, C>,
     payload: &Bytes,
-) -> Result<Result<(), Error>, AllocError>
+) -> Result<Result<u64, Error>, AllocError>
     ensures makes { IfOk result (λ answer. IsCall (CallsLent C.meaning input.Send payload.now) runner.old (result_err answer) runner.new) }
     ensures called { (group : List ℕ) → IfOk result (λ answer. MakesNoOffer N.log N.failed (IsThat runner.old.channel.stage payload.now) C.meaning group runner.old [] (result_err answer) runner.new) }
     ensures uncalled { IfErr result (λ _. runner.new ≡ runner.old) }
 {
     let payload = Vec::from_slice(alloc, payload.as_slice())?;
     match runner.channel().send(payload) {
-        Ok(_) => Ok(Ok(())),
+        Ok(number) => Ok(Ok(number)),
         Err((_, error)) => Ok(Err(error)),
     }
 }
@@ -97,7 +97,10 @@ pub(crate) fn do_call<N: Net, C: Application>(
     match call {
         Call::Create => Ok(runner.channel().connect_new(group)),
         Call::Join(contact) => Ok(runner.channel().connect_to(group, *contact)),
-        Call::Send(payload) => send(alloc, runner, payload),
+        Call::Send(payload) => match send(alloc, runner, payload)? {
+            Ok(_) => Ok(Ok(())),
+            Err(error) => Ok(Err(error)),
+        },
         Call::Tick => Ok(runner.channel().tick()),
         Call::Suspect(address) => Ok(runner.channel().suspect(*address)),
         Call::MergeHint(address) => Ok(runner.channel().merge_hint(*address)),

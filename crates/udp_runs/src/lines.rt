@@ -1,7 +1,8 @@
-ghost use Rattle.std.specs.Prelude.{◌≡◌, ℕ, List, [], Option, Some};
+ghost use Rattle.std.specs.Prelude.{◌≡◌, ℕ, List, [], Option, Some, None, IfOk, IfSome};
 ghost use Rattle.udp_runs.specs.Came.{Gives};
 ghost use Rattle.udp_runs.specs.declared.lines.LinesError.TheVariants as lines;
 
+use crate::NodeStatus;
 use std::alloc::AllocError;
 use std::time::Duration;
 use trace_props::Event;
@@ -43,10 +44,30 @@ pub trait Lines {
         ensures { came self.new ≡ came self.old }
     {}
 
-    /// Has a turn, many times between two rounds: it is this time since the node began. It does not wait.
-    fn look(&mut self, _now: Duration)
+    /// Has a turn, many times between two rounds: it is this time since the node began, and the node stands so. It does not wait.
+    fn look(&mut self, _now: Duration, _status: &NodeStatus)
         ensures { came self.new ≡ came self.old }
     {}
+
+    /// Gives the line of the write that is to be sent next, if there is one; none where a list of what came is kept.
+    /// The node sends it at once, and then calls `wrote`; where it may not send now, it asks again later. After `AllocError` (7) the write waits on.
+    fn next_write(&mut self) -> Result<Option<Vec<u8>>, AllocError>
+        ensures came { came self.new ≡ came self.old }
+        ensures unlisted { IfOk result (λ write. IfSome write (λ _. came self.old ≡ None)) }
+    {
+        Ok(None)
+    }
+
+    /// Notes what became of the write that `next_write` gave last: it was sent as the message of this number of the view; or, with `None`, its line says no payload.
+    /// The node calls it before it tells of the events of that sending.
+    fn wrote(&mut self, _number: Option<u64>)
+        ensures { came self.new ≡ came self.old }
+    {}
+
+    /// Whether the node is to leave its group and to end.
+    fn leaves(&self) -> bool {
+        false
+    }
 
     /// For how long the node may wait now, of the time that is left before its next round: for less if there is something to do at once.
     fn rest(&self, left: Duration) -> Duration {

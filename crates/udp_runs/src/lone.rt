@@ -48,6 +48,8 @@ pub(crate) struct LoneNode<'a, N: Net, C: Application> {
     pub(crate) finder: Finder,
     // Whether it gives up its address.
     pub(crate) gives_up: bool,
+    // Whether it was asked to leave.
+    is_leaving: bool,
     // The round in which it is.
     pub(crate) round: u64,
     // The time when it looked last.
@@ -57,11 +59,12 @@ pub(crate) struct LoneNode<'a, N: Net, C: Application> {
     pub(crate) watch: Watch,
 }
 
-// What is left of an answer of a channel to one that runs by itself: want of memory ends it, and what is refused else is passed over.
-pub(crate) fn unless_memory(answer: Result<(), Error>) -> Result<(), Cut> {
+// What a channel answered to one that runs by itself: out of memory ends the node, and `None` stands for any other refusal.
+pub(crate) fn unless_memory<T: Drop>(answer: Result<T, Error>) -> Result<Option<T>, Cut> {
     match answer {
+        Ok(value) => Ok(Some(value)),
         Err(Error::Refused(Refusal::Memory)) => Err(Cut::Memory),
-        _ => Ok(()),
+        Err(_) => Ok(None),
     }
 }
 
@@ -71,7 +74,8 @@ fn goes_on(has_ended: &mut bool, answer: Result<(), Error>) -> Result<(), Cut> {
         *has_ended = true;
         return Ok(());
     }
-    unless_memory(answer)
+    unless_memory(answer)?;
+    Ok(())
 }
 
 // Whether there is more to do at once, after it sent and listened; where the node has ended, that is noted.
@@ -87,6 +91,12 @@ fn has_more(
             Ok(false)
         }
     }
+}
+
+// What a channel answered to a call by which nothing is sent.
+fn left_by(answer: Result<(), Error>) -> Result<(), Cut> {
+    unless_memory(answer)?;
+    Ok(())
 }
 
 // Waits, unless there is more to do at once, or no more lines come.
@@ -148,6 +158,7 @@ impl<'a, N: Net, C: Application> LoneNode<'a, N, C> {
             has_ended: false,
             finder: Finder::new(manner.tick, None),
             gives_up: false,
+            is_leaving: false,
             round: 0,
             time: Duration::ZERO,
             due: Duration::ZERO,
@@ -169,6 +180,11 @@ impl<'a, N: Net, C: Application> LoneNode<'a, N, C> {
         tally.strange = self.member.net_ref().strange();
         tally.sieved = self.member.net_ref().sieved();
         tally
+    }
+
+    // Whether it has ended, or no more lines come.
+    fn is_over(&self) -> bool {
+        self.has_ended | self.outbox.is_over()
     }
 
     // Makes a group, or asks the contact to be let into one.
@@ -217,8 +233,9 @@ impl<'a, N: Net, C: Application> LoneNode<'a, N, C> {
     {
         take_lines(&mut self.outbox, &mut self.teller.tally, lines)?;
         let has_sent = self.send_lines()?;
+        let has_written = self.send_writes(lines)?;
         let heard = self.member.listen();
-        has_more(&mut self.has_ended, has_sent, heard)
+        has_more(&mut self.has_ended, has_sent | has_written, heard)
     }
 
     // Connects it, and tells what happened.
@@ -308,10 +325,10 @@ impl<'a, N: Net, C: Application> LoneNode<'a, N, C> {
             self.time = machine.now();
             self.finder.go_on(milliseconds(self.time));
             let rest = self.due.saturating_sub(self.time);
-            if self.has_ended | self.outbox.is_over() | (rest == Duration::ZERO) {
+            if self.is_over() | lines.leaves() | (rest == Duration::ZERO) {
                 return Ok(());
             }
-            lines.look(self.time);
+            lines.look(self.time, &self.status());
             match self.listen_for(rest, lines, writer) {
                 Ok(()) => (),
                 Err(why) => return Err(why),
@@ -336,7 +353,8 @@ impl<'a, N: Net, C: Application> LoneNode<'a, N, C> {
         ensures gone { M.gone machine.new ≡ M.gone machine.old }
     {
         for round in 0..rounds {
-            if self.has_ended | self.gives_up | self.outbox.is_over() {
+            self.is_leaving = lines.leaves();
+            if self.is_over() | self.gives_up | self.is_leaving {
                 return Ok(());
             }
             match self.listen_until(round, lines, machine, writer) {
@@ -364,10 +382,10 @@ impl<'a, N: Net, C: Application> LoneNode<'a, N, C> {
         ensures voice { self.new.teller.voice ≡ self.old.teller.voice }
         ensures came { L.came lines.new ≡ L.came lines.old }
     {
-        if !(leaves || self.gives_up) {
+        if !(leaves || self.gives_up || self.is_leaving) {
             return Ok(());
         }
-        let left = unless_memory(self.member.channel().disconnect());
+        let left = left_by(self.member.channel().disconnect());
         match self.teller.tell_then_offer(&mut self.member, lines, writer) {
             Ok(()) => left,
             Err(why) => Err(why),

@@ -37,24 +37,29 @@ impl<'a, N: Net, C: Application> LoneNode<'a, N, C> {
         }
     }
 
-    // Shows the machine how it is.
-    fn show<M: NodeMachine>(&self, machine: &mut M)
-        ensures gone { M.gone machine.new ≡ M.gone machine.old }
-    {
+    // How it stands.
+    pub(crate) fn status(&self) -> NodeStatus {
         let channel = self.member.channel_ref();
-        let mut status = NodeStatus {
+        NodeStatus {
             address: channel.address(),
-            view: None,
+            view: match channel.view() {
+                Some(view) => Some(view.id()),
+                None => None,
+            },
             blocked: self.watch.blocked(self.time),
             outstanding: self.teller.unsaid.outstanding(),
             stable: channel.stable(),
             strange: self.member.net_ref().strange(),
-        };
-        match channel.view() {
-            Some(view) => {
-                status.view = Some(view.id());
-                machine.show(&status, view.members().as_slice());
-            }
+        }
+    }
+
+    // Shows the machine how it stands.
+    fn show<M: NodeMachine>(&self, machine: &mut M)
+        ensures gone { M.gone machine.new ≡ M.gone machine.old }
+    {
+        let status = self.status();
+        match self.member.channel_ref().view() {
+            Some(view) => machine.show(&status, view.members().as_slice()),
             None => machine.show(&status, &[]),
         }
     }

@@ -32,7 +32,8 @@ pub(crate) fn say_nothing<N: Net, C: Application>(
 {
     let group = settings.group();
     let answer = do_call(alloc, member, group.as_slice(), call)?;
-    unless_memory(answer)
+    unless_memory(answer)?;
+    Ok(())
 }
 
 // Where the member of a channel is.

@@ -31,8 +31,8 @@ const SENDS: u32 = 1_024;
 
 // What became of a text that a node was to send.
 enum Said {
-    // It was sent.
-    Taken,
+    // It was sent, as the message of this number of its view.
+    Taken(u64),
     // It cannot be sent now.
     Waits,
     // It says no payload: this is wrong with it.
@@ -44,7 +44,7 @@ fn take_said(outbox: &mut Outbox, watch: &mut Watch, said: Said) -> bool
     ensures { (outbox.new ≡ outbox.old) ⊎ (outbox.new ≡ without_next outbox.old) }
 {
     match said {
-        Said::Taken => {
+        Said::Taken(_) => {
             outbox.take();
             true
         }
@@ -152,8 +152,8 @@ impl<'a, N: Net, C: Application> LoneNode<'a, N, C> {
             self.opened = Some(id);
             return Ok(());
         };
-        let is_said = self.sends(&payload, Sent::First)?;
-        self.opened = if is_said { Some(id) } else { self.opened };
+        let number = self.sends(&payload, Sent::First)?;
+        self.opened = if number.is_some() { Some(id) } else { self.opened };
         Ok(())
     }
 
@@ -169,7 +169,7 @@ impl<'a, N: Net, C: Application> LoneNode<'a, N, C> {
             return Ok(());
         };
         match self.says(text, Sent::Once)? {
-            Said::Taken => {
+            Said::Taken(_) => {
                 self.is_unsent = false;
                 Ok(())
             }
@@ -194,27 +194,69 @@ impl<'a, N: Net, C: Application> LoneNode<'a, N, C> {
         is_id(id);
         match C::payload_in_view(self.alloc, id, text) {
             Ok(payload) => {
-                let is_taken = self.sends(&payload, sent)?;
-                Ok(if is_taken { Said::Taken } else { Said::Waits })
+                match self.sends(&payload, sent)? {
+                    Some(number) => Ok(Said::Taken(number)),
+                    None => Ok(Said::Waits),
+                }
             }
             Err(Unheard::Memory) => Err(Cut::Memory),
             Err(Unheard::Fault(fault)) => Ok(Said::Bad(fault)),
         }
     }
 
-    // Sends a payload that may be said in its view, and answers whether it was taken.
-    fn sends(&mut self, payload: &Bytes, sent: Sent) -> Result<bool, Cut>
+    // Sends a payload that may be said in its view, and answers the number of its message; `None` where it may not send now.
+    fn sends(&mut self, payload: &Bytes, sent: Sent) -> Result<Option<u64>, Cut>
         ensures drives { (group : List ℕ) (start later : Option (List ℕ)) → ((view : ViewValue) → view_in self.old.member.channel.stage ≡ Some view
             → MaySay (option_copied self.old.once) start later C.payload_within C.first_said view.id payload.now) → Quietly N.log N.failed (MaySay (option_copied self.old.once) start later C.payload_within C.first_said) C.meaning group self.old.member self.new.member }
         ensures same { (self.new.teller.voice ≡ self.old.teller.voice) × (self.new.once ≡ self.old.once) }
         ensures owes { (start came : Option (List ℕ)) → IsSentOf start came sent → Owes start came self.old.outbox self.old.teller.unsaid → OnOk result (Owes start came self.new.outbox self.new.teller.unsaid) }
     {
         let answer = send(self.alloc, &mut self.member, payload)?;
-        let is_taken = answer.is_ok();
-        unless_memory(answer)?;
-        let is_noted = is_taken & (self.manner.finds | C::says_again());
+        let number = unless_memory(answer)?;
+        let is_noted = number.is_some() & (self.manner.finds | C::says_again());
         note_sent(&mut self.teller.unsaid, is_noted, sent)?;
-        Ok(is_taken)
+        Ok(number)
+    }
+
+    // Sends the next write of those who ask for some, if there is one and it may; answers whether it went.
+    fn send_write<L: Lines>(&mut self, lines: &mut L) -> Result<bool, Cut>
+        ensures drives { (group : List ℕ) (start later : Option (List ℕ)) → Owes start (L.came lines.old) self.old.outbox self.old.teller.unsaid → IsEarlier (L.came lines.new) later → Quietly N.log N.failed (MaySay (option_copied self.old.once) start later C.payload_within C.first_said) C.meaning group self.old.member self.new.member }
+        ensures same { (self.new.teller.voice ≡ self.old.teller.voice) × (self.new.once ≡ self.old.once) }
+        ensures owes { (start : Option (List ℕ)) → Owes start (L.came lines.old) self.old.outbox self.old.teller.unsaid → OnOk result (Owes start (L.came lines.new) self.new.outbox self.new.teller.unsaid) }
+        ensures came { L.came lines.new ≡ L.came lines.old }
+    {
+        let Some(line) = lines.next_write()? else {
+            return Ok(false);
+        };
+        match self.says(line.as_slice(), Sent::Write)? {
+            Said::Taken(number) => {
+                lines.wrote(Some(number));
+                Ok(true)
+            }
+            Said::Waits => Ok(false),
+            Said::Bad(_) => {
+                lines.wrote(None);
+                Ok(true)
+            }
+        }
+    }
+
+    // Sends the writes that wait, as many as it may, where it holds none back; answers whether any went.
+    pub(crate) fn send_writes<L: Lines>(&mut self, lines: &mut L) -> Result<bool, Cut>
+        ensures drives { (group : List ℕ) (start later : Option (List ℕ)) → Owes start (L.came lines.old) self.old.outbox self.old.teller.unsaid → IsEarlier (L.came lines.new) later → Quietly N.log N.failed (MaySay (option_copied self.old.once) start later C.payload_within C.first_said) C.meaning group self.old.member self.new.member }
+        ensures same { (self.new.teller.voice ≡ self.old.teller.voice) × (self.new.once ≡ self.old.once) }
+        ensures owes { (start : Option (List ℕ)) → Owes start (L.came lines.old) self.old.outbox self.old.teller.unsaid → OnOk result (Owes start (L.came lines.new) self.new.outbox self.new.teller.unsaid) }
+        ensures came { L.came lines.new ≡ L.came lines.old }
+    {
+        if self.holds() {
+            return Ok(false);
+        }
+        for sent in 0..SENDS {
+            if !self.send_write(lines)? {
+                return Ok(sent > 0);
+            }
+        }
+        Ok(true)
     }
 
     // Sends the next line, and answers whether it did.

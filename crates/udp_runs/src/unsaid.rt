@@ -19,6 +19,8 @@ pub(crate) enum Sent {
     Once,
     /// What the coordinator of a view sends first in it.
     First,
+    /// A write, which the one who asked for it sends again by itself.
+    Write,
 }
 
 /// What a node sent and has not seen delivered, and what came back to it undelivered. Contracts see the messages that are outstanding, and the lines that came back.
@@ -176,7 +178,7 @@ impl Unsaid {
         match self.take_oldest() {
             Some(Sent::Line(line)) => append_line(lines, line.as_slice())?,
             Some(Sent::Once) => self.is_once_back = true,
-            Some(Sent::First) | None => (),
+            Some(Sent::First | Sent::Write) | None => (),
         }
         Ok(())
     }

@@ -1,41 +1,38 @@
-//! Lines that are asked for by HTTP.
+//! What is asked of a node over HTTP, beside the lines that it sends.
 
 ghost use Rattle.std.specs.Prelude.{None};
 
-use address::ViewId;
 use http_desk::HttpDesk;
-use std::cell::Cell;
+use std::alloc::AllocError;
 use std::time::Duration;
+use tickets::Place;
 use trace_props::Event;
-use udp_runs::{Lines, LinesError};
+use udp_runs::{Lines, LinesError, NodeStatus};
 
-/// How many messages of which view are stable, as the machine of a node was shown last.
-pub(crate) type Stable = Cell<Option<(ViewId, u64)>>;
-
-/// The lines that a desk tells, whose member runs by itself.
-pub(crate) struct HttpLines<'a> {
+/// The desk of a node, whose writes go beside lines from elsewhere.
+pub(crate) struct HttpLines<'a, L> {
     desk: HttpDesk,
-    stable: &'a Stable,
+    lines: &'a mut L,
     // When its node's first look was: the desk's time begins there.
     began: Option<Duration>,
 }
 
-impl Drop for HttpLines<'_> {
+impl<L> Drop for HttpLines<'_, L> {
     fn drop(self) {
         let HttpLines {
             desk: _,
-            stable: _,
+            lines: _,
             began: _,
         } = self;
     }
 }
 
-impl<'a> HttpLines<'a> {
-    /// The lines of a desk, which is told how many messages are stable.
-    pub(crate) fn new(desk: HttpDesk, stable: &'a Stable) -> HttpLines<'a> {
+impl<'a, L: Lines> HttpLines<'a, L> {
+    /// A desk beside these lines.
+    pub(crate) fn new(desk: HttpDesk, lines: &'a mut L) -> HttpLines<'a, L> {
         HttpLines {
             desk,
-            stable,
+            lines,
             began: None,
         }
     }
@@ -43,37 +40,52 @@ impl<'a> HttpLines<'a> {
     /// The node has ended: all who wait are told so.
     pub(crate) fn end(&mut self) {
         self.desk.end();
-        self.desk.serve(Duration::ZERO);
+        self.desk.serve(Duration::ZERO, None, 0);
     }
 }
 
-impl<'a> Lines for HttpLines<'a> {
+impl<'a, L: Lines> Lines for HttpLines<'a, L> {
     ghost came = { λ _. None };
 
-    // Where memory was refused, the node ends.
     fn more(&mut self, text: &mut Vec<u8>) -> Result<(), LinesError> {
-        self.desk.tell(text)?;
-        Ok(())
+        self.lines.more(text)
     }
 
     fn hear(&mut self, event: &Event) {
         self.desk.hear(event);
     }
 
-    fn look(&mut self, now: Duration) {
+    fn look(&mut self, now: Duration, status: &NodeStatus) {
         let began = self.began.unwrap_or(now);
         self.began = Some(began);
-        if let Some((view, count)) = self.stable.get() {
-            self.desk.learn(view, count);
-        }
-        self.desk.serve(now.saturating_sub(began));
+        let stable = match status.view {
+            Some(view) => Some(Place {
+                view,
+                count: status.stable,
+            }),
+            None => None,
+        };
+        let since = now.saturating_sub(began);
+        self.desk.serve(since, stable, status.strange);
+    }
+
+    fn next_write(&mut self) -> Result<Option<Vec<u8>>, AllocError> {
+        self.desk.next_write()
+    }
+
+    fn wrote(&mut self, number: Option<u64>) {
+        self.desk.wrote(number);
+    }
+
+    fn leaves(&self) -> bool {
+        self.desk.is_leaving()
     }
 
     fn rest(&self, left: Duration) -> Duration {
         if self.desk.is_due() {
             Duration::ZERO
         } else {
-            left
+            self.lines.rest(left)
         }
     }
 }

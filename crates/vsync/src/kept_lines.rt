@@ -2,10 +2,10 @@
 
 ghost use Rattle.std.specs.Prelude.{None};
 
-use std::alloc::Global;
+use std::alloc::{AllocError, Global};
 use std::time::Duration;
 use trace_props::Event;
-use udp_runs::{Lines, LinesError};
+use udp_runs::{Lines, LinesError, NodeStatus};
 
 /// Lines that come from elsewhere, behind those that a member of the node gave back: these come once, and before others.
 #[derive(Drop)]
@@ -45,8 +45,20 @@ impl<'a, L: Lines> Lines for KeptLines<'a, L> {
         self.lines.hear(event);
     }
 
-    fn look(&mut self, now: Duration) {
-        self.lines.look(now);
+    fn look(&mut self, now: Duration, status: &NodeStatus) {
+        self.lines.look(now, status);
+    }
+
+    fn next_write(&mut self) -> Result<Option<Vec<u8>>, AllocError> {
+        self.lines.next_write()
+    }
+
+    fn wrote(&mut self, number: Option<u64>) {
+        self.lines.wrote(number);
+    }
+
+    fn leaves(&self) -> bool {
+        self.lines.leaves()
     }
 
     fn rest(&self, left: Duration) -> Duration {

@@ -1,7 +1,7 @@
 //! One node over datagrams, whose members run one after another (docs/CLI.md, "Nodes over UDP").
 
 use crate::http_address::http_address;
-use crate::http_lines::{HttpLines, Stable};
+use crate::http_lines::HttpLines;
 use crate::incarnations::{IncarnationError, next_start, start_by_clock};
 use crate::kept_lines::KeptLines;
 use crate::kept_words::Kept;
@@ -16,7 +16,6 @@ use chat_log::{ChatLog, LongChat};
 use http_desk::{HttpDesk, Keeps};
 use lock_table::LockTable;
 use replicated_map::ReplicatedMap;
-use std::cell::Cell;
 use std::io::Write;
 use std::net::SocketAddr;
 use std::os::fd::RawFd;
@@ -214,7 +213,6 @@ fn machine_of<'x, 'y>(
     rt: &'x HostRuntime,
     run: NodeRun<'x, 'y>,
     other: Option<RawFd>,
-    stable: &'x Stable,
 ) -> Watched<'x, 'y> {
     let mut loopback = Loopback::new(rt.alloc(), rt, run.settings, run.hosts);
     if run.options.any_source {
@@ -233,7 +231,6 @@ fn machine_of<'x, 'y>(
         run.settings.nodes(),
         run.options.status,
         run.options.quorum.unwrap_or(QUORUM),
-        stable,
     )
 }
 
@@ -308,9 +305,8 @@ fn run_with<A: Application, L: Lines>(
     plan: &MemberPlan<'_>,
     lines: &mut L,
     other: Option<RawFd>,
-    stable: &Stable,
 ) -> Status {
-    let mut machine = machine_of(rt, run, other, stable);
+    let mut machine = machine_of(rt, run, other);
     let mut lines = KeptLines::new(rt.alloc(), lines);
     let mut output = Output::new(io::writer(rt));
     run_members::<A, _, _>(rt, run, plan, &mut lines, &mut machine, &mut output)
@@ -323,13 +319,12 @@ fn run_lines<L: Lines>(
     plan: &MemberPlan<'_>,
     lines: &mut L,
     other: Option<RawFd>,
-    stable: &Stable,
 ) -> Status {
     match run.options.flags.kept() {
-        Kept::Chat => run_with::<ChatLog, L>(rt, run, plan, lines, other, stable),
-        Kept::LongChat => run_with::<LongChat, L>(rt, run, plan, lines, other, stable),
-        Kept::Map => run_with::<ReplicatedMap, L>(rt, run, plan, lines, other, stable),
-        Kept::Locks => run_with::<LockTable, L>(rt, run, plan, lines, other, stable),
+        Kept::Chat => run_with::<ChatLog, L>(rt, run, plan, lines, other),
+        Kept::LongChat => run_with::<LongChat, L>(rt, run, plan, lines, other),
+        Kept::Map => run_with::<ReplicatedMap, L>(rt, run, plan, lines, other),
+        Kept::Locks => run_with::<LockTable, L>(rt, run, plan, lines, other),
     }
 }
 
@@ -338,9 +333,6 @@ fn http_of(options: &MemberOptions<'_>) -> Result<Option<SocketAddr>, &'static s
     let Some(text) = options.http else {
         return Ok(None);
     };
-    if options.say.is_some() {
-        return Err("--http is without --say");
-    }
     match http_address(text) {
         Some(at) => Ok(Some(at)),
         None => {
@@ -358,16 +350,36 @@ fn keeps_of(options: &MemberOptions<'_>) -> Keeps {
     }
 }
 
-// Runs the node with a desk that answers requests at an address.
-fn run_http(
+// The desk of the node, which listens at an address.
+fn desk_of(
     rt: &HostRuntime,
     run: NodeRun<'_, '_>,
     plan: &MemberPlan<'_>,
     at: SocketAddr,
+) -> io::Result<HttpDesk> {
+    let mut nodes = Vec::new(rt.alloc());
+    for place in run.settings.nodes() {
+        nodes.push(place.node)?;
+    }
+    HttpDesk::bind(
+        rt.alloc(),
+        rt,
+        keeps_of(run.options),
+        plan.address,
+        nodes,
+        at,
+    )
+}
+
+// Runs the node with these lines and a desk that answers requests at an address.
+fn run_http<L: Lines>(
+    rt: &HostRuntime,
+    run: NodeRun<'_, '_>,
+    plan: &MemberPlan<'_>,
+    lines: &mut L,
+    at: SocketAddr,
 ) -> Status {
-    let keeps = keeps_of(run.options);
-    let says_again = run.options.find || keeps == Keeps::Locks;
-    let desk = match HttpDesk::bind(rt.alloc(), rt, keeps, plan.address, says_again, at) {
+    let desk = match desk_of(rt, run, plan, at) {
         Ok(desk) => desk,
         Err(error) => {
             let _ = eprintln!(rt; "vsync: cannot listen at {at}: {error}");
@@ -375,9 +387,8 @@ fn run_http(
         }
     };
     let other = Some(desk.descriptor());
-    let stable: Stable = Cell::new(None);
-    let mut lines = HttpLines::new(desk, &stable);
-    let status = run_lines(rt, run, plan, &mut lines, other, &stable);
+    let mut lines = HttpLines::new(desk, lines);
+    let status = run_lines(rt, run, plan, &mut lines, other);
     lines.end();
     status
 }
@@ -403,11 +414,8 @@ pub(crate) fn run_from<L: Lines>(
                 ..*plan
             };
             match http_of(options) {
-                Ok(Some(at)) => run_http(rt, run, &plan, at),
-                Ok(None) => {
-                    let stable: Stable = Cell::new(None);
-                    run_lines(rt, run, &plan, lines, None, &stable)
-                }
+                Ok(Some(at)) => run_http(rt, run, &plan, lines, at),
+                Ok(None) => run_lines(rt, run, &plan, lines, None),
                 Err(why) => mistaken(rt, why),
             }
         }

@@ -3,7 +3,6 @@
 ghost use Rattle.std.specs.Prelude.{◌≡◌, [], None, IfOk};
 ghost use Rattle.std.specs.Option.{ForSome};
 
-use crate::http_lines::Stable;
 use crate::incarnations::beside;
 use crate::programs::{complain, say};
 use address::{Address, Node, ViewId};
@@ -26,8 +25,6 @@ pub(crate) struct Watched<'a, 'b> {
     is_unwritten: bool,
     // The members that a view must have in which its node sends.
     quorum: u16,
-    // Where it says how many messages are stable.
-    stable: &'a Stable,
 }
 
 impl Drop for Watched<'_, '_> {
@@ -40,7 +37,6 @@ impl Drop for Watched<'_, '_> {
             status: _,
             is_unwritten: _,
             quorum: _,
-            stable: _,
         } = self;
     }
 }
@@ -145,7 +141,6 @@ impl<'a, 'b> Watched<'a, 'b> {
         nodes: &'a [NodePort],
         status: Option<&'b str>,
         quorum: u16,
-        stable: &'a Stable,
     ) -> Watched<'a, 'b> {
         Watched {
             rt,
@@ -155,7 +150,6 @@ impl<'a, 'b> Watched<'a, 'b> {
             status,
             is_unwritten: false,
             quorum,
-            stable,
         }
     }
 
@@ -195,9 +189,6 @@ impl<'a, 'b> NodeMachine for Watched<'a, 'b> {
 
     // Where it cannot be written, that is said once.
     fn show(&mut self, status: &NodeStatus, members: &[Address]) {
-        if let Some(view) = status.view {
-            self.stable.set(Some((view, status.stable)));
-        }
         let Some(path) = self.status else {
             return;
         };
