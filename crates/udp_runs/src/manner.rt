@@ -42,6 +42,8 @@ pub enum Notice {
     BadLine(Fault),
     /// Lines wait, for its view has so many members, and that is too few.
     TooFew(usize),
+    /// It found nobody of its group, and makes a new one.
+    FoundNobody,
 }
 
 /// How a node is that runs by itself.

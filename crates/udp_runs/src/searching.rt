@@ -9,6 +9,7 @@ ghost use Rattle.udp_runs.specs.Telling.{Quietly};
 ghost use Rattle.udp_runs.specs.Said.{AreSame, MaySay, says_nothing};
 
 use crate::calls::{Call, do_call};
+use crate::Notice;
 use crate::ends::Cut;
 use crate::lone::{LoneNode, unless_memory};
 use address::Address;
@@ -82,7 +83,10 @@ impl<'a, N: Net, C: Application> LoneNode<'a, N, C> {
         let call = match step {
             Step::Stay => return Ok(()),
             Step::Ask(contact) => Call::Join(contact),
-            Step::Make => Call::Create,
+            Step::Make => {
+                self.watch.note(Notice::FoundNobody);
+                Call::Create
+            }
             Step::Again => {
                 self.gives_up = true;
                 return Ok(());

@@ -17,10 +17,14 @@ use crate::udp_words::{MemberWords, UdpWords};
 use address::{Address, Node};
 use chat_log::ChatLog;
 use std::io::Read;
-use std::{fs, io};
+use std::time::Duration;
+use std::{fs, io, thread};
 use udp_net::{BindError, Hosts, Settings, SettingsError, settings};
 use udp_runs::{Loopback, MemberPlan, NoLines, run_udp};
 use vsync_text::Status;
+
+/// For how many seconds the name of a peer is asked for again that has no address.
+const RESOLVES: u32 = 60;
 
 /// Says that the input is refused as a whole.
 pub(crate) fn refuse(rt: &HostRuntime, number: u8) -> Status
@@ -111,22 +115,56 @@ pub(crate) fn udp(rt: &HostRuntime, words: &UdpWords<'_>) -> Status {
     }
 }
 
-// The hosts of the options; or the status with which the program ends.
+// The first of these peers whose host has no address now.
+fn unresolved<'a>(rt: &HostRuntime, peers: &[(Node, &'a str)]) -> Option<&'a str> {
+    for peer in peers {
+        if Hosts::resolve(rt.alloc(), rt, None, &[*peer]).is_err() {
+            return Some(peer.1);
+        }
+    }
+    None
+}
+
+// Refuses to run the node, since a host has no address.
+fn refuse_host(rt: &HostRuntime, host: &str, error: BindError) -> Status {
+    let _ = eprintln!(rt; "vsync: {host} has no address: check --bind, --peer and the name server");
+    let number = error.number();
+    let _ = println!(rt; "fault 0 {number}");
+    Status::Outside
+}
+
+// Waits a second, since the host of a peer has no address yet; says so the first time.
+fn wait_for_name(rt: &HostRuntime, peers: &[(Node, &str)], tries: u32) {
+    if tries == 0 {
+        let host = unresolved(rt, peers).unwrap_or("a peer");
+        let _ = eprintln!(rt;
+            "vsync: {host} has no address: it is asked for again for {RESOLVES} s before the node begins"
+        );
+    }
+    thread::sleep(rt, Duration::from_secs(1));
+}
+
+// The hosts of the options, once each peer has an address; or the status with which the program ends.
 fn hosts_of(
     rt: &HostRuntime,
     options: &MemberOptions<'_>,
     peers: &[(Node, &str)],
 ) -> Result<Hosts, Status> {
-    match Hosts::resolve(rt.alloc(), rt, options.bind, peers) {
-        Ok(hosts) => Ok(hosts),
-        Err(BindError::Memory) => Err(without_memory(rt)),
-        Err(error) => {
-            say(rt, "a host has no address");
-            let number = error.number();
-            let _ = println!(rt; "fault 0 {number}");
-            Err(Status::Outside)
+    if let Err(error) = Hosts::resolve(rt.alloc(), rt, options.bind, &[]) {
+        return Err(refuse_host(rt, options.bind.unwrap_or("--bind"), error));
+    }
+    for tries in 0..=RESOLVES {
+        match Hosts::resolve(rt.alloc(), rt, options.bind, peers) {
+            Ok(hosts) => return Ok(hosts),
+            Err(BindError::Memory) => return Err(without_memory(rt)),
+            Err(error) if tries == RESOLVES => {
+                let host = unresolved(rt, peers).unwrap_or("a peer");
+                return Err(refuse_host(rt, host, error));
+            }
+            Err(_) => wait_for_name(rt, peers, tries),
         }
     }
+    Err(Status::Outside)
 }
 
 // Says where the settings do not list the node of the contact.

@@ -212,6 +212,10 @@ impl<'a, 'b> NodeMachine for Watched<'a, 'b> {
                     "vsync: a line to send says no command, {number}: it is not sent"
                 );
             }
+            Notice::FoundNobody => say(
+                rt,
+                "no other node of the group was found: this node makes a new group, without anything that was kept before",
+            ),
             Notice::TooFew(members) => {
                 let quorum = self.quorum;
                 let _ = eprintln!(rt;
