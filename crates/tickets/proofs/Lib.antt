@@ -1,1 +1,3 @@
-
+mod OneChange
+mod FirstEnd
+mod EndsGrow
