@@ -16,4 +16,4 @@ pub all-after : (P Q : Pending → Type 0) (l : Ledger) (c : Change) → ((o : P
 all-after P Q l c stays old opened =
     let kept = filter (stays_open c) l.pending in
     All-append Q (map (moved c) kept) (opened_by c)
-      (All-map Q (moved c) kept (λ k d within. stays (get_or kept k d) (filter_passes (stays_open c) l.pending k d within) (All-filter (stays_open c) P l.pending old k d within))) opened
+    (All-map Q (moved c) kept (λ k d within. stays (get_or kept k d) (filter_passes (stays_open c) l.pending k d within) (All-filter (stays_open c) P l.pending old k d within))) opened

@@ -23,7 +23,7 @@ stays-in-time now o stays = by (nat_le o.until now) refl stays where
 in-time : (now : ℕ) (l : Ledger) → IsInTime now (after l (change.Passed now))
 in-time now l = λ o at.
     All-contains (λ (p : Pending). now < p.until) (after l (change.Passed now)).pending o
-      (all-after (Contains l.pending) (λ p. now < p.until) l (change.Passed now) (λ p stays _. stays-in-time now p stays) (All-contains_itself l.pending) (All-nil (λ (p : Pending). now < p.until))) at
+    (all-after (Contains l.pending) (λ p. now < p.until) l (change.Passed now) (λ p stays _. stays-in-time now p stays) (All-contains_itself l.pending) (All-nil (λ (p : Pending). now < p.until))) at
 
 -- none is late, once its time was looked for
 pub none-is-late : (l : Ledger) (cs : List Change) (now : ℕ) → IsInTime now (after_all l (cs ++ change.Passed now ∷ []))
@@ -46,7 +46,7 @@ opened-so l change.Closed = All-nil _
 one-keeps : (l : Ledger) (c : Change) (o : Pending) → Contains (after l c).pending o → HasItsTime l (c ∷ []) o
 one-keeps l c o at =
     All-contains (HasItsTime l (c ∷ [])) (after l c).pending o
-      (all-after (Contains l.pending) (HasItsTime l (c ∷ [])) l c (λ p _ was. inl (p, was, refl, refl)) (All-contains_itself l.pending) (opened-so l c)) at
+    (all-after (Contains l.pending) (HasItsTime l (c ∷ [])) l c (λ p _ was. inl (p, was, refl, refl)) (All-contains_itself l.pending) (opened-so l c)) at
 
 -- no change gives a ticket more time
 pub times-stay : (l : Ledger) (cs : List Change) (o : Pending) → Contains (after_all l cs).pending o → HasItsTime l cs o

@@ -30,11 +30,12 @@ goes-on ticket c [] = refl
 goes-on ticket c (o ∷ os) = by (end_by c o) (goes-on ticket c os) where
   rest : List Pending
   rest = filter (stays_open c) os
+
   es : List Ended
   es = filter_map (ended_by c) os
 
   by : (e : Option End) → open_in ticket (map (moved c) rest) + ended_in ticket es ≡ open_in ticket os
-     → open_in ticket (map (moved c) (cond (not (is_some e)) (o ∷ rest) rest)) + ended_in ticket (cons_option (option_map (λ x. record { ticket = o.ticket; end = x }) e) es) ≡ open_in ticket (o ∷ os)
+      → open_in ticket (map (moved c) (cond (not (is_some e)) (o ∷ rest) rest)) + ended_in ticket (cons_option (option_map (λ x. record { ticket = o.ticket; end = x }) e) es) ≡ open_in ticket (o ∷ os)
   by None more =
       let was = sum_by-cons (λ (p : Pending). cond (p.ticket == ticket) 1 0) o os in
       let is = sum_by-cons (λ (p : Pending). cond (p.ticket == ticket) 1 0) (moved c o) (map (moved c) rest) in

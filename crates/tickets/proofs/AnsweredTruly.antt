@@ -37,7 +37,7 @@ sent-so ticket o same = by (ticket == o.ticket) refl where
 pub is-sent : (l : Ledger) (ticket : ℕ) → WasSent ticket (after l (change.Sent ticket))
 is-sent l ticket =
     each-sent ticket (after l (change.Sent ticket))
-      (all-after (Contains l.pending) (SentOf ticket) l (change.Sent ticket) (λ o _ _ same. sent-so ticket o same) (All-contains_itself l.pending) (All-nil (SentOf ticket)))
+    (all-after (Contains l.pending) (SentOf ticket) l (change.Sent ticket) (λ o _ _ same. sent-so ticket o same) (All-contains_itself l.pending) (All-nil (SentOf ticket)))
 
 -- what was sent stays so
 back-sent : (s : Stage) → was_sent s ≡ true → was_sent (handed_back s) ≡ true
@@ -76,7 +76,7 @@ opened-sent ticket change.Closed other = All-nil _
 stays-sent : (ticket : ℕ) (l : Ledger) (c : Change) → opens ticket c ≡ false → WasSent ticket l → WasSent ticket (after l c)
 stays-sent ticket l c other was =
     each-sent ticket (after l c)
-      (all-after (SentOf ticket) (SentOf ticket) l c (λ o _ sent same. moved-sent c o (sent same)) (all-sent ticket l was) (opened-sent ticket c other))
+    (all-after (SentOf ticket) (SentOf ticket) l c (λ o _ sent same. moved-sent c o (sent same)) (all-sent ticket l was) (opened-sent ticket c other))
 
 -- whose message was sent does not end as 'not done'
 abbrev tells_not_done : Option End → Bool
@@ -140,7 +140,7 @@ pub stays-true : (l : Ledger) (cs : List Change) → StaysTrue l cs (after_all l
 stays-true l [] = λ ticket was none. refl
 stays-true l (c ∷ cs) = λ ticket was none. by ticket was (opens ticket c) refl (stays-true (after l c) cs ticket) none where
   by : (ticket : ℕ) → WasSent ticket l → (b : Bool) → opens ticket c ≡ b
-     → (WasSent ticket (after l c) → list_any (opens ticket) cs ≡ false → not_done_often ticket (after_all (after l c) cs) ≡ not_done_often ticket (after l c))
-     → (b || list_any (opens ticket) cs) ≡ false → not_done_often ticket (after_all (after l c) cs) ≡ not_done_often ticket l
+      → (WasSent ticket (after l c) → list_any (opens ticket) cs ≡ false → not_done_often ticket (after_all (after l c) cs) ≡ not_done_often ticket (after l c))
+      → (b || list_any (opens ticket) cs) ≡ false → not_done_often ticket (after_all (after l c) cs) ≡ not_done_often ticket l
   by ticket was true e others none = absurd cc
   by ticket was false e others none = others (stays-sent ticket l c e was) none ∙ one-change ticket l c was

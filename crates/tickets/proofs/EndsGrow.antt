@@ -31,6 +31,7 @@ each-stays-or-ends c [] = refl
 each-stays-or-ends c (o ∷ os) = by (end_by c o) (each-stays-or-ends c os) where
   es : List Ended
   es = filter_map (ended_by c) os
+
   rest : List Pending
   rest = filter (stays_open c) os
 
