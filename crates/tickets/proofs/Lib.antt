@@ -1,1 +1,7 @@
-
+mod OneChange
+mod FirstEnd
+mod EndsGrow
+mod AllChanges
+mod AnsweredOnce
+mod AnsweredInTime
+mod AnsweredTruly

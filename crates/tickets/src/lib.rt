@@ -4,6 +4,7 @@
 
 mod law;
 mod reach;
+pub mod story;
 mod tickets;
 
 pub use law::{answers_each_once, answers_in_time, answers_truly};

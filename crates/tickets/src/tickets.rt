@@ -1,8 +1,9 @@
 //! The ledger of tickets: which are open, how far each has come, and how each ended. It knows nothing of what the tickets are for.
 
-ghost use Rattle.std.specs.Prelude.{◌≡◌, ◌++◌, [], map, OnOk, OnErr};
+ghost use Rattle.std.specs.Prelude.{◌≡◌, ◌+◌, ◌≤◌, ◌++◌, [], map, position, vec_len, vec_capacity, OnOk, OnErr};
+ghost use Rattle.std.specs.Option.{option_to_list};
 ghost use Rattle.std.specs.List.{filter, filter_map};
-ghost use Rattle.tickets.specs.Ledger.{after, end_by, end_taken, ended_by, first_unsent, given_up, is_open, is_sent, moved, nothing_open, stays_open, taken_of, was_sent};
+ghost use Rattle.tickets.specs.Ledger.{after, end_by, end_taken, ended_by, first_unsent, given_up, has_ended, is_open, is_sent, moved, nothing_open, stays_open, taken_of, was_sent};
 ghost use Rattle.tickets.specs.declared.tickets.Change.TheVariants as change;
 
 use std::alloc::{AllocError, Global};
@@ -104,6 +105,69 @@ impl Model for Tickets {
     ghost invariant = { λ t. vec_len t.ended + vec_len t.pending ≤ vec_capacity t.ended };
 }
 
+// Where the first end of a ticket stands.
+fn index_of(ended: &[Ended], ticket: u64) -> Option<usize>
+    ensures { result ≡ position (has_ended ticket) ended.now }
+{
+    ended.iter().position(|ended| ended.ticket == ticket)
+}
+
+// Moves each ticket to the stage to which a change brings it.
+fn move_each(pending: &mut [Pending], change: &Change)
+    ensures { pending.new ≡ map (moved change.now) pending.old }
+{
+    for one in pending.iter_mut() {
+        *one = moved(*one, change);
+    }
+}
+
+// The same ticket at the stage to which a change brings it.
+fn moved(pending: Pending, change: &Change) -> Pending
+    ensures { result ≡ moved change.now pending }
+{
+    let stage = match change {
+        Change::Sent(ticket) if *ticket == pending.ticket => Stage::Sent,
+        Change::HandedBack(ticket) if *ticket == pending.ticket => match pending.stage {
+            Stage::Sent => Stage::Back,
+            other => other,
+        },
+        _ => pending.stage,
+    };
+    Pending {
+        ticket: pending.ticket,
+        until: pending.until,
+        stage,
+    }
+}
+
+// Notes the end of a ticket, if a change ends it.
+fn end_one(pending: &Pending, change: &Change, ended: &mut Vec<Ended>)
+    requires { vec_len ended.old + 1 ≤ vec_capacity ended.old }
+    ensures items { ended.new.items ≡ ended.old.items ++ option_to_list (ended_by change.now pending.now) }
+    ensures room { vec_capacity ended.old ≤ vec_capacity ended.new }
+    ensures few { vec_len ended.new ≤ vec_len ended.old + 1 }
+{
+    if let Some(end) = pending.end(change) {
+        ended.push_reserved(Ended {
+            ticket: pending.ticket,
+            end,
+        });
+    }
+}
+
+// Ends each ticket that a change ends; the others stay open.
+fn end_each(pending: &mut Vec<Pending>, ended: &mut Vec<Ended>, change: &Change)
+    requires { vec_len ended.old + vec_len pending.old ≤ vec_capacity ended.old }
+    ensures pending { pending.new.items ≡ filter (stays_open change.now) pending.old.items }
+    ensures ended { ended.new.items ≡ ended.old.items ++ filter_map (ended_by change.now) pending.old.items }
+    ensures room { vec_len ended.new + vec_len pending.new ≤ vec_capacity ended.new }
+{
+    for one in pending.as_slice() {
+        end_one(one, change, ended);
+    }
+    pending.retain(|one| one.end(change).is_none());
+}
+
 impl Tickets {
     /// Creates a ledger without tickets. It takes memory from `alloc` later.
     pub fn new(alloc: Global) -> Tickets
@@ -196,7 +260,7 @@ impl Tickets {
         ensures end { result ≡ end_taken ticket self.old }
         ensures rest { self.new ≡ taken_of ticket self.old }
     {
-        let index = self.ended.iter().position(|ended| ended.ticket == ticket)?;
+        let index = index_of(self.ended.as_slice(), ticket)?;
         Some(self.ended.remove(index).end)
     }
 
@@ -230,47 +294,18 @@ impl Tickets {
     fn move_all(&mut self, change: &Change)
         ensures { self.new ≡ record self.old { pending = map (moved change.now) self.old.pending } }
     {
-        for pending in self.pending.iter_mut() {
-            *pending = pending.moved(change);
-        }
+        move_each(self.pending.as_mut_slice(), change);
     }
 
     // Ends each open ticket that a change ends.
     fn end_all(&mut self, change: &Change)
         ensures { self.new ≡ record { pending = filter (stays_open change.now) self.old.pending; ended = self.old.ended ++ filter_map (ended_by change.now) self.old.pending } }
     {
-        for pending in self.pending.as_slice() {
-            if let Some(end) = pending.end(change) {
-                self.ended.push_reserved(Ended {
-                    ticket: pending.ticket,
-                    end,
-                });
-            }
-        }
-        self.pending.retain(|pending| pending.end(change).is_none());
+        end_each(&mut self.pending, &mut self.ended, change);
     }
 }
 
 impl Pending {
-    // The same ticket at the stage to which a change brings it.
-    fn moved(self, change: &Change) -> Pending
-        ensures { result ≡ moved change.now self }
-    {
-        let stage = match change {
-            Change::Sent(ticket) if *ticket == self.ticket => Stage::Sent,
-            Change::HandedBack(ticket) if *ticket == self.ticket => match self.stage {
-                Stage::Sent => Stage::Back,
-                other => other,
-            },
-            _ => self.stage,
-        };
-        Pending {
-            ticket: self.ticket,
-            until: self.until,
-            stage,
-        }
-    }
-
     // How it ends, where nothing is known of its message: `NotDone` only if that was never sent.
     fn given_up(self) -> End
         ensures { result ≡ given_up self.stage }
