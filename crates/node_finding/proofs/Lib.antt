@@ -1,1 +1,2 @@
 pub mod RanksAreOrdered
+pub mod StepsMayBeDone

@@ -1,5 +1,5 @@
--- Of two views one is the greater; and which is the greatest of some.
-use Rattle.std.proofs.Common.{◌≡◌, ℕ, zero, suc, ◌+◌, ◌<◌, Bool, true, false, ◌&&◌, ◌||◌, Option, Some, None, List, [], ◌∷◌, ◌++◌, filter_map, take, refl, sym, ap, ap₂, subst, ◌∙◌, arith, nat_eq, nat_lt, Contains, inl, inr, length, get_or, if◌then◌else◌}
+-- Of two views one is the greater, and history decides first; and which is the greatest of some.
+use Rattle.std.proofs.Common.{◌≡◌, ℕ, zero, suc, ◌+◌, ◌<◌, ◌≤◌, Bool, true, false, ◌&&◌, ◌||◌, Option, Some, None, List, [], ◌∷◌, ◌++◌, filter_map, take, refl, sym, ap, ap₂, subst, ◌∙◌, arith, nat_eq, nat_lt, Contains, inl, inr, length, get_or, if◌then◌else◌}
 use Rattle.std.specs.Ordering.{nat_cmp, ordering_then, is_gt}
 use Rattle.std.proofs.lemmas.Bool.Decides.{nat_tests}
 use Rattle.std.proofs.lemmas.List.Elements.{Contains-append_left, Contains-append_right, Contains-append_cases, filter_map-append}
@@ -10,9 +10,9 @@ use Rattle.node_finding.specs.declared.ranks.Moment.{Moment}
 use Rattle.std.specs.List.{cons_option, slice_get}
 use Rattle.std.proofs.lemmas.List.{take_more, append-nil}
 use Rattle.udp_net.specs.declared.word.Neighbour.{Neighbour}
-use Rattle.node_finding.specs.Ranks.{outranks, IsGreatest, greater_of, other_of, told}
+use Rattle.node_finding.specs.Ranks.{has_more, outranks, IsGreatest, greater_of, other_of, told}
 
--- ---- ranks in four numbers, of which the first that differs decides
+-- ---- members and ids in four numbers, of which the first that differs decides
 
 strict-parts : (m a x k : ℕ) → nat_lt m m || (nat_eq m m && is_gt (ordering_then (nat_cmp a a) (ordering_then (nat_cmp x x) (nat_cmp k k)))) ≡ false
 strict-parts m a x k = grind (arith, nat_tests)
@@ -31,27 +31,69 @@ loose-parts : (m n o a b c x y z i j k : ℕ) → nat_lt n m || (nat_eq m n && i
     → nat_lt o m || (nat_eq m o && is_gt (ordering_then (nat_cmp a c) (ordering_then (nat_cmp x z) (nat_cmp i k)))) ≡ false
 loose-parts m n o a b c x y z i j k p q = grind (arith, nat_tests)
 
+-- ---- history above what decides else
+
+above-strict : (h : ℕ) (x : Bool) → x ≡ false → nat_lt h h || (nat_eq h h && x) ≡ false
+above-strict h x p = grind (arith, nat_tests)
+
+above-anti : (g h : ℕ) (x y : Bool) → (x ≡ true → y ≡ false) → nat_lt h g || (nat_eq g h && x) ≡ true → nat_lt g h || (nat_eq h g && y) ≡ false
+above-anti g h true y back p = let q = back refl in grind (arith, nat_tests)
+above-anti g h false y back p = grind (arith, nat_tests)
+
+true-parts : (g h : ℕ) (y : Bool) → nat_lt h g || (nat_eq g h && true) ≡ false → nat_lt g h || (nat_eq h g && y) ≡ false → ⊥
+true-parts g h y p q = grind (arith, nat_tests)
+
+above-total : (g h : ℕ) (x y same : Bool) → (x ≡ false → y ≡ false → same ≡ true) → nat_lt h g || (nat_eq g h && x) ≡ false → nat_lt g h || (nat_eq h g && y) ≡ false → same ≡ true
+above-total g h false false same one p q = one refl refl
+above-total g h true y same one p q = absurd (true-parts g h y p q)
+above-total g h false true same one p q = absurd (true-parts h g false q p)
+
+above-loose : (g h i : ℕ) (x y z : Bool) → (x ≡ false → y ≡ false → z ≡ false) → nat_lt h g || (nat_eq g h && x) ≡ false → nat_lt i h || (nat_eq h i && y) ≡ false
+    → nat_lt i g || (nat_eq g i && z) ≡ false
+above-loose g h i false false z on p q = let r = on refl refl in grind (arith, nat_tests)
+above-loose g h i true y z on p q = grind (arith, nat_tests)
+above-loose g h i false true z on p q = grind (arith, nat_tests)
+
+above-none : (g h : ℕ) (x : Bool) → 1 ≤ g → h ≡ 0 → nat_lt h g || (nat_eq g h && x) ≡ true
+above-none g h x some none = grind (arith, nat_tests)
+
 -- ---- ranks
 
 -- no view is greater than itself
+more-strict : (a : Rank) → has_more a a ≡ false
+more-strict a = strict-parts a.members a.view.counter a.view.creator.node a.view.creator.incarnation
+
 pub strict : (a : Rank) → outranks a a ≡ false
-strict a = strict-parts a.members a.view.counter a.view.creator.node a.view.creator.incarnation
+strict a = above-strict a.history (has_more a a) (more-strict a)
 
 -- of two views one at most is the greater
-pub antisymmetric : (a b : Rank) → outranks a b ≡ true → outranks b a ≡ false
-antisymmetric a b p =
+more-anti : (a b : Rank) → has_more a b ≡ true → has_more b a ≡ false
+more-anti a b p =
     anti-parts a.members b.members a.view.counter b.view.counter a.view.creator.node b.view.creator.node a.view.creator.incarnation b.view.creator.incarnation p
 
+pub antisymmetric : (a b : Rank) → outranks a b ≡ true → outranks b a ≡ false
+antisymmetric a b p = above-anti a.history b.history (has_more a b) (has_more b a) (more-anti a b) p
+
 -- and one is, unless they have the same id
-pub total : (a b : Rank) → outranks a b ≡ false → outranks b a ≡ false → same_view_id a.view b.view ≡ true
-total a b p q =
+more-total : (a b : Rank) → has_more a b ≡ false → has_more b a ≡ false → same_view_id a.view b.view ≡ true
+more-total a b p q =
     total-parts a.members b.members a.view.counter b.view.counter a.view.creator.node b.view.creator.node a.view.creator.incarnation b.view.creator.incarnation p q
 
+pub total : (a b : Rank) → outranks a b ≡ false → outranks b a ≡ false → same_view_id a.view b.view ≡ true
+total a b p q = above-total a.history b.history (has_more a b) (has_more b a) (same_view_id a.view b.view) (more-total a b) p q
+
 -- what is no greater than a view is no greater than one that it is no greater than
-pub loose : (a b c : Rank) → outranks a b ≡ false → outranks b c ≡ false → outranks a c ≡ false
-loose a b c p q =
+more-loose : (a b c : Rank) → has_more a b ≡ false → has_more b c ≡ false → has_more a c ≡ false
+more-loose a b c p q =
     loose-parts a.members b.members c.members a.view.counter b.view.counter c.view.counter a.view.creator.node b.view.creator.node c.view.creator.node a.view.creator.incarnation
     b.view.creator.incarnation c.view.creator.incarnation p q
+
+pub loose : (a b c : Rank) → outranks a b ≡ false → outranks b c ≡ false → outranks a c ≡ false
+loose a b c p q = above-loose a.history b.history c.history (has_more a b) (has_more b c) (has_more a c) (more-loose a b c) p q
+
+-- a view with a history is greater than one without
+pub with_history : (a b : Rank) → 1 ≤ a.history → b.history ≡ 0 → outranks a b ≡ true
+with_history a b some none = above-none a.history b.history (has_more a b) some none
 
 -- ---- the greatest
 

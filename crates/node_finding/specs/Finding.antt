@@ -1,13 +1,16 @@
 -- How a node finds its group by words, and when it gives way to a greater view.
-use Rattle.std.specs.Prelude.{◌≡◌, ℕ, ◌+◌, ◌-◌, ◌*◌, ◌/◌, ◌%◌, ◌^◌, Bool, true, false, not, ◌&&◌, ◌||◌, List, [], min, max, unwrap_or, Option, None, Some, nat_eq, nat_le, nat_lt, if◌then◌else◌}
+use Rattle.std.specs.Prelude.{◌≡◌, MatchBool, ℕ, ◌+◌, ◌-◌, ◌*◌, ◌/◌, ◌%◌, ◌^◌, Bool, true, false, not, ◌&&◌, ◌||◌, List, [], min, max, unwrap_or, Option, None, Some, nat_eq, nat_le, nat_lt, if◌then◌else◌}
 use Rattle.std.specs.List.{list_any}
 use Rattle.std.specs.Option.{option_map, option_map_or, is_some}
 use Rattle.std.specs.declared.time.Duration.{Duration}
 use Rattle.std.specs.Duration.{as_nanos}
-use Rattle.address.specs.Ids.{Address, same_address}
+use Rattle.address.specs.Ids.{Address, same_address, same_view_id}
 use Rattle.udp_net.specs.declared.word.Echo.{Echo}
 use Rattle.udp_net.specs.declared.word.Word.{Word}
 use Rattle.udp_net.specs.declared.word.Neighbour.{Neighbour}
+use Rattle.udp_net.specs.declared.word.Place.{Place}
+use Rattle.udp_net.specs.declared.word.WordVersion.TheVariants.{Second}
+use Rattle.node_finding.specs.declared.lineage.Lineage.{Lineage}
 use Rattle.node_finding.specs.declared.ranks.Rank.{Rank}
 use Rattle.node_finding.specs.declared.ranks.Offer.{Offer}
 use Rattle.node_finding.specs.declared.ranks.Moment.{Moment}
@@ -17,7 +20,7 @@ use Rattle.node_finding.specs.declared.finding.Standing.{Standing}
 use Rattle.node_finding.specs.declared.finding.Step.{Step}
 use Rattle.node_finding.specs.declared.finding.Step.TheVariants.{Stay, Ask, Make, Again}
 use Rattle.node_finding.specs.declared.finding.TheConstants.{FAR, FRESH, GIVE, HEAR, LATE, LOOK, LOOKER_SAYS, MEMBER_SAYS}
-use Rattle.node_finding.specs.Ranks.{IsGreatest, count_in, is_awaited, is_of_greater, outranks, told, told_of}
+use Rattle.node_finding.specs.Ranks.{IsGreatest, count_in, counted, history_in, is_awaited, is_of_greater, moment_at, outranks, told, told_of}
 
 -- a time in milliseconds, as far as a word can spell it
 abbrev pub milliseconds_of : Duration → ℕ
@@ -32,8 +35,8 @@ abbrev pub is_ago : ℕ → ℕ → ℕ → ℕ → Bool
 is_ago tick time since count = nat_le (ticks tick count) (time - since)
 
 -- who hears, and when
-abbrev pub moment_of : ℕ → ℕ → Address → Moment
-moment_of tick time own = record { own = own; time = time; fresh = ticks tick FRESH }
+abbrev pub moment_of : ℕ → ℕ → Address → List Neighbour → Moment
+moment_of tick time own nodes = moment_at own time (ticks tick FRESH) nodes
 
 -- ---- what it knows, and what it says
 
@@ -47,6 +50,8 @@ begun tick contact = record {
   asked = option_map asked_at_first contact;
   looked = None;
   wanted = None;
+  given = 0;
+  history = 0;
   place = None;
   is_new = true;
   has_looked = false;
@@ -74,14 +79,32 @@ abbrev pub echo_of : Word → Echo
 echo_of word = record { address = word.source; said = word.said }
 
 abbrev pub word_for : Finder → ℕ → Address → Neighbour → Word
-word_for f time own node = record { source = own; said = time; echo = option_map echo_of node.word; place = f.place }
+word_for f time own node = record { version = Second; source = own; said = time; echo = option_map echo_of node.word; place = f.place }
 
 -- ---- in a view
 
--- the rank of one's own view: as its coordinator tells of it; or by how many say that they are there, and oneself
-abbrev pub own_rank : Moment → Standing → List Neighbour → Rank
-own_rank m at nodes =
-    option_map_or (λ o. o.rank) (told_of m at.view nodes) (record { members = min (min (count_in m at.view nodes + 1) at.members) 255; view = at.view })
+-- the event was counted by which the member installed its view
+abbrev pub is_counted : Standing → Bool
+is_counted at = option_map_or (λ v. same_view_id v at.view) at.lineage.view false
+
+-- the history of one's own view: the latest that was known of the same lineage, that the member saw, or that others tell who are there
+abbrev pub known_before : Finder → Lineage → ℕ
+known_before f l = if nat_eq f.given l.given then f.history else 0
+
+abbrev pub known_after : Finder → Moment → Standing → List Neighbour → ℕ
+known_after f m at nodes = max (max (known_before f at.lineage) at.lineage.history) (history_in m at.view nodes)
+
+-- the members of one's own view: as its coordinator tells; or how many say that they are there, and oneself
+abbrev pub own_members : Moment → Standing → List Neighbour → ℕ
+own_members m at nodes = option_map_or (λ o. o.rank.members) (told_of m at.view nodes) (min (min (count_in m at.view nodes + 1) at.members) 255)
+
+-- the rank of one's own view
+abbrev pub own_rank : Moment → ℕ → Standing → List Neighbour → Rank
+own_rank m history at nodes = record { history = counted m history; members = own_members m at nodes; view = at.view }
+
+-- what one says of it: a coordinator stays, unless it wants to go
+abbrev pub place_of : Address → Rank → ℕ → Bool → Place
+place_of own rank history wants = record { view = rank.view; members = rank.members; stays = not wants && same_address rank.view.creator own; history = history }
 
 -- a view, if it is greater than one's own
 abbrev pub greater_than : Rank → Option Offer → Option Offer
@@ -102,15 +125,26 @@ gives_way tick time (Some since) (Some best) = best.stays && is_ago tick time si
 abbrev pub way_of : ℕ → ℕ → Option ℕ → Option Offer → Step
 way_of tick time wanted greater = if gives_way tick time wanted greater then Again else Stay
 
+-- the rank of one's own view, by what is known of its history then
+abbrev pub rank_there : Finder → Moment → Standing → List Neighbour → Rank
+rank_there old m at nodes = own_rank m (known_after old m at nodes) at nodes
+
 -- the step of a member of a view, by the greatest other view of which it is told: it asks nobody, and makes no group
 pub record StepsInView (old new : Finder) (m : Moment) (at : Standing) (nodes : List Neighbour) (step : Step) : Type 0 where
   pub best : Option Offer
   pub greatest : IsGreatest (told m (Some at.view) nodes) best
-  pub wants : new.wanted ≡ wanted_after old.wanted m.time (is_some (greater_than (own_rank m at nodes) best))
-  pub gives : step ≡ way_of old.tick m.time new.wanted (greater_than (own_rank m at nodes) best)
+  pub history : new.history ≡ known_after old m at nodes
+  pub given : new.given ≡ at.lineage.given
+  pub wants : new.wanted ≡ wanted_after old.wanted m.time (is_some (greater_than (rank_there old m at nodes) best))
+  pub gives : step ≡ way_of old.tick m.time new.wanted (greater_than (rank_there old m at nodes) best)
+  pub place : new.place ≡ Some (place_of m.own (rank_there old m at nodes) new.history (is_some (greater_than (rank_there old m at nodes) best)))
   pub asked : new.asked ≡ None
   pub looked : new.looked ≡ None
   pub tick : new.tick ≡ old.tick
+
+-- and nothing changes before the event was counted by which it installed the view
+abbrev pub StepsThere : Finder → Finder → Moment → Standing → List Neighbour → Step → Type 0
+StepsThere old new m at nodes step = MatchBool (is_counted at) (StepsInView old new m at nodes step) ((new ≡ old) × (step ≡ Stay))
 
 -- ---- in no view
 
@@ -167,6 +201,9 @@ pub record StepsOutside (old new : Finder) (m : Moment) (nodes : List Neighbour)
   pub asked : new.asked ≡ asked_after old.asked m.time step
   pub looked : new.looked ≡ looked_since old m nodes best step
   pub wanted : new.wanted ≡ None
+  pub history : new.history ≡ old.history
+  pub given : new.given ≡ old.given
+  pub place : new.place ≡ None
   pub tick : new.tick ≡ old.tick
 
 -- ---- what this means
@@ -187,7 +224,7 @@ pub record MayAsk (m : Moment) (nodes : List Neighbour) (contact : Address) : Ty
 pub record MayGiveWay (old : Finder) (m : Moment) (at : Standing) (nodes : List Neighbour) : Type 0 where
   pub best : Offer
   pub greatest : IsGreatest (told m (Some at.view) nodes) (Some best)
-  pub greater : outranks best.rank (own_rank m at nodes) ≡ true
+  pub greater : outranks best.rank (rank_there old m at nodes) ≡ true
   pub stays : best.stays ≡ true
   pub wanted : is_ago old.tick m.time (unwrap_or old.wanted m.time) GIVE ≡ true
 

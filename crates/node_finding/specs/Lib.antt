@@ -1,2 +1,3 @@
+pub mod Lineages
 pub mod Ranks
 pub mod Finding

@@ -1,20 +1,26 @@
 -- Which of two views is the greater one, and of which views a node is told.
-use Rattle.std.specs.Prelude.{◌≡◌, ℕ, ◌-◌, Bool, false, not, ◌&&◌, ◌||◌, List, [], filter_map, filter, length, min, Option, None, Some, Contains, nat_lt, nat_le, nat_eq, if◌then◌else◌}
-use Rattle.std.specs.List.{slice_get}
+use Rattle.std.specs.Prelude.{◌≡◌, ℕ, ◌-◌, Bool, true, false, not, ◌&&◌, ◌||◌, List, [], filter_map, filter, length, max, min, Option, None, Some, Contains, nat_lt, nat_le, nat_eq, if◌then◌else◌}
+use Rattle.std.specs.List.{fold, list_any, slice_get}
 use Rattle.std.specs.Option.{option_map_or, option_and_then, is_some}
 use Rattle.std.specs.Ordering.{is_gt, is_lt}
-use Rattle.address.specs.Ids.{ViewId, address_cmp, view_id_cmp, same_address, same_view_id}
+use Rattle.address.specs.Ids.{Address, ViewId, address_cmp, view_id_cmp, same_address, same_view_id}
 use Rattle.udp_net.specs.declared.word.Echo.{Echo}
 use Rattle.udp_net.specs.declared.word.Place.{Place}
 use Rattle.udp_net.specs.declared.word.Word.{Word}
 use Rattle.udp_net.specs.declared.word.Neighbour.{Neighbour}
+use Rattle.udp_net.specs.declared.word.WordVersion.{WordVersion}
+use Rattle.udp_net.specs.declared.word.WordVersion.TheVariants.{First, Second}
 use Rattle.node_finding.specs.declared.ranks.Rank.{Rank}
 use Rattle.node_finding.specs.declared.ranks.Offer.{Offer}
 use Rattle.node_finding.specs.declared.ranks.Moment.{Moment}
 
--- a view is greater than another: it has more members, or as many and a greater id
+-- a view has more members than another, or as many and a greater id
+abbrev pub has_more : Rank → Rank → Bool
+has_more a b = nat_lt b.members a.members || (nat_eq a.members b.members && is_gt (view_id_cmp a.view b.view))
+
+-- a view is greater than another: it has a later history; or the same, and more members, or as many and a greater id
 abbrev pub outranks : Rank → Rank → Bool
-outranks a b = nat_lt b.members a.members || (nat_eq a.members b.members && is_gt (view_id_cmp a.view b.view))
+outranks a b = nat_lt b.history a.history || (nat_eq a.history b.history && has_more a b)
 
 -- ---- words
 
@@ -29,17 +35,45 @@ is_fresh m w = option_map_or (answers m) w.echo false
 abbrev pub word_of : Moment → Neighbour → Option Word
 word_of m n = option_and_then (λ w. if is_fresh m w then Some w else None) n.word
 
--- what the coordinator of a view tells of it
-abbrev pub offered_in : Word → Place → Option Offer
-offered_in w p =
-    if same_address p.view.creator w.source then Some (record { rank = record { members = p.members; view = p.view }; stays = p.stays }) else None
+-- ---- whether history counts
 
-abbrev pub offer_by : Word → Option Offer
-offer_by w = option_and_then (offered_in w) w.place
+abbrev pub is_first : WordVersion → Bool
+is_first First = true
+is_first Second = false
+
+-- the fresh word of a node is of version 1: it tells no history, and its node compares none
+abbrev pub speaks_first : Moment → Neighbour → Bool
+speaks_first m n = option_map_or (λ w. is_first w.version) (word_of m n) false
+
+-- history counts while no such word is there, so that all nodes that hear each other compare alike
+abbrev pub counts_history : Moment → List Neighbour → Bool
+counts_history m nodes = not (list_any (speaks_first m) nodes)
+
+abbrev pub plain_moment : Address → ℕ → ℕ → Moment
+plain_moment own time fresh = record { own = own; time = time; fresh = fresh; counts_history = false }
+
+abbrev pub moment_at : Address → ℕ → ℕ → List Neighbour → Moment
+moment_at own time fresh nodes = record { own = own; time = time; fresh = fresh; counts_history = counts_history (plain_moment own time fresh) nodes }
+
+-- a history as it counts in a rank
+abbrev pub counted : Moment → ℕ → ℕ
+counted m history = if m.counts_history then history else 0
+
+-- ---- of what nodes tell
+
+abbrev pub rank_of : Moment → Place → Rank
+rank_of m p = record { history = counted m p.history; members = p.members; view = p.view }
+
+-- what the coordinator of a view tells of it
+abbrev pub offered_in : Moment → Word → Place → Option Offer
+offered_in m w p = if same_address p.view.creator w.source then Some (record { rank = rank_of m p; stays = p.stays }) else None
+
+abbrev pub offer_by : Moment → Word → Option Offer
+offer_by m w = option_and_then (offered_in m w) w.place
 
 -- the view of which a node tells
 abbrev pub offer_of : Moment → Neighbour → Option Offer
-offer_of m n = option_and_then offer_by (word_of m n)
+offer_of m n = option_and_then (offer_by m) (word_of m n)
 
 -- but for one
 abbrev pub is_of : Option ViewId → Offer → Bool
@@ -75,9 +109,22 @@ is_there m view n = option_map_or (stands_there view) (word_of m n) false
 abbrev pub count_in : Moment → ViewId → List Neighbour → ℕ
 count_in m view nodes = length (filter (is_there m view) nodes)
 
--- whether a node is in a view of which its coordinator does not tell, and that is greater than another, by how many say that they are there
+-- the latest history of a view of which nodes tell that say by fresh words that they are in it
+abbrev pub history_there : ViewId → Place → ℕ
+history_there view p = if same_view_id p.view view then p.history else 0
+
+abbrev pub history_by : ViewId → Word → ℕ
+history_by view w = option_map_or (history_there view) w.place 0
+
+abbrev pub told_history : Moment → ViewId → Neighbour → ℕ
+told_history m view n = option_map_or (history_by view) (word_of m n) 0
+
+abbrev pub history_in : Moment → ViewId → List Neighbour → ℕ
+history_in m view nodes = fold (λ h n. max h (told_history m view n)) 0 nodes
+
+-- whether a node is in a view of which its coordinator does not tell, and that is greater than another, by what those tell that say that they are there
 abbrev pub untold_rank : Moment → List Neighbour → ViewId → Rank
-untold_rank m nodes view = record { members = min (count_in m view nodes) 255; view = view }
+untold_rank m nodes view = record { history = counted m (history_in m view nodes); members = min (count_in m view nodes) 255; view = view }
 
 abbrev pub is_greater_untold : Moment → Rank → List Neighbour → ViewId → Bool
 is_greater_untold m than nodes view = not (is_some (told_of m view nodes)) && outranks (untold_rank m nodes view) than

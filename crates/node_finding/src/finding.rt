@@ -1,13 +1,14 @@
 //! How a node finds its group by words, and when it gives way to a greater view (docs/RUNNER.md, "Finding", "Giving way").
 
-ghost use Rattle.std.specs.Prelude.{◌≡◌, MatchOption, None};
+ghost use Rattle.std.specs.Prelude.{◌≡◌, MatchOption, None, Some};
 ghost use Rattle.std.specs.Option.{is_some};
-ghost use Rattle.node_finding.specs.Finding.{MayDoInView, MayDoOutside, StepsInView, StepsOutside, asked_after, asking, begun, gone_on, greater_than, holds_off, is_ago, looking, looked_after, milliseconds_of, moment_of, own_rank, says_in, ticks, wanted_after, way_of, word_for};
+ghost use Rattle.node_finding.specs.Finding.{MayDoInView, MayDoOutside, StepsInView, StepsOutside, StepsThere, asked_after, asking, begun, gone_on, greater_than, holds_off, is_ago, is_counted, known_after, known_before, looking, looked_after, milliseconds_of, moment_of, own_members, own_rank, place_of, says_in, ticks, wanted_after, way_of, word_for};
 
+use crate::Lineage;
 use crate::ranks::{Moment, Offer, Rank};
 use address::{Address, ViewId};
 use std::time::Duration;
-use udp_net::{Echo, Neighbour, Place, Word};
+use udp_net::{Echo, Neighbour, Place, Word, WordVersion};
 
 /// For how many ticks a word is fresh: what it answers was said so long ago at most.
 const FRESH: u64 = 50;
@@ -56,6 +57,8 @@ pub struct Standing {
     pub view: ViewId,
     /// How many members it has.
     pub members: usize,
+    /// What the member saw of its history, by the events that were counted.
+    pub lineage: Lineage,
 }
 
 /// Where a member is.
@@ -83,6 +86,9 @@ pub struct Finder {
     looked: Option<u64>,
     // Since when it is in a view and is told of a greater one.
     wanted: Option<u64>,
+    // The counter of the view from which on it knows a history, as in its member's lineage, and that history.
+    given: u64,
+    history: u64,
     // What it says of its own view.
     place: Option<Place>,
     // Whether it has said nothing yet of where it is.
@@ -118,6 +124,8 @@ impl Finder {
             asked,
             looked: None,
             wanted: None,
+            given: 0,
+            history: 0,
             place: None,
             is_new: true,
             has_looked: false,
@@ -145,15 +153,16 @@ impl Finder {
         self.holds
     }
 
-    /// What it is to do at this time.
+    /// What it is to do at this time. It waits until its member's installing of its view was counted.
     pub fn step(&mut self, now: u64, at: &Whereabouts, nodes: &[Neighbour]) -> Step
-        ensures does { MatchOption at.now.view (StepsOutside self.old self.new (moment_of self.old.tick now at.now.own) nodes.now result)
-            (λ s. StepsInView self.old self.new (moment_of self.old.tick now at.now.own) s nodes.now result) }
-        ensures may { MatchOption at.now.view (MayDoOutside self.old (moment_of self.old.tick now at.now.own) nodes.now result)
-            (λ s. MayDoInView self.old (moment_of self.old.tick now at.now.own) nodes.now s result) }
+        ensures does { MatchOption at.now.view (StepsOutside self.old self.new (moment_of self.old.tick now at.now.own nodes.now) nodes.now result)
+            (λ s. StepsThere self.old self.new (moment_of self.old.tick now at.now.own nodes.now) s nodes.now result) }
+        ensures may { MatchOption at.now.view (MayDoOutside self.old (moment_of self.old.tick now at.now.own nodes.now) nodes.now result)
+            (λ s. MayDoInView self.old (moment_of self.old.tick now at.now.own nodes.now) nodes.now s result) }
     {
-        let moment = self.moment(now, at.own);
+        let moment = self.moment(now, at.own, nodes);
         match &at.view {
+            Some(standing) if !is_counted(standing) => Step::Stay,
             Some(standing) => self.step_in_view(&moment, standing, nodes),
             None => self.step_outside(&moment, nodes),
         }
@@ -183,6 +192,7 @@ impl Finder {
             None => None,
         };
         Word {
+            version: WordVersion::Second,
             source: own,
             said: now,
             echo,
@@ -197,15 +207,33 @@ impl Finder {
         self.tick.saturating_mul(count)
     }
 
-    // Who hears, and when.
-    fn moment(&self, now: u64, own: Address) -> Moment
-        ensures { result ≡ moment_of self.now.tick now own }
+    // Who hears, when, and what is told of nodes.
+    fn moment(&self, now: u64, own: Address, nodes: &[Neighbour]) -> Moment
+        ensures { result ≡ moment_of self.now.tick now own nodes.now }
     {
-        Moment {
-            own,
-            time: now,
-            fresh: self.ticks(FRESH),
+        Moment::new(own, now, self.ticks(FRESH), nodes)
+    }
+
+    // What it knows of the history of its member's view, before it is told more. Where the member was given another state since, it knows nothing.
+    fn known_before(&self, lineage: &Lineage) -> u64
+        ensures { result ≡ known_before self.now lineage.now }
+    {
+        if self.given == lineage.given {
+            self.history
+        } else {
+            0
         }
+    }
+
+    // It learns the latest history of its view that it knows, its member saw, or others tell who are there.
+    fn learn(&mut self, moment: &Moment, at: &Standing, nodes: &[Neighbour])
+        ensures given { self.new.given ≡ at.now.lineage.given }
+        ensures history { self.new.history ≡ known_after self.old moment.now at.now nodes.now }
+        ensures others { self.new ≡ record self.old { given = self.new.given; history = self.new.history } }
+    {
+        let known = self.known_before(&at.lineage).max(at.lineage.history);
+        self.history = known.max(moment.history_in(at.view, nodes));
+        self.given = at.lineage.given;
     }
 
     // Whether a time is so many ticks ago.
@@ -219,7 +247,8 @@ impl Finder {
     fn step_in_view(&mut self, moment: &Moment, at: &Standing, nodes: &[Neighbour]) -> Step
         ensures { StepsInView self.old self.new moment.now at.now nodes.now result }
     {
-        let own = own_rank(moment, at, nodes);
+        self.learn(moment, at, nodes);
+        let own = own_rank(moment, self.history, at, nodes);
         let best = moment.greatest(Some(at.view), nodes);
         let greater = greater_than(&own, best);
         let is_alone = at.members > 1 && own.members == 1;
@@ -246,6 +275,9 @@ impl Finder {
         ensures asked { self.new.asked ≡ None }
         ensures looked { self.new.looked ≡ None }
         ensures tick { self.new.tick ≡ self.old.tick }
+        ensures given { self.new.given ≡ self.old.given }
+        ensures history { self.new.history ≡ self.old.history }
+        ensures place { self.new.place ≡ Some (place_of moment.now.own own.now self.old.history is_wanting) }
     {
         self.asked = None;
         self.looked = None;
@@ -263,6 +295,7 @@ impl Finder {
             view: own.view,
             members: own.members,
             stays: !is_wanting && own.view.creator() == moment.own,
+            history: self.history,
         });
     }
 
@@ -333,19 +366,37 @@ impl Finder {
     }
 }
 
-// The rank of a member's own view: as its coordinator tells of it; or, where this is the coordinator, or that one is not heard, by how many say that they are there, and itself.
-fn own_rank(moment: &Moment, at: &Standing, nodes: &[Neighbour]) -> Rank
-    ensures { result ≡ own_rank moment.now at.now nodes.now }
+// Whether the event was counted by which a member installed its view.
+fn is_counted(at: &Standing) -> bool
+    ensures { result ≡ is_counted at.now }
+{
+    match at.lineage.view {
+        Some(view) => view == at.view,
+        None => false,
+    }
+}
+
+// How many members a member's own view has: as its coordinator tells; or, where this is the coordinator, or that one is not heard, those that say that they are there, and itself.
+fn own_members(moment: &Moment, at: &Standing, nodes: &[Neighbour]) -> u8
+    ensures { result ≡ own_members moment.now at.now nodes.now }
 {
     match moment.told_of(at.view, nodes) {
-        Some(offer) => offer.rank,
+        Some(offer) => offer.rank.members,
         None => {
             let count = moment.count_in(at.view, nodes).saturating_add(1);
-            Rank {
-                members: count.min(at.members).min(255) as u8,
-                view: at.view,
-            }
+            count.min(at.members).min(255) as u8
         }
+    }
+}
+
+// The rank of a member's own view, whose history it knows.
+fn own_rank(moment: &Moment, history: u64, at: &Standing, nodes: &[Neighbour]) -> Rank
+    ensures { result ≡ own_rank moment.now history at.now nodes.now }
+{
+    Rank {
+        history: moment.counted(history),
+        members: own_members(moment, at, nodes),
+        view: at.view,
     }
 }
 

@@ -3,6 +3,8 @@
 #![tactic(auto)]
 
 mod finding;
+mod lineage;
 mod ranks;
 
 pub use finding::{Finder, Standing, Step, Whereabouts, milliseconds};
+pub use lineage::Lineage;

@@ -5,7 +5,9 @@ use Rattle.std.specs.Option.{option_map_or, is_none}
 use Rattle.udp_net.specs.declared.word.Word.{Word}
 use Rattle.udp_net.specs.declared.word.Neighbour.{Neighbour}
 use Rattle.udp_net.specs.declared.neighbours.Age.{Age}
+use Rattle.udp_net.specs.declared.word.TheConstants.{WORD_VERSION}
 use Rattle.udp_net.specs.declared.TheConstants.{FORGOTTEN}
+use Rattle.udp_net.specs.Words.{version_number}
 
 -- the nodes with what was told of them, and for how many rounds that is known
 pub record NeighboursModel : Type 0 where
@@ -19,9 +21,14 @@ untold node = record { node = node; word = None; is_asked = false }
 abbrev pub newborn : ℕ → Age
 newborn node = record { node = node; rounds = 0 }
 
--- a word is later than another one: of a later incarnation, or of the same one and said later
+-- of two words of one incarnation the one of the later version counts, and of two of one version the one that was said later
+abbrev pub is_said_later : Word → Word → Bool
+is_said_later w last =
+    nat_lt (version_number last.version) (version_number w.version) || (nat_eq (version_number last.version) (version_number w.version) && nat_lt last.said w.said)
+
+-- a word is later than another one: of a later incarnation, or of the same one and counts
 abbrev pub is_later : Word → Word → Bool
-is_later w last = nat_lt last.source.incarnation w.source.incarnation || (nat_eq last.source.incarnation w.source.incarnation && nat_lt last.said w.said)
+is_later w last = nat_lt last.source.incarnation w.source.incarnation || (nat_eq last.source.incarnation w.source.incarnation && is_said_later w last)
 
 -- it is of this node, and later than its latest one
 abbrev pub is_news : Word → Neighbour → Bool
@@ -37,6 +44,16 @@ renewed node a = if nat_eq a.node node then newborn a.node else a
 -- a word came: it counts if it is later than the latest one of its node
 abbrev pub heard : Word → NeighboursModel → NeighboursModel
 heard w s = if list_any (is_news w) s.told then record { told = map (hearing w) s.told; ages = map (renewed w.source.node) s.ages } else s
+
+-- whether the latest word of a node is of version 2
+abbrev pub tells_history : Word → Bool
+tells_history w = nat_eq (version_number w.version) WORD_VERSION
+
+abbrev pub is_of_second : ℕ → Neighbour → Bool
+is_of_second node n = nat_eq n.node node && option_map_or tells_history n.word false
+
+abbrev pub knows_second : ℕ → NeighboursModel → Bool
+knows_second node s = list_any (is_of_second node) s.told
 
 -- a word is said to a node
 abbrev pub answered : ℕ → Neighbour → Neighbour

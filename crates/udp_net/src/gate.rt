@@ -1,6 +1,7 @@
 //! What a net does besides carrying packets: words come and go, and packets are dropped that would harm the group (docs/RUNNER.md, "What a net drops").
 
-ghost use Rattle.std.specs.Prelude.{◌≡◌, if◌then◌else◌};
+ghost use Rattle.std.specs.Prelude.{◌≡◌, not, if◌then◌else◌};
+ghost use Rattle.udp_net.specs.Neighbours.{knows_second};
 ghost use Rattle.udp_net.specs.Logs.{one_more};
 ghost use Rattle.udp_net.specs.Strangers.{is_strange, is_sieved};
 
@@ -77,6 +78,13 @@ impl Gate {
     pub(crate) fn pass(&mut self, view: Option<ViewId>, members: &[Address]) {
         self.sieve.pass(view, members);
         self.neighbours.pass();
+    }
+
+    /// Whether a node is to be told the same in version 1 too: no word of version 2 is known of it.
+    pub(crate) fn speaks_first(&self, node: Node) -> bool
+        ensures { result ≡ not (knows_second node self.now.neighbours) }
+    {
+        !self.neighbours.knows_second(node)
     }
 
     /// The bytes of a word that is said to a node; `None` where memory is refused.

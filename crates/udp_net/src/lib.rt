@@ -32,7 +32,7 @@ pub use net::{Net, Received};
 pub use node_ports::{MOST_NODES, MOST_SILENT, NodePort, Settings};
 pub use sieved_net::SievedNet;
 pub use socket_net::SocketNet;
-pub use word::{Echo, Neighbour, Place, Word};
+pub use word::{Echo, Neighbour, Place, Word, WordVersion};
 
 /// How many bytes a socket's net sends to a node in one turn, in bytes; the datagram that goes over them is sent too. The buffer of a socket has 212,992 bytes
 /// by default on Linux, of which a datagram takes up to twice its length.
@@ -65,8 +65,8 @@ pub const SHORT: usize = 1_400;
 /// The most bytes of an ACK: 17 of its head, 32 of the group's name, 22 of its body (docs/WIRE.md, "The header").
 pub const ACK: usize = 71;
 
-/// The most bytes of a word: 36 at most of its head, 14 of who says it and when, 15 of what it answers, 16 of the view (docs/WIRE.md, "Words").
-pub const WORD: usize = 81;
+/// The most bytes of a word: 36 at most of its head, 14 of who says it and when, 15 of what it answers, 24 of the view (docs/WIRE.md, "Words").
+pub const WORD: usize = 89;
 
 /// For how many rounds the latest word of a node is known.
 pub const FORGOTTEN: u32 = 500;

@@ -1,9 +1,10 @@
 //! What words tell of nodes, and when it is forgotten (docs/WIRE.md, "Words").
 
 ghost use Rattle.std.specs.Prelude.{◌≡◌, map, IfOk};
-ghost use Rattle.udp_net.specs.Neighbours.{untold, newborn, is_later, is_news, hearing, renewed, heard, answered, answering, older, is_old, remembered, passing};
+ghost use Rattle.udp_net.specs.Neighbours.{untold, newborn, is_later, is_said_later, is_news, is_of_second, knows_second, hearing, renewed, heard, answered, answering, older, is_old, remembered, passing};
 ghost use Rattle.std.specs.List.{list_any};
 
+use crate::word::WORD_VERSION;
 use crate::{FORGOTTEN, Neighbour, NodePort, Word};
 use address::Node;
 use std::alloc::{AllocError, Global};
@@ -36,12 +37,20 @@ impl Model for Neighbours {
     ghost view = { λ n. record { told = n.told.items; ages = n.ages.items } };
 }
 
-// Whether a word is of a later incarnation than another one of its node, or of the same one and said later.
+// Whether a word counts beside another one of its incarnation: it is of a later version, or of the same one and said later.
+fn is_said_later(word: &Word, last: &Word) -> bool
+    ensures { result ≡ is_said_later word.now last.now }
+{
+    let (new, old) = (word.version.number(), last.version.number());
+    old < new || (old == new && last.said < word.said)
+}
+
+// Whether a word is of a later incarnation than another one of its node, or of the same one and counts beside it.
 fn is_later(word: &Word, last: &Word) -> bool
     ensures { result ≡ is_later word.now last.now }
 {
     let (new, old) = (word.source.incarnation(), last.source.incarnation());
-    old < new || (old == new && last.said < word.said)
+    old < new || (old == new && is_said_later(word, last))
 }
 
 fn is_news(word: &Word, neighbour: &Neighbour) -> bool
@@ -100,6 +109,20 @@ fn renew_all(node: Node, ages: &mut [Age])
     for age in ages.iter_mut() {
         *age = renewed(node, *age);
     }
+}
+
+// Whether one of these is a node whose latest word is of version 2.
+fn knows_second(node: Node, told: &[Neighbour]) -> bool
+    ensures { result ≡ list_any (is_of_second node) told.now }
+{
+    let Some((first, rest)) = told.split_first() else {
+        return false;
+    };
+    let is_second = match first.word {
+        Some(word) => word.version.number() == WORD_VERSION,
+        None => false,
+    };
+    (first.node == node && is_second) || knows_second(node, rest)
 }
 
 fn answer_all(node: Node, told: &mut [Neighbour])
@@ -174,6 +197,13 @@ impl Neighbours {
         ensures { result.now ≡ self.now.told }
     {
         self.told.as_slice()
+    }
+
+    /// Whether the latest word of a node is of version 2: then that node reads such words.
+    pub(crate) fn knows_second(&self, node: Node) -> bool
+        ensures { result ≡ knows_second node self.now }
+    {
+        knows_second(node, self.told.as_slice())
     }
 
     /// A word came from its node: it counts if it is later than the latest one of that node.

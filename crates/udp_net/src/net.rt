@@ -79,7 +79,8 @@ pub trait Net: Drop {
         ensures unsent { unsent self.old ≤ unsent self.new }
     {}
 
-    /// Says a word to a node, if it is a net that carries words: it is no packet, and no receive gives it. Nothing is listed by it. From the first one on a net that does
+    /// Says a word to a node, if it is a net that carries words: it is no packet, and no receive gives it. Behind it goes the same in version 1, where no word of version 2 is known
+    /// of that node. Nothing is listed by it. From the first one on a net that does
     /// drops what would merge views (docs/RUNNER.md, "What a net drops").
     fn say(&mut self, _node: Node, _word: &Word)
         ensures lists { Lists (log self.old) (λ l. l) (log self.new) }

@@ -96,6 +96,18 @@ impl<N: Net> SievedNet<N> {
         })
     }
 
+    // Offers a word for a node to the net below.
+    fn say_once(&mut self, node: Node, word: &Word)
+        ensures failed { N.failed self.new.inner ≡ N.failed self.old.inner }
+        ensures unsent { N.unsent self.old.inner ≤ N.unsent self.new.inner }
+        ensures lost { self.old.lost ≤ self.new.lost }
+    {
+        match self.ways.gate.spell(node, word) {
+            Some(spelled) => self.inner.send(node, spelled),
+            None => self.lost = self.lost.saturating_add(1),
+        }
+    }
+
     // Takes the next datagram that is given; none where `TURN` in a row are dropped.
     fn take(&mut self, buffer: &mut [u8]) -> Result<Option<usize>, Fault>
         ensures within { IfOk result (λ count. IfSome count (λ n. n ≤ length buffer.new)) }
@@ -192,11 +204,10 @@ impl<N: Net> Net for SievedNet<N> {
 
     /// It goes at once, as a datagram of the net below.
     fn say(&mut self, node: Node, word: &Word) {
-        let Some(spelled) = self.ways.gate.spell(node, word) else {
-            self.lost = self.lost.saturating_add(1);
-            return;
-        };
-        self.inner.send(node, spelled);
+        self.say_once(node, word);
+        if self.ways.gate.speaks_first(node) {
+            self.say_once(node, &word.in_first_version());
+        }
         self.inner.flush();
     }
 

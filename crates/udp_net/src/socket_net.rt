@@ -168,6 +168,23 @@ impl SocketNet {
         self.ways.judge(datagram, source)
     }
 
+    // Sends a word to a node's host and port at once.
+    fn say_once(&mut self, node: Node, word: &Word)
+        ensures failed { self.new.failures ≡ self.old.failures }
+        ensures unsent { self.old.socket.unsent ≤ self.new.socket.unsent }
+    {
+        let socket = &mut self.socket;
+        let Some(spelled) = self.ways.gate.spell(node, word) else {
+            socket.lose();
+            return;
+        };
+        for lane in self.ways.lanes.as_slice() {
+            if lane.node() == node {
+                socket.send(lane.address(), spelled);
+            }
+        }
+    }
+
     // Takes the next datagram that is given; none where `TURN` in a row are dropped.
     fn take(&mut self, buffer: &mut [u8]) -> Result<Option<usize>, Fault>
         ensures within { IfOk result (λ count. IfSome count (λ n. n ≤ length buffer.new)) }
@@ -256,15 +273,9 @@ impl Net for SocketNet {
 
     /// Sends it to the node's host and port at once; one for a node that the settings do not list is lost, and does not count as unsent.
     fn say(&mut self, node: Node, word: &Word) {
-        let socket = &mut self.socket;
-        let Some(spelled) = self.ways.gate.spell(node, word) else {
-            socket.lose();
-            return;
-        };
-        for lane in self.ways.lanes.as_slice() {
-            if lane.node() == node {
-                socket.send(lane.address(), spelled);
-            }
+        self.say_once(node, word);
+        if self.ways.gate.speaks_first(node) {
+            self.say_once(node, &word.in_first_version());
         }
     }
 
