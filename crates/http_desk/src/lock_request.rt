@@ -1,6 +1,6 @@
 //! What a request asks of the table of locks.
 
-use crate::query::{Takes, parameters};
+use crate::query::{Takes, read_query};
 use crate::refusal::Refusal;
 use crate::request::{Asked, Errand, Order, misread, read_only};
 use bytes::Bytes;
@@ -21,7 +21,7 @@ pub(crate) fn line_of<'a>(
 
 // A request for a lock.
 fn acquire(alloc: Global, request: &Request<Bytes>, name: &[u8]) -> Result<Asked, AllocError> {
-    match parameters(request.uri().query(), Takes::Acquire) {
+    match read_query(request.uri().query(), Takes::Acquire) {
         Ok(found) => Ok(Asked::Write(Order {
             line: line_of(alloc, b"acquire", name)?,
             errand: Errand::Acquire {
@@ -47,7 +47,7 @@ pub(crate) fn release_of(alloc: Global, name: &[u8], timeout: u64) -> Result<Ord
 
 // A release of a lock.
 fn release(alloc: Global, request: &Request<Bytes>, name: &[u8]) -> Result<Asked, AllocError> {
-    match parameters(request.uri().query(), Takes::Release) {
+    match read_query(request.uri().query(), Takes::Release) {
         Ok(found) => release_of(alloc, name, found.timeout).map(Asked::Write),
         Err(refused) => Ok(misread(alloc, &refused)),
     }

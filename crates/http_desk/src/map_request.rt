@@ -1,7 +1,7 @@
 //! What a request asks of the map.
 
 use crate::history::place_in;
-use crate::query::{Parameters, Takes, decoded, parameters};
+use crate::query::{Parameters, Takes, decoded, read_query};
 use crate::refusal::Refusal;
 use crate::request::{Asked, Errand, Order, is_read, misread, read_only};
 use address::limits::PAYLOAD;
@@ -175,7 +175,7 @@ pub(crate) fn asked_of_key<'a>(
         }
         _ => Err(Refusal::OtherMethod),
     };
-    match (command, parameters(request.uri().query(), Takes::MapWrite)) {
+    match (command, read_query(request.uri().query(), Takes::MapWrite)) {
         (Err(refusal), _) => Ok(Asked::Refused(refusal)),
         (Ok(_), Err(refused)) => Ok(misread(alloc, &refused)),
         (Ok(command), Ok(found)) => write_of(alloc, &command, &found),
@@ -187,7 +187,7 @@ pub(crate) fn asked_of_all(alloc: Global, request: &Request<Bytes>) -> Result<As
     if !is_read(request) {
         return Ok(Asked::Refused(Refusal::OtherMethod));
     }
-    match parameters(request.uri().query(), Takes::MapRead) {
+    match read_query(request.uri().query(), Takes::MapRead) {
         Ok(found) => match found.after {
             Some(text) => {
                 let text = decoded(alloc, text.as_bytes())?;

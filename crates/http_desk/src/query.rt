@@ -117,7 +117,7 @@ fn take<'a>(
 }
 
 /// Reads the parameters of a query, all of which the request must take; else the first that is refused.
-pub(crate) fn parameters<'a>(
+pub(crate) fn read_query<'a>(
     query: Option<&'a str>,
     takes: Takes,
 ) -> Result<Parameters<'a>, Refused<'a>> {

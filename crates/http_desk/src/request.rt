@@ -3,7 +3,7 @@
 use crate::kept::Keeps;
 use crate::lock_request::asked_of_lock;
 use crate::map_request::{asked_of_all, asked_of_key};
-use crate::query::{Refused, Takes, decoded, parameters};
+use crate::query::{Refused, Takes, decoded, read_query};
 use crate::refusal::Refusal;
 use bytes::Bytes;
 use http::Request;
@@ -129,7 +129,7 @@ pub(crate) fn read_only(alloc: Global, request: &Request<Bytes>, asked: Asked) -
     if !is_read(request) {
         return Asked::Refused(Refusal::OtherMethod);
     }
-    match parameters(request.uri().query(), Takes::Nothing) {
+    match read_query(request.uri().query(), Takes::Nothing) {
         Ok(_) => asked,
         Err(refused) => misread(alloc, &refused),
     }
@@ -178,7 +178,7 @@ fn asked_to_leave(alloc: Global, request: &Request<Bytes>) -> Asked {
     if request.method().as_str() != "POST" {
         return Asked::Refused(Refusal::OtherMethod);
     }
-    match parameters(request.uri().query(), Takes::Nothing) {
+    match read_query(request.uri().query(), Takes::Nothing) {
         Ok(_) => Asked::Leave,
         Err(refused) => misread(alloc, &refused),
     }
