@@ -1,10 +1,10 @@
 -- No open ticket's time is over once that was looked for, and no change gives a ticket more time.
-use Rattle.std.proofs.Common.{◌≡◌, ◌⊎◌, inl, inr, ◌<◌, ℕ, Bool, true, false, not, nat_le, List, [], ◌∷◌, ◌++◌, Some, None, cond, refl, sym, subst, ◌∙◌, ap, arith}
+use Rattle.std.proofs.Common.{◌≡◌, inl, inr, ◌<◌, ℕ, Bool, true, false, not, nat_le, List, [], ◌∷◌, ◌++◌, Some, None, cond, refl, ◌∙◌, arith}
 use Rattle.std.specs.List.{All, Contains}
 use Rattle.std.specs.Option.{is_some}
 use Rattle.std.proofs.lemmas.Bool.Decides.{nat_tests}
 use Rattle.std.proofs.lemmas.List.Sums.{fold_push}
-use Rattle.std.proofs.lemmas.List.Elements.{All-nil, All-cons, All-contains, All-contains_itself, All-weaker, Contains-append_left, Contains-append_right}
+use Rattle.std.proofs.lemmas.List.Elements.{All-nil, All-cons, All-contains, All-contains_itself, Contains-append_left, Contains-append_right}
 use Rattle.tickets.specs.declared.tickets.Pending.{Pending}
 use Rattle.tickets.specs.declared.tickets.Stage.TheVariants as stage
 use Rattle.tickets.specs.declared.tickets.Change.{Change}

@@ -1,5 +1,5 @@
 -- Each ticket is open or has ended as often as it was opened: none is forgotten, and none ends twice.
-use Rattle.std.proofs.Common.{◌≡◌, ℕ, ◌+◌, ◌==◌, not, List, [], ◌∷◌, ◌++◌, map, cond, Option, None, Some, count_by, refl, ◌∙◌, arith}
+use Rattle.std.proofs.Common.{◌≡◌, ℕ, ◌+◌, ◌==◌, not, List, [], ◌∷◌, ◌++◌, map, cond, Option, None, Some, count_by, refl, arith}
 use Rattle.std.specs.List.{filter, filter_map, cons_option}
 use Rattle.std.specs.Option.{option_map, is_some}
 use Rattle.std.proofs.lemmas.List.Sums.{sum_by-cons, sum_by-append}

@@ -1,6 +1,6 @@
 -- A ticket whose message was sent is not told 'not done'.
-use Rattle.std.proofs.Common.{◌≡◌, ℕ, ◌+◌, ◌==◌, ◌&&◌, ◌||◌, Bool, true, false, not, nat_le, List, [], ◌∷◌, ◌++◌, map, cond, Option, None, Some, count_by, refl, sym, ap, ◌∙◌, arith}
-use Rattle.std.specs.List.{All, Contains, filter, filter_map, cons_option, list_any}
+use Rattle.std.proofs.Common.{◌≡◌, ℕ, ◌==◌, ◌&&◌, ◌||◌, Bool, true, false, not, nat_le, List, [], ◌∷◌, cond, Option, None, Some, count_by, refl, ◌∙◌, arith}
+use Rattle.std.specs.List.{All, Contains, filter_map, cons_option, list_any}
 use Rattle.std.specs.Option.{option_map, option_map_or}
 use Rattle.std.proofs.lemmas.Bool.Decides.{nat_tests}
 use Rattle.std.proofs.lemmas.List.Sums.{sum_by-cons, sum_by-append}
@@ -13,7 +13,7 @@ use Rattle.tickets.specs.declared.tickets.End.TheVariants as end
 use Rattle.tickets.specs.declared.tickets.Ended.{Ended}
 use Rattle.tickets.specs.declared.tickets.Change.{Change}
 use Rattle.tickets.specs.declared.tickets.Change.TheVariants as change
-use Rattle.tickets.specs.Ledger.{Ledger, after, after_all, end_by, ended_by, given_up, moved, opened_by, stays_open, stage_after, was_sent, handed_back, is_sent}
+use Rattle.tickets.specs.Ledger.{Ledger, after, after_all, end_by, ended_by, given_up, opened_by, stage_after, was_sent, handed_back, is_sent}
 use Rattle.tickets.specs.Laws.{StaysTrue, WasSent, is_not_done, not_done_often, opens}
 use Rattle.tickets.proofs.AllChanges.{all-after}
 

@@ -1,5 +1,5 @@
 -- The first end of a ticket is found at its index, and the others are what is left there.
-use Rattle.std.proofs.Common.{◌≡◌, ℕ, ◌<◌, ◌≤◌, Bool, true, false, List, ◌++◌, suc, length, take, get_or, cond, ltb, Option, None, Some, refl, sym, ap, ◌∙◌, arith}
+use Rattle.std.proofs.Common.{◌≡◌, ℕ, ◌<◌, ◌≤◌, Bool, true, false, List, ◌++◌, suc, length, take, get_or, cond, ltb, None, Some, refl, sym, ap, ◌∙◌, arith}
 use Rattle.std.specs.List.{remove, position, position_or_len, slice_get}
 use Rattle.std.specs.Option.{option_map}
 use Rattle.std.proofs.Math.ListN.{drop_of_length-le}
