@@ -20,6 +20,7 @@ stays-in-time now o stays = by (nat_le o.until now) refl stays where
   by true e h = absurd cc
   by false e h = grind (arith, nat_tests)
 
+-- once a time has passed, each open ticket has more
 in-time : (now : ℕ) (l : Ledger) → IsInTime now (after l (change.Passed now))
 in-time now l = λ o at.
     All-contains (λ (p : Pending). now < p.until) (after l (change.Passed now)).pending o
@@ -43,6 +44,7 @@ opened-so l (change.Passed now) = All-nil _
 opened-so l change.BegunAgain = All-nil _
 opened-so l change.Closed = All-nil _
 
+-- after one change an open ticket has the time that it had, or that it was opened with
 one-keeps : (l : Ledger) (c : Change) (o : Pending) → Contains (after l c).pending o → HasItsTime l (c ∷ []) o
 one-keeps l c o at =
     All-contains (HasItsTime l (c ∷ [])) (after l c).pending o
