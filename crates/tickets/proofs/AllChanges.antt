@@ -1,5 +1,5 @@
 -- What each change keeps, all keep; and what holds of each open ticket after a change.
-use Rattle.std.proofs.Common.{◌≡◌, true, List, [], ◌∷◌, ◌++◌, map, get_or}
+use Rattle.std.proofs.Common.{◌≡◌, true, List, [], ◌∷◌, map, get_or}
 use Rattle.std.specs.List.{All, filter}
 use Rattle.std.proofs.lemmas.List.Elements.{All-append, All-filter, All-map, filter_passes}
 use Rattle.tickets.specs.declared.tickets.Pending.{Pending}

@@ -1,10 +1,10 @@
 -- No open ticket's time is over once that was looked for, and no change gives a ticket more time.
-use Rattle.std.proofs.Common.{◌≡◌, ◌⊎◌, inl, inr, ◌<◌, ℕ, Bool, true, false, not, nat_le, List, [], ◌∷◌, ◌++◌, Some, None, cond, refl, sym, subst, ◌∙◌, ap, arith}
+use Rattle.std.proofs.Common.{◌≡◌, inl, inr, ◌<◌, ℕ, Bool, true, false, not, nat_le, List, [], ◌∷◌, ◌++◌, Some, None, cond, refl, ◌∙◌, arith}
 use Rattle.std.specs.List.{All, Contains}
 use Rattle.std.specs.Option.{is_some}
 use Rattle.std.proofs.lemmas.Bool.Decides.{nat_tests}
 use Rattle.std.proofs.lemmas.List.Sums.{fold_push}
-use Rattle.std.proofs.lemmas.List.Elements.{All-nil, All-cons, All-contains, All-contains_itself, All-weaker, Contains-append_left, Contains-append_right}
+use Rattle.std.proofs.lemmas.List.Elements.{All-nil, All-cons, All-contains, All-contains_itself, Contains-append_left, Contains-append_right}
 use Rattle.tickets.specs.declared.tickets.Pending.{Pending}
 use Rattle.tickets.specs.declared.tickets.Stage.TheVariants as stage
 use Rattle.tickets.specs.declared.tickets.Change.{Change}
@@ -20,6 +20,7 @@ stays-in-time now o stays = by (nat_le o.until now) refl stays where
   by true e h = absurd cc
   by false e h = grind (arith, nat_tests)
 
+-- once a time has passed, each open ticket has more
 in-time : (now : ℕ) (l : Ledger) → IsInTime now (after l (change.Passed now))
 in-time now l = λ o at.
     All-contains (λ (p : Pending). now < p.until) (after l (change.Passed now)).pending o
@@ -43,6 +44,7 @@ opened-so l (change.Passed now) = All-nil _
 opened-so l change.BegunAgain = All-nil _
 opened-so l change.Closed = All-nil _
 
+-- after one change an open ticket has the time that it had, or that it was opened with
 one-keeps : (l : Ledger) (c : Change) (o : Pending) → Contains (after l c).pending o → HasItsTime l (c ∷ []) o
 one-keeps l c o at =
     All-contains (HasItsTime l (c ∷ [])) (after l c).pending o

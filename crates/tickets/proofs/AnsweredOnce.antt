@@ -1,5 +1,5 @@
 -- Each ticket is open or has ended as often as it was opened: none is forgotten, and none ends twice.
-use Rattle.std.proofs.Common.{◌≡◌, ℕ, ◌+◌, ◌==◌, not, List, [], ◌∷◌, ◌++◌, map, cond, Option, None, Some, count_by, refl, ◌∙◌, arith}
+use Rattle.std.proofs.Common.{◌≡◌, ℕ, ◌+◌, ◌==◌, not, List, [], ◌∷◌, ◌++◌, map, cond, Option, None, Some, count_by, refl, arith}
 use Rattle.std.specs.List.{filter, filter_map, cons_option}
 use Rattle.std.specs.Option.{option_map, is_some}
 use Rattle.std.proofs.lemmas.List.Sums.{sum_by-cons, sum_by-append}
@@ -18,6 +18,7 @@ open_in ticket os = count_by (λ o. o.ticket == ticket) os
 abbrev ended_in : ℕ → List Ended → ℕ
 ended_in ticket es = count_by (λ e. e.ticket == ticket) es
 
+-- the counts of two lists, one behind the other, are added
 open-more : (ticket : ℕ) (os ps : List Pending) → open_in ticket (os ++ ps) ≡ open_in ticket os + open_in ticket ps
 open-more ticket os ps = sum_by-append (λ o. cond (o.ticket == ticket) 1 0) os ps
 
@@ -56,13 +57,14 @@ opened-once ticket (change.Passed now) = refl
 opened-once ticket change.BegunAgain = refl
 opened-once ticket change.Closed = refl
 
+-- one change: each ticket is open or ended as often as before, and once more if the change opens it
 one-change : (ticket : ℕ) (l : Ledger) (c : Change) → open_often ticket (after l c) + ended_often ticket (after l c) ≡ open_often ticket l + ended_often ticket l + cond (opens ticket c) 1 0
 one-change ticket l c =
     let running = open-more ticket (map (moved c) (filter (stays_open c) l.pending)) (opened_by c) in
     let ended = ended-more ticket l.ended (filter_map (ended_by c) l.pending) in
     omega (arith, running, ended, goes-on ticket c l.pending, opened-once ticket c)
 
--- none is forgotten, and none ends twice
+-- all changes: no ticket is forgotten, and none ends twice
 pub forgets-none : (l : Ledger) (cs : List Change) → IsEachOnce l cs (after_all l cs)
 forgets-none l [] = λ ticket. omega arith
 forgets-none l (c ∷ cs) = λ ticket.

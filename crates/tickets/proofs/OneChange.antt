@@ -1,5 +1,5 @@
 -- A change that ends no ticket moves each; one that moves none ends some; and one that opens a ticket leaves the others as they are.
-use Rattle.std.proofs.Common.{◌≡◌, ℕ, List, [], ◌∷◌, ◌++◌, map, None, refl, sym, ap, ◌∙◌, append-nil}
+use Rattle.std.proofs.Common.{◌≡◌, ℕ, List, [], ◌∷◌, ◌++◌, map, None, refl, ap, ◌∙◌, append-nil}
 use Rattle.std.specs.List.{filter, filter_map}
 use Rattle.tickets.specs.declared.tickets.Pending.{Pending}
 use Rattle.tickets.specs.declared.tickets.Ended.{Ended}

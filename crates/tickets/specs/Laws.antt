@@ -4,10 +4,9 @@ use Rattle.std.specs.List.{Contains, list_any}
 use Rattle.tickets.specs.declared.tickets.Pending.{Pending}
 use Rattle.tickets.specs.declared.tickets.End.{End}
 use Rattle.tickets.specs.declared.tickets.End.TheVariants as end
-use Rattle.tickets.specs.declared.tickets.Ended.{Ended}
 use Rattle.tickets.specs.declared.tickets.Change.{Change}
 use Rattle.tickets.specs.declared.tickets.Change.TheVariants as change
-use Rattle.tickets.specs.Ledger.{Ledger, after_all, was_sent}
+use Rattle.tickets.specs.Ledger.{Ledger, was_sent}
 
 -- ---- each once
 

@@ -1,4 +1,4 @@
-//! The laws speak of something: a story of two tickets. And they say something: what they reject.
+//! A story of two tickets, which shows that the premises of the laws can be met, and examples that the laws reject.
 
 ghost use Rattle.std.specs.Prelude.{◌≡◌, ◌++◌, ◌∷◌, [], ℕ, None, Some, false};
 ghost use Rattle.std.specs.List.{list_any};
@@ -11,8 +11,13 @@ ghost use Rattle.tickets.specs.Reaching.{reach_of};
 ghost use Rattle.tickets.specs.Story.{both_ended, first_sent, goes_on, one_back, one_sent};
 ghost use Rattle.tickets.specs.Wrong.{in_first, later_view, one_not_done, one_twice, one_waits};
 
-/// Plays a story: ticket 1 is opened until 10 and sent; it is handed back, and to be sent again; it is sent again and settled. Ticket 2 is opened until 5, and the time 5 passes.
-/// At its end none is open: the first is known, and the second was not done. So the premises of `answers_truly` can be met: ticket 1 was sent, and is not opened again. It does nothing.
+/// Plays the story of `specs/Story.antt`. It does nothing.
+///
+/// - Ticket 1 is opened until 10 and sent. A view change hands its message back, so that it is the next to be sent. It is sent again and settled.
+/// - Ticket 2 is opened until 5, and is never sent. The time 5 passes.
+///
+/// At the end no ticket is open: ticket 1 ended as known, ticket 2 as not done.
+/// The premises of `answers_truly` hold of ticket 1: its message was sent, and the ticket is not opened again.
 pub fn story()
     ensures sent { after_all nothing_open first_sent ≡ one_sent }
     ensures back { after one_sent (change.HandedBack 1) ≡ one_back }
@@ -22,9 +27,12 @@ pub fn story()
     ensures once { list_any (opens 1) goes_on ≡ false }
 {}
 
-/// Shows what the laws reject: a ticket that is forgotten after it was opened, or that ends twice; an open ticket whose time is over, or that has more time than it was opened with;
-/// a ticket that waits to be sent first, as one that was sent; 'not done' of one that was sent. And a message that nobody is known to have is not with everybody once the view is over.
-/// It does nothing.
+/// Rejects what the laws and `reach_of` must reject. It does nothing.
+///
+/// - Each once: a ticket that is forgotten after it was opened, or that ends twice.
+/// - In time: a ticket that is open until 3 and still open at 3, or that has more time than it was opened with.
+/// - Truly: a ticket that waits to be sent, as one that was sent; 'not done' of a ticket that was sent.
+/// - Reach: where nothing is known to be stable and the member is in a later view, the reach is unknown, and not everybody.
 pub fn refutations()
     ensures forgotten { IsEachOnce nothing_open (change.Opened 1 10 ∷ []) nothing_open → ⊥ }
     ensures twice { IsEachOnce one_sent (change.Settled 1 ∷ []) one_twice → ⊥ }

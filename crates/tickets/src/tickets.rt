@@ -105,7 +105,7 @@ impl Model for Tickets {
     ghost invariant = { λ t. vec_len t.ended + vec_len t.pending ≤ vec_capacity t.ended };
 }
 
-// Where the first end of a ticket stands.
+// Finds the index of a ticket's first end.
 fn index_of(ended: &[Ended], ticket: u64) -> Option<usize>
     ensures { result ≡ position (has_ended ticket) ended.now }
 {
@@ -121,7 +121,7 @@ fn move_each(pending: &mut [Pending], change: &Change)
     }
 }
 
-// The same ticket at the stage to which a change brings it.
+// Returns the ticket at the stage to which a change brings it.
 fn moved(pending: Pending, change: &Change) -> Pending
     ensures { result ≡ moved change.now pending }
 {
@@ -140,7 +140,7 @@ fn moved(pending: Pending, change: &Change) -> Pending
     }
 }
 
-// Notes the end of a ticket, if a change ends it.
+// Appends the end of a ticket, if the change ends it.
 fn end_one(pending: &Pending, change: &Change, ended: &mut Vec<Ended>)
     requires { vec_len ended.old + 1 ≤ vec_capacity ended.old }
     ensures items { ended.new.items ≡ ended.old.items ++ option_to_list (ended_by change.now pending.now) }
@@ -155,7 +155,7 @@ fn end_one(pending: &Pending, change: &Change, ended: &mut Vec<Ended>)
     }
 }
 
-// Ends each ticket that a change ends; the others stay open.
+// Appends the end of each ticket that the change ends, and keeps the others open.
 fn end_each(pending: &mut Vec<Pending>, ended: &mut Vec<Ended>, change: &Change)
     requires { vec_len ended.old + vec_len pending.old ≤ vec_capacity ended.old }
     ensures pending { pending.new.items ≡ filter (stays_open change.now) pending.old.items }

@@ -1,6 +1,5 @@
 use Rattle.std.proofs.Common.{◌≡◌, ◌==◌, drop}
 use Rattle.std.specs.List.{list_any}
-use Rattle.tickets.specs.Ledger.{is_open}
 use Rattle.tickets.proofs.tickets.Tickets.is_open.Given as goal
 
 -- it is not of those so far

@@ -1,6 +1,6 @@
-use Rattle.std.proofs.Common.{◌≡◌, ◌++◌, ◌∷◌, [], ◌∙◌, ap, rules}
+use Rattle.std.proofs.Common.{◌≡◌, ◌++◌, ◌∷◌, [], rules}
 use Rattle.tickets.specs.declared.tickets.Stage.TheVariants as stage
-use Rattle.tickets.proofs.OneChange.{opens, of_lists}
+use Rattle.tickets.proofs.OneChange.{opens}
 use Rattle.tickets.proofs.tickets.Tickets.open.Goals as goal
 
 pub returns-clause-ok : goal.returns-clause-ok

@@ -1,4 +1,4 @@
-use Rattle.std.proofs.Common.{◌≡◌, ◌<◌, length, None, Some, sym, ◌∙◌, ap, arith}
+use Rattle.std.proofs.Common.{◌≡◌, None, Some, sym, ◌∙◌, ap, arith}
 use Rattle.std.specs.List.{position}
 use Rattle.tickets.specs.Ledger.{Ledger, has_ended}
 use Rattle.tickets.proofs.FirstEnd.{first-is, none-is, with_ended}
