@@ -1,0 +1,266 @@
+"""Accidents of groups whose nodes answer HTTP, for tests/accidents: what clients were answered must be true afterwards, at all nodes.
+
+The nodes keep a map or locks with `--quorum 2`: a node that is alone sends no write."""
+import random
+import signal
+import time
+
+import http_clients
+from accidents_cases import accident
+from accidents_group import Wrong
+
+MAP = ("--find", "--map", "--quorum", "2")
+LOCKS = ("--find", "--locks", "--quorum", "2")
+# Ticks of 5 ms, with the same silence of a second: views change as often as the silence allows, and many writes are on the way.
+FAST = {"options": (*MAP, "--tick", "5"), "silent": 200}
+FAST_LOCKS = {"options": (*LOCKS, "--tick", "5"), "silent": 200}
+# For how many seconds node 3 is killed and started again and again, and how many clients each other node has meanwhile.
+KILLING, WRITERS = 12, 20
+UNKNOWN, NOT_DONE = {"error": "unknown"}, {"error": "not done"}
+
+
+def kill_again_and_again(group, clients):
+    """Kills node 3 and starts it again until the time is over; then waits until all clients have their answers."""
+    chance = random.Random(1)
+    kills = 0
+    end = time.monotonic() + KILLING
+    while time.monotonic() < end:
+        group.kill(group[3])
+        group.one_view(1, 2, within=10)
+        group[3].start()
+        group.one_view(within=10)
+        group.wait(chance.uniform(0.05, 0.3))
+        kills += 1
+    clients.over.set()
+    group.notes.append(f"{kills} kills")
+
+
+def expect_no_ticket_lost(group, clients, odd):
+    """Expects that each request at nodes 1 and 2 gets its answer soon after the last kill, and that no write waits any more."""
+    end = time.monotonic() + 8
+    while clients.running() and time.monotonic() < end:
+        group.wait(0.1)
+    left = clients.running()
+    waiting = [answer.json()["waiting_writes"] for answer in group.answers((1, "GET", "/status"), (2, "GET", "/status"))]
+    group.expect(not left and not any(waiting) and not odd, f"{left} clients wait for an answer 8 s after the last kill; waiting_writes {waiting}; answers other than 200: {odd[:5]}")
+
+
+@accident(3, limit=75, http=True, **FAST)
+def no_write_is_lost_as_a_node_is_killed(group):
+    """Node 3 is killed and started again and again while 20 clients each put at nodes 1 and 2. Each put is answered 200; then no write waits, and each client's last value is there."""
+    group.come_together()
+    clients, last, odd = http_clients.Clients(), {}, []
+
+    def write(node, place):
+        count = 0
+        while not clients.over.is_set():
+            count += 1
+            answer = node.ask("PUT", f"/map/{node.number}.{place}", str(count), timeout=45)
+            if answer.status == 200:
+                last[f"{node.number}.{place}"] = str(count)
+            else:
+                odd.append(answer)
+            time.sleep(0.002)
+
+    for place in range(WRITERS):
+        for node in group.all((1, 2)):
+            clients.start(write, node, place)
+    kill_again_and_again(group, clients)
+    group.notes.append(f"{sum(int(count) for count in last.values())} writes")
+    expect_no_ticket_lost(group, clients, odd)
+    for answer in group.answers((1, "GET", "/map"), (2, "GET", "/map"), (3, "GET", "/map")):
+        group.expect(answer.json() == last, "a map lacks what a client put last")
+
+
+@accident(3, limit=75, http=True, **FAST_LOCKS)
+def no_lock_is_lost_as_a_node_is_killed(group):
+    """The same of locks: each client takes a lock of its own and releases it. Each request is answered 200; then no request waits, and no lock is held."""
+    group.come_together()
+    clients, odd, taken = http_clients.Clients(), [], [0]
+
+    def work(node, place):
+        while not clients.over.is_set():
+            for method in ("POST", "DELETE"):
+                answer = node.ask(method, f"/locks/{node.number}.{place}", timeout=45)
+                if answer.status != 200:
+                    odd.append((method, answer))
+            taken[0] += 1
+            time.sleep(0.002)
+
+    for place in range(WRITERS):
+        for node in group.all((1, 2)):
+            clients.start(work, node, place)
+    kill_again_and_again(group, clients)
+    group.notes.append(f"{taken[0]} locks taken")
+    expect_no_ticket_lost(group, clients, odd)
+    for answer in group.answers((1, "GET", "/locks"), (2, "GET", "/locks"), (3, "GET", "/locks")):
+        group.expect(answer.json() == {}, f"a lock is held: {answer}")
+
+
+def coordinator(group):
+    return next(node for node in group.all() if node.address == group[1].members[0])
+
+
+@accident(3, http=True, options=MAP)
+def stable_writes_at_a_coordinator_that_is_cut_off(group):
+    """The coordinator is cut off, and at once eight clients put with `?stable` there. What is answered 200 is there when all are one view again; else the answer is that it is unknown."""
+    group.come_together()
+    first = coordinator(group)
+    others = [node.number for node in group.all() if node is not first]
+    group.net.part([first.number], others)
+    answers = group.answers(*((first.number, "PUT", f"/map/key{place}?stable", "x") for place in range(8)), within=20)
+    group.net.heal()
+    group.one_view(within=20)
+    group.wait(1)
+    maps = [answer.json() for answer in group.answers(*((number, "GET", "/map") for number in group.nodes))]
+    group.notes.append(f"answered {sorted({str(answer.status) for answer in answers})} within {max(answer.took for answer in answers):.1f} s")
+    group.expect(all(entries == maps[0] for entries in maps), f"the maps differ: {maps}")
+    gone = [place for place, answer in enumerate(answers) if answer.status == 200 and f"key{place}" not in maps[0]]
+    group.expect(not gone, f"{len(gone)} of 8 are answered 200 and gone: {gone}")
+    there = [place for place, answer in enumerate(answers) if answer.status == 504 and f"key{place}" in maps[0]]
+    group.expect(not there, f"{len(there)} of 8 are answered that they are not done, and are there")
+    for answer in answers:
+        group.expect(answer.status == 200 or (answer.status, answer.json()) in ((503, UNKNOWN), (504, NOT_DONE)), f"an answer is {answer}")
+
+
+def put_before(group):
+    answer, = group.answers((1, "PUT", "/map/before?stable", "kept"))
+    group.expect(answer.status == 200, f"the first put: {answer}")
+
+
+def expect_before(group, what):
+    answers = group.answers(*((number, "GET", "/map/before") for number in group.nodes))
+    group.expect(all((answer.status, answer.body) == (200, b"kept") for answer in answers), f"{what}: the key of before is {[(answer.status, answer.body) for answer in answers]}")
+
+
+def two_start_again(group, away, back, seconds):
+    """Nodes 1 and 2 are killed and started again at once while node 3 is away for so long. What was put before is there at all nodes."""
+    group.come_together()
+    put_before(group)
+    away()
+    group.kill(group[1], group[2])
+    group.start(1, 2)
+    group.wait(seconds)
+    back()
+    group.note("one view", group.one_view(within=20))
+    group.wait(0.5)
+    expect_before(group, f"away for {seconds} s")
+
+
+@accident(3, http=True, options=MAP)
+def two_start_again_as_the_third_is_parted_briefly(group):
+    """Nodes 1 and 2 are killed and started again while node 3 is parted from them for two seconds. The two have no history: what was put before is there at all nodes."""
+    two_start_again(group, lambda: group.net.part([3], [1, 2]), group.net.heal, 2)
+
+
+@accident(3, http=True, options=MAP)
+def two_start_again_as_the_third_is_parted(group):
+    """The same, for five seconds."""
+    two_start_again(group, lambda: group.net.part([3], [1, 2]), group.net.heal, 5)
+
+
+@accident(3, http=True, options=MAP)
+def two_start_again_as_the_third_sleeps_briefly(group):
+    """Nodes 1 and 2 are killed and started again while node 3 sleeps for two seconds. The two have no history: what was put before is there at all nodes."""
+    two_start_again(group, group[3].stop, group[3].go_on, 2)
+
+
+@accident(3, http=True, options=MAP)
+def two_start_again_as_the_third_sleeps(group):
+    """The same, for five seconds."""
+    two_start_again(group, group[3].stop, group[3].go_on, 5)
+
+
+def part_first(group):
+    """Parts node 1 from the two others: it is alone, and sends no write."""
+    group.net.part([1], [2, 3])
+    group.one_view(1, within=10)
+    group.one_view(2, 3, within=10)
+
+
+def come_back(group):
+    group.net.heal()
+    group.note("one view", group.one_view(within=20))
+    group.wait(1.5)
+
+
+@accident(3, limit=75, http=True, options=MAP)
+def old_writes_are_withdrawn(group):
+    """Node 1 is parted and has no quorum. A put and a removal there are answered 504 after `?timeout`, a put without it after 30 s; another client's newer values stay, also later."""
+    group.come_together()
+    for answer in group.answers(*((2, "PUT", f"/map/{key}", "first") for key in ("put", "removed", "late"))):
+        group.expect(answer.status == 200, f"the first put: {answer}")
+    part_first(group)
+    late = group[1].begin("PUT", "/map/late", b"old")
+    begun = time.monotonic()
+    for answer in group.answers((1, "PUT", "/map/put?timeout=2", "old"), (1, "DELETE", "/map/removed?timeout=2"), within=8):
+        group.expect((answer.status, answer.json()) == (504, NOT_DONE), f"what was never sent is answered {answer}")
+        group.expect_in_time(1.5 <= answer.took < 4, f"the answer took {answer.took:.1f} s")
+    for answer in group.answers(*((2, "PUT", f"/map/{key}", "newer") for key in ("put", "removed", "late"))):
+        group.expect(answer.status == 200, f"the newer put: {answer}")
+    clients, came = http_clients.Clients(), []
+    late.settimeout(40)
+    clients.start(lambda: came.append(http_clients.answer_on(late)))
+    group.until(lambda: not clients.running(), 42, "an answer without a timeout")
+    took = time.monotonic() - begun
+    group.expect((came[0].status, came[0].json()) == (504, NOT_DONE), f"without a timeout it is answered {came[0]}")
+    group.expect_in_time(28 <= took < 34, f"the answer without a timeout took {took:.1f} s")
+    come_back(group)
+    for answer in group.answers(*((number, "GET", "/map") for number in group.nodes)):
+        group.expect(answer.json() == {"put": "newer", "removed": "newer", "late": "newer"}, f"an old write is carried out: {answer}")
+
+
+@accident(3, http=True, options=LOCKS)
+def old_lock_requests_are_withdrawn(group):
+    """Node 1 holds a lock, is parted and has no quorum. To release it, and to take another, is answered 504 after `?timeout`. Neither is carried out: it holds the one alone."""
+    group.come_together()
+    answer, = group.answers((1, "POST", "/locks/held"))
+    group.expect(answer.status == 200, f"the lock: {answer}")
+    group.net.part([1], [2, 3])
+    group.one_view(2, 3, within=10)
+    group.one_view(1, within=10)
+    for answer in group.answers((1, "DELETE", "/locks/held?timeout=2"), (1, "POST", "/locks/other?timeout=2"), within=8):
+        group.expect((answer.status, answer.json()) == (504, NOT_DONE), f"what was never sent is answered {answer}")
+    come_back(group)
+    for answer in group.answers(*((number, "GET", "/locks/other") for number in group.nodes)):
+        group.expect(answer.status == 404, f"a lock that was not taken is held: {answer}")
+
+
+@accident(3, http=True, options=MAP)
+def writes_of_clients_that_have_gone(group):
+    """Node 1 is parted and has no quorum. Eight clients put there and go away before the writes are sent. None is carried out when all are one view: another's newer value stays."""
+    group.come_together()
+    part_first(group)
+    gone = [group[1].begin("PUT", f"/map/gone{place % 2}", f"old {place}".encode()) for place in range(8)]
+    group.wait(0.5)
+    for connection in gone:
+        connection.close()
+    group.wait(1)
+    answers = group.answers((1, "GET", "/status"), (2, "PUT", "/map/gone0", "newer"))
+    group.expect(answers[1].status == 200, f"the newer put: {answers[1]}")
+    waiting, connections = (answers[0].json()[field] for field in ("waiting_writes", "connections"))
+    come_back(group)
+    for answer in group.answers(*((number, "GET", "/map") for number in group.nodes)):
+        group.expect(answer.json() == {"gone0": "newer"}, f"a write of a client that has gone is carried out: {answer}; before: waiting_writes {waiting}, connections {connections}")
+    group.expect(waiting == 0 and connections <= 2, f"a second after they went: waiting_writes {waiting}, connections {connections}")
+
+
+@accident(3, http=True, options=MAP, limit=60)
+def half_closed_write_is_answered(group):
+    """A client puts at node 2 and closes its own half of the connection. The write was sent; the coordinator sleeps meanwhile, so the answer comes later. It is 200."""
+    group.come_together()
+    first = coordinator(group)
+    node = next(node for node in group.all() if node is not first)
+    first.stop()
+    connection = node.begin("PUT", "/map/half", b"closed")
+    group.wait(0.3)
+    connection.shutdown(http_clients.socket.SHUT_WR)
+    group.wait(0.2)
+    first.go_on()
+    clients, came = http_clients.Clients(), []
+    clients.start(lambda: came.append(http_clients.answer_on(connection)))
+    group.until(lambda: not clients.running(), 12, "the answer to a half-closed connection")
+    group.expect(came[0].status == 200, f"the half-closed connection is answered {came[0]}")
+    group.one_view(within=10)
+    answer, = group.answers((first.number, "GET", "/map/half"))
+    group.expect((answer.status, answer.body) == (200, b"closed"), f"the write is {answer}")
