@@ -2,12 +2,11 @@
 
 The nodes keep a map or locks with `--quorum 2`: a node that is alone sends no write."""
 import random
-import signal
+import socket
 import time
 
 import http_clients
 from accidents_cases import accident
-from accidents_group import Wrong
 
 MAP = ("--find", "--map", "--quorum", "2")
 LOCKS = ("--find", "--locks", "--quorum", "2")
@@ -212,18 +211,36 @@ def old_writes_are_withdrawn(group):
 
 @accident(3, http=True, options=LOCKS)
 def old_lock_requests_are_withdrawn(group):
-    """Node 1 holds a lock, is parted and has no quorum. To release it, and to take another, is answered 504 after `?timeout`. Neither is carried out: it holds the one alone."""
+    """Node 1 holds a lock, is parted and has no quorum. To release it, and to take another, is answered 504 after `?timeout`; a client that asks for a third goes away. Neither is taken."""
     group.come_together()
     answer, = group.answers((1, "POST", "/locks/held"))
     group.expect(answer.status == 200, f"the lock: {answer}")
-    group.net.part([1], [2, 3])
-    group.one_view(2, 3, within=10)
-    group.one_view(1, within=10)
+    part_first(group)
+    gone = group[1].begin("POST", "/locks/third")
+    group.wait(0.5)
+    gone.close()
     for answer in group.answers((1, "DELETE", "/locks/held?timeout=2"), (1, "POST", "/locks/other?timeout=2"), within=8):
         group.expect((answer.status, answer.json()) == (504, NOT_DONE), f"what was never sent is answered {answer}")
     come_back(group)
-    for answer in group.answers(*((number, "GET", "/locks/other") for number in group.nodes)):
+    for answer in group.answers(*((number, "GET", f"/locks/{name}") for name in ("other", "third") for number in group.nodes)):
         group.expect(answer.status == 404, f"a lock that was not taken is held: {answer}")
+
+
+@accident(3, http=True, options=MAP, silent=200)
+def sent_write_is_not_told_not_done(group):
+    """The coordinator sleeps, less long than the silence. A put at node 2 was sent, and is not delivered within `?timeout`: nobody knows, and the answer is not that it is not done."""
+    group.come_together()
+    first = coordinator(group)
+    node = next(node for node in group.all() if node is not first)
+    first.stop()
+    answer, = group.answers((node.number, "PUT", "/map/sent?timeout=1", "x"), within=4)
+    first.go_on()
+    group.expect((answer.status, answer.json()) == (503, UNKNOWN), f"a put that was sent is answered {answer}")
+    group.expect_in_time(answer.took < 3, f"the answer took {answer.took:.1f} s")
+    group.one_view(within=10)
+    group.wait(1)
+    for answer in group.answers(*((number, "GET", "/map/sent") for number in group.nodes)):
+        group.expect((answer.status, answer.body) == (200, b"x"), f"the put that was sent is {answer}")
 
 
 @accident(3, http=True, options=MAP)
@@ -245,7 +262,7 @@ def writes_of_clients_that_have_gone(group):
     group.expect(waiting == 0 and connections <= 2, f"a second after they went: waiting_writes {waiting}, connections {connections}")
 
 
-@accident(3, http=True, options=MAP, limit=60)
+@accident(3, http=True, options=MAP)
 def half_closed_write_is_answered(group):
     """A client puts at node 2 and closes its own half of the connection. The write was sent; the coordinator sleeps meanwhile, so the answer comes later. It is 200."""
     group.come_together()
@@ -254,7 +271,7 @@ def half_closed_write_is_answered(group):
     first.stop()
     connection = node.begin("PUT", "/map/half", b"closed")
     group.wait(0.3)
-    connection.shutdown(http_clients.socket.SHUT_WR)
+    connection.shutdown(socket.SHUT_WR)
     group.wait(0.2)
     first.go_on()
     clients, came = http_clients.Clients(), []

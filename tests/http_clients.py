@@ -22,19 +22,33 @@ class Answer:
         except ValueError:
             return None
 
+    def getheader(self, name):
+        return self.headers.get(name)
 
-def ask(host, port, method, path, body=None, headers=None, timeout=10):
-    """Sends one request on a connection of its own, and waits for its answer."""
+
+def exchange(host, port, method, path, body=None, headers=None, timeout=10):
+    """Sends one request on a connection of its own, and waits for its answer.
+
+    # Errors
+
+    Raises OSError or HTTPException if there is no connection, or no answer in time."""
     begun = time.monotonic()
     connection = http.client.HTTPConnection(host, port, timeout=timeout)
     try:
         connection.request(method, path, body, headers or {})
         answer = connection.getresponse()
         return Answer(answer.status, answer.read(), answer.headers, time.monotonic() - begun)
-    except (OSError, http.client.HTTPException) as fault:
-        return Answer(None, repr(fault).encode(), {}, time.monotonic() - begun)
     finally:
         connection.close()
+
+
+def ask(host, port, method, path, body=None, headers=None, timeout=10):
+    """Does the same, and returns an answer whose status is None in place of an error."""
+    begun = time.monotonic()
+    try:
+        return exchange(host, port, method, path, body, headers, timeout)
+    except (OSError, http.client.HTTPException) as fault:
+        return Answer(None, repr(fault).encode(), {}, time.monotonic() - begun)
 
 
 def begin(host, port, method, path, body=b"", timeout=10):
