@@ -15,6 +15,8 @@ FAST = {"options": (*MAP, "--tick", "5"), "silent": 200}
 FAST_LOCKS = {"options": (*LOCKS, "--tick", "5"), "silent": 200}
 # For how many seconds node 3 is killed and started again and again, and how many clients each other node has meanwhile.
 KILLING, WRITERS = 12, 20
+# How long after the last kill all clients have their answers, in seconds.
+ANSWERED = 12
 UNKNOWN, NOT_DONE = {"error": "unknown"}, {"error": "not done"}
 
 
@@ -35,13 +37,15 @@ def kill_again_and_again(group, clients):
 
 
 def expect_no_ticket_lost(group, clients, odd):
-    """Expects that each request at nodes 1 and 2 gets its answer soon after the last kill, and that no write waits any more."""
-    end = time.monotonic() + 8
+    """Expects that each request at nodes 1 and 2 gets its answer soon after the last kill, 200, and that no write waits any more."""
+    end = time.monotonic() + ANSWERED
     while clients.running() and time.monotonic() < end:
         group.wait(0.1)
     left = clients.running()
     waiting = [answer.json()["waiting_writes"] for answer in group.answers((1, "GET", "/status"), (2, "GET", "/status"))]
-    group.expect(not left and not any(waiting) and not odd, f"{left} clients wait for an answer 8 s after the last kill; waiting_writes {waiting}; answers other than 200: {odd[:5]}")
+    what = f"{left} clients wait for an answer {ANSWERED} s after the last kill; waiting_writes {waiting}; answers other than 200: {odd[:5]}"
+    group.expect(not any(waiting), what)
+    group.expect_in_time(not left and not odd, what)
 
 
 @accident(3, limit=75, http=True, **FAST)

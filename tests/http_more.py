@@ -4,9 +4,8 @@ import contextlib
 import hashlib
 import http.client
 import json
-import os
+import selectors
 import socket
-import threading
 import time
 import urllib.parse
 
@@ -227,6 +226,18 @@ def is_free(group, name, node=3):
     return group.ask(node, "GET", f"/locks/{name}")[0] == 404
 
 
+def lock_waits(group):
+    """A request that was answered 409 after `?wait` keeps its place, though its client has gone then, and whatever `?timeout` says."""
+    expect(group.ask(1, "POST", "/locks/waits")[0] == 200, "lock waits: the first has it")
+    answer = group.ask(2, "POST", "/locks/waits?wait=1&timeout=30")[2]
+    expect(answer.status == 409 and 0.9 <= answer.took < 4, f"lock waits: the second is answered {answer}")
+    time.sleep(0.5)
+    expect(json.loads(group.ask(1, "GET", "/locks/waits")[1])["waiting"] == [group.status(2)["address"]], "lock waits: it waits on")
+    expect(group.ask(1, "DELETE", "/locks/waits")[0] == 200, "lock waits: the first releases it")
+    expect(until(lambda: json.loads(group.ask(2, "GET", "/locks/waits")[1] or b"{}").get("holder") == group.status(2)["address"], 3), "lock waits: the second holds it")
+    expect(group.ask(2, "DELETE", "/locks/waits")[0] == 200, "lock waits: released")
+
+
 def gone_waiters(group):
     """A client that goes away while it waits for a lock is not granted it: it is free once the holder releases it, or goes to the next; another client of the node is granted it."""
     for name, pause in (("gone.early", 1), ("gone.at.once", 0)):
@@ -258,22 +269,38 @@ def gone_waiters(group):
 
 # Large maps.
 
-def read_whole(group, node, path):
-    """Reads an answer in pieces; returns its status, length and hash. The thread is nice: what is slow must not be the reader's machine."""
-    os.setpriority(os.PRIO_PROCESS, threading.get_native_id(), 10)
-    connection = http.client.HTTPConnection(HOST, group.http[node - 1], timeout=60)
-    try:
-        connection.request("GET", path)
-        answer = connection.getresponse()
-        hashed, length = hashlib.sha256(), 0
-        while piece := answer.read(1 << 20):
-            hashed.update(piece)
-            length += len(piece)
-        return answer.status, length, hashed.hexdigest()
-    except (OSError, http.client.HTTPException) as fault:
-        return repr(fault), 0, ""
-    finally:
-        connection.close()
+def read_all(group, node, count, path, seconds=60):
+    """Sends a request on so many connections at once and reads all answers as they come; returns for each the status, the length of its body and that one's hash."""
+    chosen = selectors.DefaultSelector()
+    heads, hashes, lengths = {}, {}, {}
+    for _ in range(count):
+        one = socket.create_connection((HOST, group.http[node - 1]))
+        # So the node never waits for a reader.
+        one.setsockopt(socket.SOL_SOCKET, socket.SO_RCVBUF, 1 << 23)
+        chosen.register(one, selectors.EVENT_READ)
+        heads[one], hashes[one], lengths[one] = b"", hashlib.sha256(), 0
+    for one in heads:
+        one.sendall(f"GET {path} HTTP/1.1\r\nHost: a\r\nConnection: close\r\n\r\n".encode())
+    left, end = count, time.monotonic() + seconds
+    while left and time.monotonic() < end:
+        for key, _ in chosen.select(1):
+            one = key.fileobj
+            try:
+                piece = one.recv(1 << 20)
+            except OSError:
+                piece = b""
+            if not piece:
+                chosen.unregister(one)
+                one.close()
+                left -= 1
+                continue
+            if not heads[one].endswith(b"\r\n\r\n"):
+                head, found, piece = (heads[one] + piece).partition(b"\r\n\r\n")
+                heads[one] = head + found
+            hashes[one].update(piece)
+            lengths[one] += len(piece)
+    chosen.close()
+    return [(heads[one][9:12], lengths[one], hashes[one].hexdigest()) for one in heads]
 
 
 def large_map(folder, finds):
@@ -287,7 +314,7 @@ def large_map(folder, finds):
         def fill(node):
             connection = group.connect(node)
             for number in range(KEYS):
-                connection.request("PUT", f"/map/big{node}.{number}", (b"\xff" if number % 2 else b"x") * VALUE)
+                connection.request("PUT", f"/map/big{node}.{number}", b"\xff" * VALUE)
                 answer = connection.getresponse()
                 answer.read()
                 if answer.status != 200:
@@ -304,10 +331,8 @@ def large_map(folder, finds):
         expect(len(json.loads(one)) == 3 * KEYS, "large map: one client gets all")
         for _ in range(TRIES):
             before = [group.status(each)["view"] for each in (1, 2, 3)]
-            came, readers, begun = [], http_clients.Clients(), time.monotonic()
-            for _ in range(READERS):
-                readers.start(lambda: came.append(read_whole(group, node, "/map")))
-            readers.join()
+            begun = time.monotonic()
+            came = read_all(group, node, READERS, "/map")
             took = time.monotonic() - begun
             # A node that was suspected is expelled when its silence is over.
             time.sleep(1.5)
@@ -316,7 +341,7 @@ def large_map(folder, finds):
                 break
             group.await_view([1, 2, 3])
         expect(after == before, f"large map: the views were {before}, and are {after} after {READERS} clients in {took:.1f} s")
-        wanted = (200, len(one), hashlib.sha256(one).hexdigest())
+        wanted = (b"200", len(one), hashlib.sha256(one).hexdigest())
         expect(len(came) == READERS and all(got == wanted for got in came), f"large map: {sum(got == wanted for got in came)} of {READERS} clients get all of it; others {[got[:2] for got in came if got != wanted][:3]}")
     finally:
         group.stop()
