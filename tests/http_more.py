@@ -6,6 +6,7 @@ import http.client
 import json
 import selectors
 import socket
+import subprocess
 import time
 import urllib.parse
 
@@ -122,7 +123,7 @@ def json_values(group):
             continue
         for key, value in wanted.items():
             expect(entries.get(key) == value, f"json: {name}: {key} is {entries.get(key)!r}, not {value!r}")
-    expect(VALUES["text"] in body and "json.grün".encode() in body, f"json: text that is not ASCII is not shown as it is")
+    expect(VALUES["text"] in body and "json.grün".encode() in body, "json: text that is not ASCII is not shown as it is")
     expect(not any(byte < 0x20 for byte in body.rstrip(b"\n")), "json: a control character is shown as it is")
     for key, (value, etag) in given.items():
         status, text, answer = group.ask(1, "GET", f"/map/{key}")
@@ -159,8 +160,9 @@ def stable_in_a_row(group):
 def half_closed(group):
     """A client that closes its own half of the connection once its write was sent gets its answer."""
     for path in ("/map/half", "/map/half?stable"):
+        before = group.status(2)["delivered_in_view"]
         connection = group.begin(2, "PUT", path, b"closed")
-        time.sleep(0.1)
+        expect(until(lambda: group.status(2)["delivered_in_view"] > before, 5), f"half closed: PUT {path} is delivered")
         with contextlib.suppress(OSError):
             connection.shutdown(socket.SHUT_WR)
         answer = http_clients.answer_on(connection)
@@ -203,15 +205,17 @@ def places(group):
         for wanted, method, asked in ((200, "GET", "/status"), (200, "GET", "/metrics"), (200, "GET", "/"), (503, "GET", "/map"), (503, "GET", "/map/a"), (503, "PUT", "/map/places"), (200, "GET", "/status")):
             answer = http_clients.ask(HOST, group.http[2], method, asked, b"x" if method == "PUT" else None)
             expect(answer.status == wanted, f"places: with {PLACES} polls {method} {asked} is answered {answer}")
-        for _ in range(KEPT_PLACES):
+        time.sleep(0.3)
+        for number in range(KEPT_PLACES):
             one = group.connect(3)
             kept.append(one)
+            status = None
             with contextlib.suppress(OSError, http.client.HTTPException):
                 one.request("GET", "/status")
                 answer = one.getresponse()
-                taken = json.loads(answer.read())["connections"] if answer.status == 200 else None
-                expect(answer.status == 200, f"places: one of {KEPT_PLACES} more is answered {answer.status}")
-        expect(taken == PLACES + KEPT_PLACES, f"places: {taken} connections")
+                status = answer.status
+                answer.read()
+            expect(status == 200, f"places: number {number + 1} of {KEPT_PLACES} more is answered {status}")
         answer = http_clients.ask(HOST, group.http[2], "GET", "/status")
         expect(answer.status in (503, None), f"places: one more than all places is answered {answer}")
     finally:
@@ -387,6 +391,8 @@ def leaving(folder, finds):
         for node in (other, first):
             others = [each for each in (1, 2, 3) if each != node]
             address = group.status(node)["address"]
+            status, body, _ = group.ask(node, "POST", "/leave?now")
+            expect(status == 400 and b"now" in body, f"leaving: POST /leave?now at node {node}: {status} {body!r}")
             begun = time.monotonic()
             status, body, _ = group.ask(node, "POST", "/leave")
             expect((status, body) == (200, b"leaving\n"), f"leaving: POST /leave at node {node}: {status} {body!r}")
@@ -394,8 +400,8 @@ def leaving(folder, finds):
             expect(left, f"leaving: the others' view has node {node} after {time.monotonic() - begun:.1f} s")
             try:
                 expect(group.processes[node].wait(5) == 0, f"leaving: node {node} ends with {group.processes[node].returncode}")
-            except Exception as fault:
-                expect(False, f"leaving: node {node} does not end: {fault!r}")
+            except subprocess.TimeoutExpired:
+                expect(False, f"leaving: node {node} does not end")
                 group.processes[node].kill()
                 group.processes[node].wait()
             group.start(node, group.status(others[0])["address"])
@@ -438,5 +444,11 @@ def lines_beside_http(folder, finds):
         wanted = {f"line{number}": str(number) for number in range(50)} | {key: key.split(".")[1] for key in came} | {"last": "49"}
         for node in (1, 2, 3):
             expect(until(lambda: json.loads(group.ask(node, "GET", "/map")[1]) == wanted, 10, 0.1), f"lines: node {node} has another map than what was written")
+        with open(lines, "a") as file:
+            file.write("\x04\n")
+        try:
+            expect(group.processes[1].wait(5) == 0, f"lines: the line that ends a node ends it with {group.processes[1].returncode}")
+        except subprocess.TimeoutExpired:
+            expect(False, "lines: the line that ends a node does not end it")
     finally:
         group.stop()
