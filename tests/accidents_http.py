@@ -128,39 +128,69 @@ def stable_writes_at_a_coordinator_that_is_cut_off(group):
         group.expect(answer.status == 200 or (answer.status, answer.json()) in ((503, UNKNOWN), (504, NOT_DONE)), f"an answer is {answer}")
 
 
+def put_stable(group, clients, answers, nodes, each):
+    """Starts so many clients at each of these nodes, which put with `?stable` without end, each time another key; notes their answers by key."""
+    def write(node, place):
+        count = 0
+        while not clients.over.is_set():
+            count += 1
+            key = f"{node.number}.{place}.{count}"
+            answers[key] = node.ask("PUT", f"/map/{key}?stable&timeout=5", "x", timeout=40)
+            time.sleep(0.01)
+
+    for place in range(each):
+        for node in nodes:
+            clients.start(write, node, place)
+
+
+def expect_answers_true(group, clients, answers):
+    """Ends the clients, and expects of all nodes' maps that they have what was answered 200, and lack what was answered as not done."""
+    clients.over.set()
+    group.until(lambda: not clients.running(), 15, "all answers")
+    group.wait(1)
+    statuses = [answer.status for answer in answers.values()]
+    group.notes.append("answered " + ", ".join(f"{statuses.count(status)} times {status}" for status in sorted(set(statuses), key=str)))
+    group.expect(statuses.count(200) > 0, "nothing is answered 200")
+    for answer in group.answers(*((number, "GET", "/map") for number in group.nodes)):
+        entries = answer.json()
+        gone = [key for key, of in answers.items() if of.status == 200 and key not in entries]
+        group.expect(not gone, f"{len(gone)} are answered 200 and gone: {gone[:8]}")
+        there = [key for key, of in answers.items() if of.status == 504 and key in entries]
+        group.expect(not there, f"{len(there)} are answered that they are not done, and are there: {there[:8]}")
+
+
+@accident(3, limit=75, http=True, options=MAP)
+def stable_writes_as_the_coordinator_is_cut_off(group):
+    """Four clients each put with `?stable` at all nodes without end. The coordinator is cut off for three seconds, twice. All that is answered 200 is there in the end, at all nodes."""
+    group.come_together()
+    clients, answers = http_clients.Clients(), {}
+    put_stable(group, clients, answers, group.all(), 4)
+    for pause in (1.13, 1.5):
+        group.wait(pause)
+        first = coordinator(group)
+        others = [node.number for node in group.all() if node is not first]
+        group.net.part([first.number], others)
+        group.one_view(*others, within=10)
+        group.wait(2)
+        group.net.heal()
+        group.note("one view", group.one_view(within=15))
+    expect_answers_true(group, clients, answers)
+
+
 @accident(3, limit=75, http=True, options=MAP)
 def stable_writes_at_a_coordinator_that_sleeps(group):
     """Eight clients put with `?stable` at the coordinator without end; it sleeps three seconds, and the others go on. All that is answered 200 is there in the end, at all nodes."""
     group.come_together()
     clients, answers = http_clients.Clients(), {}
-
-    def write(node, place):
-        count = 0
-        while not clients.over.is_set():
-            count += 1
-            key = f"{place}.{count}"
-            answers[key] = node.ask("PUT", f"/map/{key}?stable", "x", timeout=40)
-            time.sleep(0.01)
-
     first = coordinator(group)
-    for place in range(8):
-        clients.start(write, first, place)
+    put_stable(group, clients, answers, [first], 8)
     group.wait(1.13)
     first.stop()
     group.one_view(*(node.number for node in group.all() if node is not first), within=10)
     group.wait(1.5)
     first.go_on()
     group.note("one view", group.one_view(within=15))
-    clients.over.set()
-    group.until(lambda: not clients.running(), 15, "all answers")
-    group.wait(1)
-    statuses = [answer.status for answer in answers.values()]
-    group.notes.append(f"{statuses.count(200)} of {len(statuses)} answered 200")
-    for answer in group.answers(*((number, "GET", "/map") for number in group.nodes)):
-        gone = [key for key, of in answers.items() if of.status == 200 and key not in answer.json()]
-        group.expect(not gone, f"{len(gone)} are answered 200 and gone: {gone[:8]}")
-        there = [key for key, of in answers.items() if of.status == 504 and key in answer.json()]
-        group.expect(not there, f"{len(there)} are answered that they are not done, and are there: {there[:8]}")
+    expect_answers_true(group, clients, answers)
 
 
 def put_before(group):
