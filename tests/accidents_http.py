@@ -110,10 +110,12 @@ def coordinator(group):
 def stable_writes_at_a_coordinator_that_is_cut_off(group):
     """The coordinator is cut off, and at once eight clients put with `?stable` there. What is answered 200 is there when all are one view again; else the answer is that it is unknown."""
     group.come_together()
+    # A view that was just installed may hold writes back.
+    group.wait(1)
     first = coordinator(group)
     others = [node.number for node in group.all() if node is not first]
     group.net.part([first.number], others)
-    answers = group.answers(*((first.number, "PUT", f"/map/key{place}?stable", "x") for place in range(8)), within=20)
+    answers = group.answers(*((first.number, "PUT", f"/map/key{place}?stable&timeout=8", "x") for place in range(8)), within=20)
     group.net.heal()
     group.one_view(within=20)
     group.wait(1)
