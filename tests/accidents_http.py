@@ -130,14 +130,14 @@ def stable_writes_at_a_coordinator_that_is_cut_off(group):
         group.expect(answer.status == 200 or (answer.status, answer.json()) in ((503, UNKNOWN), (504, NOT_DONE)), f"an answer is {answer}")
 
 
-def put_stable(group, clients, answers, nodes, each):
-    """Starts so many clients at each of these nodes, which put with `?stable` without end, each time another key; notes their answers by key."""
+def put_stable(clients, answers, nodes, each, timeout=5):
+    """Starts so many clients at each of these nodes, which put with `?stable` and this `?timeout` without end, each time another key; notes their answers by key."""
     def write(node, place):
         count = 0
         while not clients.over.is_set():
             count += 1
             key = f"{node.number}.{place}.{count}"
-            answers[key] = node.ask("PUT", f"/map/{key}?stable&timeout=5", "x", timeout=40)
+            answers[key] = node.ask("PUT", f"/map/{key}?stable&timeout={timeout}", "x", timeout=40)
             time.sleep(0.01)
 
     for place in range(each):
@@ -151,6 +151,7 @@ def expect_answers_true(group, clients, answers):
     group.until(lambda: not clients.running(), 15, "all answers")
     group.wait(1)
     statuses = [answer.status for answer in answers.values()]
+    unlike = [answer for answer in answers.values() if answer.status != 200 and (answer.status, answer.json()) not in ((503, UNKNOWN), (504, NOT_DONE))]
     group.notes.append("answered " + ", ".join(f"{statuses.count(status)} times {status}" for status in sorted(set(statuses), key=str)))
     group.expect(statuses.count(200) > 0, "nothing is answered 200")
     for answer in group.answers(*((number, "GET", "/map") for number in group.nodes)):
@@ -159,6 +160,8 @@ def expect_answers_true(group, clients, answers):
         group.expect(not gone, f"{len(gone)} are answered 200 and gone: {gone[:8]}")
         there = [key for key, of in answers.items() if of.status == 504 and key in entries]
         group.expect(not there, f"{len(there)} are answered that they are not done, and are there: {there[:8]}")
+    group.expect(not unlike, f"{len(unlike)} other answers: {unlike[:3]}")
+    return statuses
 
 
 @accident(3, limit=75, http=True, options=MAP)
@@ -166,7 +169,7 @@ def stable_writes_as_the_coordinator_is_cut_off(group):
     """Four clients each put with `?stable` at all nodes without end. The coordinator is cut off for three seconds, twice. All that is answered 200 is there in the end, at all nodes."""
     group.come_together()
     clients, answers = http_clients.Clients(), {}
-    put_stable(group, clients, answers, group.all(), 4)
+    put_stable(clients, answers, group.all(), 4)
     for pause in (1.13, 1.5):
         group.wait(pause)
         first = coordinator(group)
@@ -185,7 +188,7 @@ def stable_writes_at_a_coordinator_that_sleeps(group):
     group.come_together()
     clients, answers = http_clients.Clients(), {}
     first = coordinator(group)
-    put_stable(group, clients, answers, [first], 8)
+    put_stable(clients, answers, [first], 8)
     group.wait(1.13)
     first.stop()
     group.one_view(*(node.number for node in group.all() if node is not first), within=10)
@@ -282,6 +285,19 @@ def old_writes_are_withdrawn(group):
         group.expect(answer.json() == {"put": "newer", "removed": "newer", "late": "newer"}, f"an old write is carried out: {answer}")
 
 
+@accident(3, http=True, options=MAP)
+def writes_time_out_as_the_network_heals(group):
+    """Node 1 is parted and has no quorum, and twelve clients put there, each with a limit of a second, until all are one view again. What is answered 504 is nowhere, also in the end."""
+    group.come_together()
+    part_first(group)
+    clients, answers = http_clients.Clients(), {}
+    put_stable(clients, answers, [group[1]], 12, timeout=1)
+    group.wait(2)
+    come_back(group)
+    statuses = expect_answers_true(group, clients, answers)
+    group.expect(504 in statuses, "nothing is answered 504")
+
+
 @accident(3, http=True, options=LOCKS)
 def old_lock_requests_are_withdrawn(group):
     """Node 1 holds a lock, is parted and has no quorum. To release it, and to take another, is answered 504 after `?timeout`; a client that asks for a third goes away. Neither is taken."""
@@ -318,9 +334,25 @@ def sent_write_is_not_told_not_done(group):
 
 @accident(3, http=True, options=MAP)
 def writes_of_clients_that_have_gone(group):
-    """Node 1 is parted and has no quorum. Eight clients put there and go away before the writes are sent. None is carried out when all are one view: another's newer value stays."""
+    """Node 1 is parted and has no quorum. Clients put there and go away before the writes are sent, some of them again and again. They fill no places, and none of the writes is carried out
+    when all are one view: another's newer value stays."""
     group.come_together()
     part_first(group)
+    clients, most = http_clients.Clients(), 0
+
+    def write(place):
+        while not clients.over.is_set():
+            group[1].ask("PUT", f"/map/gone{place % 2}", "again", timeout=0.5)
+
+    for place in range(4):
+        clients.start(write, place)
+    end = time.monotonic() + 4
+    while time.monotonic() < end:
+        group.wait(0.2)
+        answer, = group.answers((1, "GET", "/status"))
+        most = max(most, answer.json()["connections"])
+    clients.over.set()
+    group.until(lambda: not clients.running(), 5, "the clients end")
     gone = [group[1].begin("PUT", f"/map/gone{place % 2}", f"old {place}".encode()) for place in range(8)]
     group.wait(0.5)
     for connection in gone:
@@ -336,6 +368,7 @@ def writes_of_clients_that_have_gone(group):
     come_back(group)
     for answer in group.answers(*((number, "GET", "/map") for number in group.nodes)):
         group.expect(answer.json() == {"gone0": "newer"}, f"a write of a client that has gone is carried out: {answer}; waiting_writes and connections were {left}")
+    group.expect_in_time(most <= 10, f"four clients had up to {most} connections")
     group.expect_in_time(left == (0, 1), f"four seconds after they went waiting_writes and connections were {left}")
 
 

@@ -244,16 +244,24 @@ def lock_waits(group):
 
 def gone_waiters(group):
     """A client that goes away while it waits for a lock is not granted it: it is free once the holder releases it, or goes to the next; another client of the node is granted it."""
-    for name, pause in (("gone.early", 1), ("gone.at.once", 0)):
+    names = [f"gone.{number}" for number in range(20)]
+    waits = []
+    for name in names:
         expect(group.ask(1, "POST", f"/locks/{name}")[0] == 200, "gone waiters: the first has it")
-        waits = group.begin(2, "POST", f"/locks/{name}")
-        time.sleep(0.4)
-        waits.close()
-        time.sleep(pause)
+        waits.append(group.begin(2, "POST", f"/locks/{name}"))
+        expect(until(lambda: json.loads(group.ask(1, "GET", f"/locks/{name}")[1])["waiting"], 3), "gone waiters: it waits")
+    for connection in waits:
+        connection.close()
+    # A grant that meets a client on its way out is as one that the client got: the node is given time to see that they have gone.
+    time.sleep(1)
+    for name in names:
         expect(group.ask(1, "DELETE", f"/locks/{name}")[0] == 200, "gone waiters: the first releases it")
-        expect(until(lambda: is_free(group, name), 3), f"gone waiters: {name} is held for a client that has gone: {group.ask(3, 'GET', f'/locks/{name}')[1]!r}")
-        time.sleep(0.3)
-        expect(is_free(group, name), f"gone waiters: {name} does not stay free")
+    free = until(lambda: group.ask(3, "GET", "/locks")[1] == b"{}\n", 3)
+    time.sleep(0.3)
+    held = json.loads(group.ask(3, "GET", "/locks")[1])
+    expect(free and not held, f"gone waiters: {len(held)} of {len(names)} locks are held for clients that have gone: {list(held.items())[:2]}")
+    for name in held:
+        group.ask(2, "DELETE", f"/locks/{name}")
     for name, node in (("gone.next", 3), ("gone.other", 2)):
         expect(group.ask(1, "POST", f"/locks/{name}")[0] == 200, "gone waiters: the first has it")
         waits = group.begin(2, "POST", f"/locks/{name}")
