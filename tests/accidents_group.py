@@ -358,14 +358,15 @@ class Group:
     # Its end.
 
     def finish(self):
-        """Ends all that runs by the line that does; nodes that answer HTTP, which are given no lines, are killed."""
-        if self.http:
-            self.abandon()
-            return
+        """Ends all that runs by the line that does, or by HTTP."""
         for node in self.nodes.values():
             if node.is_running():
                 node.go_on()
-                node.say("\x04")
+                if self.http:
+                    answer, = self.answers((node.number, "POST", "/leave"))
+                    self.expect((answer.status, answer.body) == (200, b"leaving\n"), f"POST /leave at node {node.number} is answered {answer}")
+                else:
+                    node.say("\x04")
         end = time.monotonic() + ENDING
         while any(node.is_running() for node in self.nodes.values()):
             if time.monotonic() > end:
