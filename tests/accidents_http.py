@@ -1,4 +1,4 @@
-"""Accidents of groups whose nodes answer HTTP, for tests/accidents: what clients were answered must be true afterwards, at all nodes.
+"""Accidents of groups whose nodes answer HTTP, for tests/accidents: each answer that a client got must be true afterwards, at all nodes.
 
 The nodes keep a map or locks with `--quorum 2`: a node that is alone sends no write."""
 import random
@@ -21,7 +21,7 @@ UNKNOWN, NOT_DONE = {"error": "unknown"}, {"error": "not done"}
 
 
 def kill_again_and_again(group, clients):
-    """Kills node 3 and starts it again until the time is over; then waits until all clients have their answers."""
+    """Kills node 3 and starts it again until the time is over; then tells the clients to end."""
     chance = random.Random(1)
     kills = 0
     end = time.monotonic() + KILLING
@@ -102,16 +102,20 @@ def no_lock_is_lost_as_a_node_is_killed(group):
         group.expect(answer.json() == {}, f"a lock is held: {answer}")
 
 
+def come_to_rest(group):
+    """Starts all nodes, and waits for a second in one view: a node that has just installed a view may hold writes back for some rounds."""
+    group.come_together()
+    group.wait(1)
+
+
 def coordinator(group):
     return next(node for node in group.all() if node.address == group[1].members[0])
 
 
 @accident(3, http=True, options=MAP)
 def stable_writes_at_a_coordinator_that_is_cut_off(group):
-    """The coordinator is cut off, and at once eight clients put with `?stable` there. What is answered 200 is there when all are one view again; else the answer is that it is unknown."""
-    group.come_together()
-    # A view that was just installed may hold writes back.
-    group.wait(1)
+    """The coordinator is cut off, and at once eight clients put with `?stable` there. Each put that is answered 200 is there when all are one view again; the others are unknown."""
+    come_to_rest(group)
     first = coordinator(group)
     others = [node.number for node in group.all() if node is not first]
     group.net.part([first.number], others)
@@ -146,7 +150,7 @@ def put_stable(clients, answers, nodes, each, timeout=5):
 
 
 def expect_answers_true(group, clients, answers):
-    """Ends the clients, and expects of all nodes' maps that they have what was answered 200, and lack what was answered as not done."""
+    """Ends the clients, and expects of each node's map that it has all puts that were answered 200, and none that was answered as not done."""
     clients.over.set()
     group.until(lambda: not clients.running(), 15, "all answers")
     group.wait(1)
@@ -166,8 +170,8 @@ def expect_answers_true(group, clients, answers):
 
 @accident(3, limit=75, http=True, options=MAP)
 def stable_writes_as_the_coordinator_is_cut_off(group):
-    """Four clients each put with `?stable` at all nodes without end. The coordinator is cut off for three seconds, twice. All that is answered 200 is there in the end, at all nodes."""
-    group.come_together()
+    """Four clients each put with `?stable` at all nodes without end. The coordinator is cut off for three seconds, twice. Each put that is answered 200 is in all maps in the end."""
+    come_to_rest(group)
     clients, answers = http_clients.Clients(), {}
     put_stable(clients, answers, group.all(), 4)
     for pause in (1.13, 1.5):
@@ -184,8 +188,8 @@ def stable_writes_as_the_coordinator_is_cut_off(group):
 
 @accident(3, limit=75, http=True, options=MAP)
 def stable_writes_at_a_coordinator_that_sleeps(group):
-    """Eight clients put with `?stable` at the coordinator without end; it sleeps three seconds, and the others go on. All that is answered 200 is there in the end, at all nodes."""
-    group.come_together()
+    """Eight clients put with `?stable` at the coordinator without end; it sleeps three seconds, and the others go on. Each put that is answered 200 is in all maps in the end."""
+    come_to_rest(group)
     clients, answers = http_clients.Clients(), {}
     first = coordinator(group)
     put_stable(clients, answers, [first], 8)
@@ -209,7 +213,7 @@ def expect_before(group, what):
 
 
 def two_start_again(group, away, back, seconds):
-    """Nodes 1 and 2 are killed and started again at once while node 3 is away for so long. What was put before is there at all nodes."""
+    """Nodes 1 and 2 are killed and started again at once while node 3 is away for so long. The key that was put before is there at all nodes."""
     group.come_together()
     put_before(group)
     away()
@@ -224,7 +228,7 @@ def two_start_again(group, away, back, seconds):
 
 @accident(3, http=True, options=MAP)
 def two_start_again_as_the_third_is_parted_briefly(group):
-    """Nodes 1 and 2 are killed and started again while node 3 is parted from them for two seconds. The two have no history: what was put before is there at all nodes."""
+    """Nodes 1 and 2 are killed and started again while node 3 is parted from them for two seconds. The two have no history: the key that was put before is there at all nodes."""
     two_start_again(group, lambda: group.net.part([3], [1, 2]), group.net.heal, 2)
 
 
@@ -236,7 +240,7 @@ def two_start_again_as_the_third_is_parted(group):
 
 @accident(3, http=True, options=MAP)
 def two_start_again_as_the_third_sleeps_briefly(group):
-    """Nodes 1 and 2 are killed and started again while node 3 sleeps for two seconds. The two have no history: what was put before is there at all nodes."""
+    """Nodes 1 and 2 are killed and started again while node 3 sleeps for two seconds. The two have no history: the key that was put before is there at all nodes."""
     two_start_again(group, group[3].stop, group[3].go_on, 2)
 
 
@@ -261,7 +265,7 @@ def come_back(group):
 
 @accident(3, limit=75, http=True, options=MAP)
 def old_writes_are_withdrawn(group):
-    """Node 1 is parted and has no quorum. A put and a removal there are answered 504 after `?timeout`, a put without it after 30 s; another client's newer values stay, also later."""
+    """Node 1 is parted and has no quorum. A put and a removal there are answered 504 after `?timeout`, a put without it after 30 s. Another client's newer values stay when all are one view."""
     group.come_together()
     for answer in group.answers(*((2, "PUT", f"/map/{key}", "first") for key in ("put", "removed", "late"))):
         group.expect(answer.status == 200, f"the first put: {answer}")
@@ -287,7 +291,7 @@ def old_writes_are_withdrawn(group):
 
 @accident(3, http=True, options=MAP)
 def writes_time_out_as_the_network_heals(group):
-    """Node 1 is parted and has no quorum, and twelve clients put there, each with a limit of a second, until all are one view again. What is answered 504 is nowhere, also in the end."""
+    """Node 1 is parted and has no quorum, and twelve clients put there, each with a limit of a second, until all are one view again. No put that is answered 504 is in a map in the end."""
     group.come_together()
     part_first(group)
     clients, answers = http_clients.Clients(), {}
@@ -300,7 +304,8 @@ def writes_time_out_as_the_network_heals(group):
 
 @accident(3, http=True, options=LOCKS)
 def old_lock_requests_are_withdrawn(group):
-    """Node 1 holds a lock, is parted and has no quorum. To release it, and to take another, is answered 504 after `?timeout`; a client that asks for a third goes away. Neither is taken."""
+    """Node 1 holds a lock, is parted and has no quorum. Its release, and a request for another lock, are answered 504 after `?timeout`; a client that asks for a third goes away.
+    Nobody holds the two others afterwards."""
     group.come_together()
     answer, = group.answers((1, "POST", "/locks/held"))
     group.expect(answer.status == 200, f"the lock: {answer}")
@@ -317,8 +322,8 @@ def old_lock_requests_are_withdrawn(group):
 
 @accident(3, http=True, options=MAP, silent=200)
 def sent_write_is_not_told_not_done(group):
-    """The coordinator sleeps, less long than the silence. A put at node 2 was sent, and is not delivered within `?timeout`: nobody knows, and the answer is not that it is not done."""
-    group.come_together()
+    """The coordinator sleeps, for less than the silence. A put at node 2 is sent, and not delivered within `?timeout`: it is answered 503, not 504, since it may be carried out. It is."""
+    come_to_rest(group)
     first = coordinator(group)
     node = next(node for node in group.all() if node is not first)
     first.stop()
@@ -334,8 +339,8 @@ def sent_write_is_not_told_not_done(group):
 
 @accident(3, http=True, options=MAP)
 def writes_of_clients_that_have_gone(group):
-    """Node 1 is parted and has no quorum. Clients put there and go away before the writes are sent, some of them again and again. They fill no places, and none of the writes is carried out
-    when all are one view: another's newer value stays."""
+    """Node 1 is parted and has no quorum. Clients put there and go away before the writes are sent, some of them again and again. They keep no places, and none of their writes is carried out
+    when all are one view: another client's newer value stays."""
     group.come_together()
     part_first(group)
     clients, most = http_clients.Clients(), 0
@@ -374,8 +379,8 @@ def writes_of_clients_that_have_gone(group):
 
 @accident(3, http=True, options=MAP, silent=150)
 def half_closed_write_is_answered(group):
-    """A client puts at node 2 and closes its own half of the connection. The write was sent; the coordinator sleeps meanwhile, so the answer comes later. It is 200."""
-    group.come_together()
+    """A client puts at node 2, and closes its own half of the connection once the write is sent. The coordinator sleeps meanwhile, so the answer comes later; it is 200."""
+    come_to_rest(group)
     first = coordinator(group)
     node = next(node for node in group.all() if node is not first)
     first.stop()
