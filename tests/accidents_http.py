@@ -265,7 +265,7 @@ def come_back(group):
 
 @accident(3, limit=75, http=True, options=MAP)
 def old_writes_are_withdrawn(group):
-    """Node 1 is parted and has no quorum. A put and a removal there are answered 504 after `?timeout`, a put without it after 30 s. Another client's newer values stay when all are one view."""
+    """Node 1 is parted and has no quorum. A put and a removal there are answered 504 after `?timeout`, a put without it after 30 s. Another client's newer values stay in the end."""
     group.come_together()
     for answer in group.answers(*((2, "PUT", f"/map/{key}", "first") for key in ("put", "removed", "late"))):
         group.expect(answer.status == 200, f"the first put: {answer}")
@@ -291,7 +291,7 @@ def old_writes_are_withdrawn(group):
 
 @accident(3, http=True, options=MAP)
 def writes_time_out_as_the_network_heals(group):
-    """Node 1 is parted and has no quorum, and twelve clients put there, each with a limit of a second, until all are one view again. No put that is answered 504 is in a map in the end."""
+    """Node 1 is parted and has no quorum. Twelve clients put there with a limit of a second until all are one view again. No put that is answered 504 is in a map in the end."""
     group.come_together()
     part_first(group)
     clients, answers = http_clients.Clients(), {}
@@ -322,7 +322,7 @@ def old_lock_requests_are_withdrawn(group):
 
 @accident(3, http=True, options=MAP, silent=200)
 def sent_write_is_not_told_not_done(group):
-    """The coordinator sleeps, for less than the silence. A put at node 2 is sent, and not delivered within `?timeout`: it is answered 503, not 504, since it may be carried out. It is."""
+    """The coordinator sleeps, for less than the silence. A put at node 2 is sent, and not delivered within `?timeout`: it is answered 503, not 504. It is carried out later."""
     come_to_rest(group)
     first = coordinator(group)
     node = next(node for node in group.all() if node is not first)
@@ -339,8 +339,8 @@ def sent_write_is_not_told_not_done(group):
 
 @accident(3, http=True, options=MAP)
 def writes_of_clients_that_have_gone(group):
-    """Node 1 is parted and has no quorum. Clients put there and go away before the writes are sent, some of them again and again. They keep no places, and none of their writes is carried out
-    when all are one view: another client's newer value stays."""
+    """Node 1 is parted and has no quorum. Clients put there and go away before the writes are sent, some of them again and again. They keep no places, and none of their
+    writes is carried out when all are one view: another client's newer value stays."""
     group.come_together()
     part_first(group)
     clients, most = http_clients.Clients(), 0

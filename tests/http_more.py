@@ -18,6 +18,7 @@ from http_group import HOST, Group, expect
 POLLING, FEW = 8, 10
 # Places for all requests, and more for /status, /metrics and / alone.
 PLACES, KEPT_PLACES = 64, 8
+OF_THE_NODE = ("/status", "/metrics", "/")
 # A full map: keys that each node puts, with values of this many bytes; and how many clients read it at once.
 KEYS, VALUE, READERS = 760, 400, 60
 TRIES = 3
@@ -42,16 +43,19 @@ def other_than_coordinator(group):
 
 UNKNOWN = [
     ("PUT", "/map/query?stabel", "stabel"), ("PUT", "/map/query?Stable", "Stable"), ("PUT", "/map/query?stable&stabel", "stabel"), ("PUT", "/map/query?after=1", "after"),
-    ("PUT", "/map/query?wait=1", "wait"), ("DELETE", "/map/query?x", "x"), ("GET", "/map/query?x=1", "x"), ("GET", "/map/query?stable", "stable"), ("GET", "/map/query?timeout=1", "timeout"),
-    ("GET", "/map/query?after=3@1.1/7", "after"), ("HEAD", "/map/query?x=1", None), ("GET", "/map?before=1", "before"), ("GET", "/map?stable", "stable"), ("GET", "/status?x", "x"),
-    ("GET", "/metrics?x=1", "x"), ("GET", "/events?x=1", "x"),
+    ("PUT", "/map/query?wait=1", "wait"), ("DELETE", "/map/query?x", "x"), ("GET", "/map/query?x=1", "x"), ("GET", "/map/query?stable", "stable"),
+    ("GET", "/map/query?timeout=1", "timeout"), ("GET", "/map/query?after=3@1.1/7", "after"), ("HEAD", "/map/query?x=1", None), ("GET", "/map?before=1", "before"),
+    ("GET", "/map?stable", "stable"), ("GET", "/status?x", "x"), ("GET", "/metrics?x=1", "x"), ("GET", "/events?x=1", "x"),
 ]
 BAD_VALUES = [("PUT", "/map/query?stable=false", "stable"), ("PUT", "/map/query?stable=1", "stable"), ("DELETE", "/map/query?stable=1", "stable")]
-TWICE = [("PUT", "/map/query?stable&stable", "stable"), ("PUT", "/map/query?timeout=1&timeout=2", "timeout"), ("DELETE", "/map/query?timeout=1&stable&timeout=1", "timeout"), ("GET", "/map?after=a&after=a", "after")]
+TWICE = [
+    ("PUT", "/map/query?stable&stable", "stable"), ("PUT", "/map/query?timeout=1&timeout=2", "timeout"), ("DELETE", "/map/query?timeout=1&stable&timeout=1", "timeout"),
+    ("GET", "/map?after=a&after=a", "after"),
+]
 BAD_TIMEOUTS = ["timeout=0", "timeout=31", "timeout=x", "timeout=", "timeout", "timeout=-1", "timeout=1.5", "timeout=99999999999999999999"]
 OF_LOCKS = [
-    ("POST", "/locks/query?x=1", "x"), ("POST", "/locks/query?stable", "stable"), ("DELETE", "/locks/query?wait=1", "wait"), ("GET", "/locks/query?wait=1", "wait"), ("GET", "/locks?x", "x"),
-    ("POST", "/locks/query?wait=1&wait=1", "wait"), ("POST", "/locks/query?wait", "wait"), ("POST", "/locks/query?wait=", "wait"),
+    ("POST", "/locks/query?x=1", "x"), ("POST", "/locks/query?stable", "stable"), ("DELETE", "/locks/query?wait=1", "wait"), ("GET", "/locks/query?wait=1", "wait"),
+    ("GET", "/locks?x", "x"), ("POST", "/locks/query?wait=1&wait=1", "wait"), ("POST", "/locks/query?wait", "wait"), ("POST", "/locks/query?wait=", "wait"),
     *((method, f"/locks/query?{bad}", "timeout") for method in ("POST", "DELETE") for bad in BAD_TIMEOUTS),
 ]
 
@@ -101,7 +105,7 @@ def shown(value):
 
 
 def json_values(group):
-    """A value in UTF-8 is text in JSON, other bytes are in base64; so are keys. What changed is shown alike, and a value by itself is its bytes."""
+    """A value in UTF-8 is text in JSON, other bytes are in base64; so are keys. Changes are shown alike. GET of a key returns its bytes, with the same ETag."""
     tag = group.ask(1, "GET", "/map")[2].getheader("etag")
     wanted, given = {}, {}
     for name, value in VALUES.items():
@@ -109,7 +113,7 @@ def json_values(group):
         status, _, answer = group.ask(1, "PUT", f"/map/{key}", value)
         expect(status == 200, f"json: PUT of {value}: {status}")
         wanted[key], given[key] = shown(value), (value, answer.getheader("etag"))
-    for key, name in ((b"json.gr\xc3\xbcn", "json.grün"), (b'json."\\', 'json."\\'), (b"json.\xff", "base64:" + base64.b64encode(b"json.\xff").decode()), (b"\xfe\xff\xfb", "base64:/v/7")):
+    for key, name in (("json.grün".encode(), "json.grün"), (b'json."\\', 'json."\\'), (b"json.\xff", "base64:anNvbi7/"), (b"\xfe\xff\xfb", "base64:/v/7")):
         path = "/map/" + urllib.parse.quote(key, safe="")
         expect(group.ask(1, "PUT", path, b"of a key")[0] == 200, f"json: PUT of the key {key}")
         expect(group.ask(1, "GET", path)[1] == b"of a key", f"json: GET of the key {key}")
@@ -202,7 +206,8 @@ def places(group):
     time.sleep(0.5)
     kept = []
     try:
-        for wanted, method, asked in ((200, "GET", "/status"), (200, "GET", "/metrics"), (200, "GET", "/"), (503, "GET", "/map"), (503, "GET", "/map/a"), (503, "PUT", "/map/places"), (200, "GET", "/status")):
+        refused_now = (("GET", "/map"), ("GET", "/map/a"), ("GET", "/events"), ("PUT", "/map/places"))
+        for wanted, method, asked in (*((200, "GET", path) for path in OF_THE_NODE), *((503, *words) for words in refused_now), (200, "GET", "/status")):
             answer = http_clients.ask(HOST, group.http[2], method, asked, b"x" if method == "PUT" else None)
             expect(answer.status == wanted, f"places: with {PLACES} polls {method} {asked} is answered {answer}")
         time.sleep(0.3)
@@ -282,7 +287,7 @@ def gone_waiters(group):
 # Large maps.
 
 def read_all(group, node, count, path, seconds=60):
-    """Sends a request on so many connections at once and reads all answers as they come; returns for each the status, the length of its body and that one's hash."""
+    """Sends a request on so many connections at once, and reads the answers as they come. Returns each answer's status, and the length and hash of its body."""
     chosen = selectors.DefaultSelector()
     heads, hashes, lengths = {}, {}, {}
     for _ in range(count):
@@ -354,7 +359,8 @@ def large_map(folder, finds):
             group.await_view([1, 2, 3])
         expect(after == before, f"large map: the views were {before}, and are {after} after {READERS} clients in {took:.1f} s")
         wanted = (b"200", len(one), hashlib.sha256(one).hexdigest())
-        expect(len(came) == READERS and all(got == wanted for got in came), f"large map: {sum(got == wanted for got in came)} of {READERS} clients get all of it; others {[got[:2] for got in came if got != wanted][:3]}")
+        others = [got[:2] for got in came if got != wanted]
+        expect(len(came) == READERS and not others, f"large map: {len(others)} of {READERS} clients get something else than all of it: {others[:3]}")
     finally:
         group.stop()
 
@@ -388,7 +394,7 @@ def strange_and_sought(group):
 
 
 def leaving(folder, finds):
-    """POST /leave: the node leaves, which the others see within a second though the silence is three, and its process ends with 0. It comes back; then the coordinator leaves."""
+    """After POST /leave the others' view lacks the node before they can suspect it, and its process ends with 0. It comes back; then the coordinator leaves."""
     group = Group(finds, folder, ["--map"], silent=150)
     try:
         group.form()
