@@ -3,11 +3,13 @@ import ctypes
 import os
 import pathlib
 import signal
+import socket
 import subprocess
 import threading
 import time
 
 import accidents_net
+import http_clients
 
 ROOT = pathlib.Path(__file__).resolve().parent.parent
 VSYNC = str(pathlib.Path(os.environ.get("VSYNC", ROOT / "vsync")).absolute())
@@ -44,6 +46,8 @@ class Node:
             file.touch()
         self.options = list(group.options)
         self.settings = group.settings
+        # Where it answers HTTP, if it does. Then it is given no lines.
+        self.http_port = accidents_net.free_port(group.net.host(number), socket.SOCK_STREAM) if group.http else None
         self.process = None
         self.is_stopped = False
         self.ended_with = None
@@ -69,8 +73,8 @@ class Node:
     def start(self, *more):
         """Starts the node, always by the same command."""
         net = self.group.net
-        words = [VSYNC, "member", self.settings, self.number, 1, 0, "--forever", "--incarnation-file", self.incarnation, "--say", self.lines,
-                 "--status", self.status, "--bind", net.host(self.number)]
+        words = [VSYNC, "member", self.settings, self.number, 1, 0, "--forever", "--incarnation-file", self.incarnation, "--status", self.status, "--bind", net.host(self.number)]
+        words += ["--http", f"{net.host(self.number)}:{self.http_port}"] if self.http_port else ["--say", self.lines]
         for other in net.numbers:
             if other != self.number:
                 words += ["--peer", f"{other}={net.peer(self.number, other)}"]
@@ -117,6 +121,14 @@ class Node:
         self.ended_with = self.process.poll()
         return self.ended_with is None
 
+    def ask(self, method, path, body=None, timeout=10):
+        """Asks it over HTTP. The network stands still meanwhile, unless another thread asks."""
+        return http_clients.ask(self.group.net.host(self.number), self.http_port, method, path, body, timeout=timeout)
+
+    def begin(self, method, path, body=b""):
+        """Sends a request over HTTP, and returns its connection."""
+        return http_clients.begin(self.group.net.host(self.number), self.http_port, method, path, body)
+
     def say(self, *lines):
         with open(self.lines, "ab") as file:
             file.write(b"".join(line.encode() + b"\n" for line in lines))
@@ -144,7 +156,7 @@ class Node:
             self.view, self.members = fields[2], tuple(fields[3].split(","))
             self.installs += 1
             self.back = () if fields[5] == "-" else tuple(payload_in(sent.partition(":")[2]) for sent in fields[5].split(","))
-            if fields[6] != "-" and "--locks" not in self.options:
+            if fields[6] != "-" and not {"--map", "--locks"} & set(self.options):
                 self.chat = chat_in(bytes.fromhex(fields[6][1:]))
         elif word == "delivered":
             self.chat.append((fields[2], payload_in(fields[4])))
@@ -156,7 +168,7 @@ class Node:
             self.stable.append((fields[1], int(fields[2])))
         elif word in ("left", "crashed", "#"):
             self.runs, self.view, self.members = False, None, ()
-        elif word not in ("sent", "blocked"):
+        elif word not in ("sent", "blocked", "map"):
             raise Wrong(f"node {self.number} prints: {line}")
         if word == "blocked":
             self.blocked_since = time.monotonic()
@@ -198,9 +210,10 @@ def chat_in(state):
 class Group:
     """Some nodes, the network between them, and a limit of time."""
 
-    def __init__(self, count, folder, limit, seed=0, silent=50, options=("--find", "--long")):
+    def __init__(self, count, folder, limit, seed=0, silent=50, options=("--find", "--long"), http=False):
         self.folder = pathlib.Path(folder)
         self.options = options
+        self.http = http
         self.silent = silent
         self.net = accidents_net.Network(range(1, count + 1), seed)
         self.settings = self.settings_of(self.net.numbers)
@@ -309,6 +322,19 @@ class Group:
         return self.until(lambda: all(node.has(line) for node in nodes for line in lines), within,
                           lambda: "; ".join(f"{node.number} was not told {', '.join(line[:30] for line in lines if not node.has(line))[:150]}" for node in nodes))
 
+    def answers(self, *requests, within=10):
+        """Sends requests over HTTP at once, each a node's number, a method, a path and perhaps a body; returns their answers in this order."""
+        came = [None] * len(requests)
+        clients = http_clients.Clients()
+
+        def ask(place, number, *words):
+            came[place] = self[number].ask(*words, timeout=within)
+
+        for place, words in enumerate(requests):
+            clients.start(ask, place, *words)
+        self.until(lambda: not clients.running(), within + 5, "answers over HTTP")
+        return came
+
     def talk(self, *numbers, word="still here", within=5):
         """Each of these nodes says a line, and all of them are told all."""
         lines = []
@@ -332,11 +358,15 @@ class Group:
     # Its end.
 
     def finish(self):
-        """Ends all that runs by the line that does."""
+        """Ends all that runs by the line that does, or by HTTP."""
         for node in self.nodes.values():
             if node.is_running():
                 node.go_on()
-                node.say("\x04")
+                if self.http:
+                    answer, = self.answers((node.number, "POST", "/leave"))
+                    self.expect((answer.status, answer.body) == (200, b"leaving\n"), f"POST /leave at node {node.number} is answered {answer}")
+                else:
+                    node.say("\x04")
         end = time.monotonic() + ENDING
         while any(node.is_running() for node in self.nodes.values()):
             if time.monotonic() > end:
@@ -357,7 +387,7 @@ class Group:
         texts = [text for text in sorted(self.folder.glob("*.text")) if text.stat().st_size > 0]
         if not texts:
             raise Wrong("no node printed anything")
-        kept = [option for option in self.options if option in ("--long", "--locks")]
+        kept = [option for option in self.options if option in ("--long", "--map", "--locks")]
         checked = subprocess.run([VSYNC, "check", *kept, "--processes", *map(str, texts)], stdin=subprocess.DEVNULL, capture_output=True, timeout=120)
         if checked.stdout != b"holds\n":
             raise Wrong("vsync check --processes: " + (checked.stdout + checked.stderr).decode(errors="replace"))

@@ -56,8 +56,8 @@ def free_block(chance):
     raise OSError("no free block of loopback addresses")
 
 
-def free_port(host):
-    with socket.socket(socket.AF_INET, socket.SOCK_DGRAM) as probe:
+def free_port(host, kind=socket.SOCK_DGRAM):
+    with socket.socket(socket.AF_INET, kind) as probe:
         probe.bind((host, 0))
         return probe.getsockname()[1]
 
