@@ -6,7 +6,7 @@ ghost use Rattle.http_desk.specs.Replies.{AnswersValue};
 use crate::PATIENCE;
 use crate::changes::Change;
 use crate::client::{Client, Found, Hold, Step};
-use crate::desk::{Answer, Desk};
+use crate::desk::{Answer, Desk, taken};
 use crate::json::{put_changes, put_entries, put_lock, put_locks};
 use crate::kept::Kept;
 use crate::metrics::metrics;
@@ -34,16 +34,6 @@ fn value_reply(alloc: Global, map: &ReplicatedMap, key: &[u8]) -> Reply
         Some(held) => Reply::held(alloc, StatusCode::OK, held),
         None => Reply::words(alloc, StatusCode::NOT_FOUND, b"the key has no value\n"),
     }
-}
-
-// The answer for a ticket, if it is there.
-fn taken(replies: &mut Vec<Answer>, ticket: u64) -> Option<Answer> {
-    for (i, answer) in replies.iter().enumerate() {
-        if answer.ticket == ticket {
-            return Some(replies.swap_remove(i));
-        }
-    }
-    None
 }
 
 // All that there is of something.
@@ -265,7 +255,11 @@ impl Desk {
                         ticket: _,
                         reply,
                         at,
+                        grants,
                     } = answer;
+                    if let Some(name) = grants {
+                        self.claim(name.as_slice());
+                    }
                     self.given(reply, at, end)
                 }
                 None => self.unknown(),

@@ -166,6 +166,22 @@ fn drop_output(ahead: &mut Connection) {
     }
 }
 
+// Writes the front of some bytes, of bounded length; answers how much went.
+fn write_front(output: &[u8], stream: &mut TcpStream) -> io::Result<usize> {
+    match output.get(..WRITE) {
+        Some(front) => stream.write(front),
+        None => stream.write(output),
+    }
+}
+
+// Writes a piece of what waits; answers how much went.
+fn write_piece(connection: &mut Connection, stream: &mut TcpStream) -> io::Result<usize> {
+    let most = connection.output().len();
+    let count = write_front(connection.output(), stream)?;
+    connection.sent(count.min(most));
+    Ok(count)
+}
+
 impl Client {
     pub(crate) fn new(
         alloc: Global,
@@ -208,22 +224,13 @@ impl Client {
         self.is_looked_at = false;
     }
 
-    // Writes a piece of what waits; answers how much went.
-    fn write(&mut self) -> io::Result<usize> {
-        let output = self.server.connection.output();
-        let piece = output.get(..output.len().min(WRITE)).unwrap_or(&[]);
-        let count = self.stream.write(piece)?;
-        self.server.connection.sent(count);
-        Ok(count)
-    }
-
     // Writes what waits, as much as may go in one turn; answers what is next, unless all of it went.
     fn flush(&mut self) -> io::Result<Option<Step>> {
         for _ in 0..WRITES {
             if !self.server.connection.wants_write() {
                 return Ok(None);
             }
-            match self.write() {
+            match write_piece(&mut self.server.connection, &mut self.stream) {
                 Ok(0) => return Err(ErrorKind::WriteZero.into()),
                 Ok(_) => (),
                 Err(error) if error.kind() == ErrorKind::WouldBlock => return Ok(Some(Step::Rests)),

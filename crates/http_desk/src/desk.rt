@@ -27,6 +27,8 @@ pub(crate) struct Answer {
     pub(crate) ticket: u64,
     pub(crate) reply: Reply,
     pub(crate) at: Option<Place>,
+    /// The lock that it grants.
+    pub(crate) grants: Option<Vec<u8>>,
 }
 
 /// What a node keeps for those who ask it.
@@ -107,6 +109,16 @@ fn touched_by<'a>(kept: &Kept, delivery: &'a Delivery) -> Touched<'a> {
     };
     let key = key.as_slice();
     Touched::Key(key, kept.version(key))
+}
+
+/// The answer of a ticket, if it is there.
+pub(crate) fn taken(replies: &mut Vec<Answer>, ticket: u64) -> Option<Answer> {
+    for (i, answer) in replies.iter().enumerate() {
+        if answer.ticket == ticket {
+            return Some(replies.swap_remove(i));
+        }
+    }
+    None
 }
 
 // A time in milliseconds.
@@ -280,16 +292,27 @@ impl Desk {
             }
             None => {
                 let reply = Reply::plain(self.alloc, StatusCode::BAD_REQUEST);
-                self.answer(ticket, reply, None);
+                self.answer(ticket, reply, None, None);
             }
         }
     }
 
     // Answers a ticket, if it is open still.
-    fn answer(&mut self, ticket: u64, reply: Reply, at: Option<Place>) {
+    fn answer(
+        &mut self,
+        ticket: u64,
+        reply: Reply,
+        at: Option<Place>,
+        grants: Option<Vec<u8>>,
+    ) {
         if self.tickets.is_open(ticket) {
             self.tickets.settle(ticket);
-            let pushed = self.replies.push(Answer { ticket, reply, at });
+            let pushed = self.replies.push(Answer {
+                ticket,
+                reply,
+                at,
+                grants,
+            });
             self.is_short |= pushed.is_err();
         }
         self.orders.remove(ticket);
@@ -313,9 +336,11 @@ impl Desk {
         };
         self.counts.write();
         let is_done = reply.status == StatusCode::OK;
-        if is_done {
-            self.claim_or_release(ticket);
-        }
+        let grants = if is_done {
+            self.granted(ticket)
+        } else {
+            None
+        };
         let is_stable = match self.orders.of(ticket) {
             Some(order) => order.is_stable,
             None => false,
@@ -325,9 +350,9 @@ impl Desk {
                 let at = Place { view, count };
                 let reply = reply.at(self.alloc, &at);
                 let waits = if is_done & is_stable { Some(at) } else { None };
-                self.answer(ticket, reply, waits);
+                self.answer(ticket, reply, waits, grants);
             }
-            None => self.answer(ticket, reply, None),
+            None => self.answer(ticket, reply, None, grants),
         }
     }
 
@@ -385,6 +410,9 @@ impl Desk {
 
     /// Who holds a ticket has gone. What was not sent is withdrawn, and so is a request for a lock. Answers whether nothing is to be answered any more.
     pub(crate) fn go(&mut self, ticket: u64) -> bool {
+        if !self.tickets.is_open(ticket) {
+            return self.give_back(ticket);
+        }
         self.tickets.go(ticket);
         if !self.tickets.is_open(ticket) {
             self.orders.remove(ticket);
@@ -440,7 +468,7 @@ impl Desk {
 
     // Releases a lock that nobody who is there has, asks for, or was told to wait for.
     fn release_unwanted(&mut self, name: &[u8]) -> Result<(), AllocError> {
-        if self.is_claimed(name) | self.orders.is_wanted(name) {
+        if self.is_claimed(name) | self.orders.is_wanted(name) | self.is_granted(name) {
             return Ok(());
         }
         let order = release_of(self.alloc, name, PATIENCE)?;
@@ -451,22 +479,62 @@ impl Desk {
         self.tickets.open(ticket, u64::MAX)
     }
 
-    // The request of a ticket for a lock was granted. Who asked has it, or has gone.
-    fn claim_or_release(&mut self, ticket: u64) {
-        let name = match self.orders.lock_of(ticket) {
-            Some(name) => Vec::from_slice(self.alloc, name),
-            None => return,
-        };
-        match name {
-            Ok(name) => {
-                if self.orders.is_orphan(ticket) {
-                    let released = self.release_unwanted(name.as_slice());
-                    self.note(released);
-                } else {
-                    self.claim(name.as_slice());
+    // Whether an answer that waits for its connection grants a lock.
+    fn is_granted(&self, name: &[u8]) -> bool {
+        for answer in self.replies.iter() {
+            if let Some(granted) = &answer.grants {
+                if granted.as_slice() == name {
+                    return true;
                 }
             }
-            Err(error) => self.note(Err(error)),
+        }
+        false
+    }
+
+    // The request of a ticket was carried out. The lock that it grants, if it grants one and who asked is there; else the lock is released.
+    fn granted(&mut self, ticket: u64) -> Option<Vec<u8>> {
+        match Vec::from_slice(self.alloc, self.orders.lock_of(ticket)?) {
+            Ok(name) if self.orders.is_orphan(ticket) => {
+                self.orders.remove(ticket);
+                let released = self.release_unwanted(name.as_slice());
+                self.note(released);
+                None
+            }
+            Ok(name) => Some(name),
+            Err(error) => {
+                self.note(Err(error));
+                None
+            }
+        }
+    }
+
+    // Who holds a ticket that has ended has gone. A lock that it grants is released; answers whether it grants one.
+    fn give_back(&mut self, ticket: u64) -> bool {
+        let Some(answer) = taken(&mut self.replies, ticket) else {
+            return false;
+        };
+        let Answer {
+            ticket: _,
+            reply,
+            at,
+            grants,
+        } = answer;
+        match grants {
+            Some(name) => {
+                let released = self.release_unwanted(name.as_slice());
+                self.note(released);
+                true
+            }
+            None => {
+                let pushed = self.replies.push(Answer {
+                    ticket,
+                    reply,
+                    at,
+                    grants: None,
+                });
+                self.is_short |= pushed.is_err();
+                false
+            }
         }
     }
 

@@ -36,6 +36,14 @@ impl Drop for Kept {
     }
 }
 
+// The lock that a command releases, if it releases one.
+fn name_released(alloc: Global, command: &Command<'_>) -> Result<Option<Vec<u8>>, AllocError> {
+    match command {
+        Command::Release { view: _, name } => Ok(Some(Vec::from_slice(alloc, name.as_slice())?)),
+        Command::Acquire { .. } | Command::Roll(_) => Ok(None),
+    }
+}
+
 impl Kept {
     pub(crate) fn new(alloc: Global, keeps: Keeps, own: Address) -> Result<Kept, AllocError> {
         match keeps {
@@ -63,10 +71,8 @@ impl Kept {
             return Ok(None);
         };
         match Command::decode(alloc, payload)? {
-            Some(Command::Release { view: _, name }) => {
-                Ok(Some(Vec::from_slice(alloc, name.as_slice())?))
-            }
-            _ => Ok(None),
+            Some(command) => name_released(alloc, &command),
+            None => Ok(None),
         }
     }
 

@@ -20,7 +20,7 @@ let last='';\
 async function turn(){try{const s=await(await fetch('/status')).json();show('status',s);get('own').textContent=s.address;get('bad').textContent='';\
 if(s.keeps!=='other'){get('name').textContent=s.keeps==='map'?'The map':'The locks';show('kept',await(await fetch('/'+s.keeps)).json())}\
 const e=await(await fetch('/events')).text();if(e!==last){last=e;const p=get('events');p.textContent=e;p.scrollTop=p.scrollHeight;\
-get('picture').src='/picture?'+Date.now()}}\
+const i=get('picture'),b=await(await fetch('/picture',{cache:'no-store'})).blob();URL.revokeObjectURL(i.src);i.src=URL.createObjectURL(b)}}\
 catch(e){get('bad').textContent='no answer: '+e}setTimeout(turn,1000)}turn()</script>\n";
 
 /// The page.
