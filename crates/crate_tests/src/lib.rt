@@ -1,4 +1,4 @@
-//! Tests of the crates that a member is made of, a module for each crate; of the packets, by hand from the format's tables, to the byte; of `hmac` and `frames`;
+//! Tests of the crates that a member is made of, a module for each crate; of the packets, by hand from the format's tables, to the byte; of words, `hmac` and `frames`;
 //! of what runs members: how often a receiver is told of a view and of a block, lost messages that a catch-up brings, a step, random worlds that settle;
 //! and of what stands apart from views: bytes, lines, keys, tokens and states, commands of the map and of locks, guards, and what services answer.
 //! They stand apart from what they test, so that it is proved once and not twice.
@@ -76,3 +76,5 @@ mod wire_samples;
 mod wire_states;
 #[cfg(test)]
 mod wire_vectors;
+#[cfg(test)]
+mod word_tests;

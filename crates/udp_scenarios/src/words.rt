@@ -6,7 +6,7 @@ use crate::stories::first_at;
 use address::{Address, Node, ViewId};
 use std::alloc::{AllocError, Global};
 use std::time::Duration;
-use udp_net::{Echo, Neighbour, Net, Place, SocketNet, Word};
+use udp_net::{Echo, Neighbour, Net, Place, SocketNet, Word, WordVersion};
 use wire::encode;
 use wire_values::{Body, Count, GroupName, Packet, Roster};
 
@@ -46,6 +46,7 @@ fn nets(rt: &HostRuntime) -> Result<Pair, AllocError> {
 /// The word of one that looks for a view.
 fn looking(source: Address, said: u64) -> Word {
     Word {
+        version: WordVersion::Second,
         source,
         said,
         echo: None,
@@ -136,8 +137,10 @@ fn put_answered(pair: &mut Pair, told: &mut Told) {
         view: ViewId::first_of(first),
         members: 1,
         stays: true,
+        history: 1,
     });
     let answer = Word {
+        version: WordVersion::Second,
         source: first,
         said: 9,
         echo,
