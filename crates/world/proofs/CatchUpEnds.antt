@@ -136,7 +136,7 @@ module _ {S : Type 0} (meaning : Meaning S) (laws : KeepBySteps.Laws meaning) wh
   node_state-of : (w : WorldModel S) (n : ℕ) (m : MemberModel S) → Keeps w → w.node_states n ≡ Running m → IsNodeStateOf n (last_of n w.history.trace) (is_connected n w.history) w.history.trace (Running m)
   node_state-of w n m keeps node_state = subst (IsNodeStateOf n (last_of n w.history.trace) (is_connected n w.history) w.history.trace) node_state (keeps.node_states n)
 
-  runs-open : (w : WorldModel S) (n : ℕ) (p : Address) (m : MemberModel S) (v : View) → Keeps w → w.node_states n ≡ Running m → m.address ≡ p → (o : IsOpen m v)
+  pub runs-open : (w : WorldModel S) (n : ℕ) (p : Address) (m : MemberModel S) (v : View) → Keeps w → w.node_states n ≡ Running m → m.address ≡ p → (o : IsOpen m v)
       → RepliesPlayed.RunsAs meaning w p o.member_state o.view_state
   runs-open w n p m v keeps node_state is o =
       let k = node_state-of w n m keeps node_state in
@@ -155,7 +155,7 @@ module _ {S : Type 0} (meaning : Meaning S) (laws : KeepBySteps.Laws meaning) wh
         installed = o.installed;
       }
 
-  orderly-of : (w : WorldModel S) (n : ℕ) (p : Address) (m : MemberModel S) (v : View) → Keeps w → w.node_states n ≡ Running m → m.address ≡ p → (o : IsOpen m v) → IsOrderly p o.view_state
+  pub orderly-of : (w : WorldModel S) (n : ℕ) (p : Address) (m : MemberModel S) (v : View) → Keeps w → w.node_states n ≡ Running m → m.address ≡ p → (o : IsOpen m v) → IsOrderly p o.view_state
   orderly-of w n p m v keeps node_state is o =
       let k = MembersAtNodes.is-here meaning laws w.node_states w.history n m keeps node_state (node_state-of w n m keeps node_state).1 in
       subst (λ (q : Address). IsOrderly q o.view_state) is ((k.alive o.member_state o.lives).ordered o.view_state o.keeps)

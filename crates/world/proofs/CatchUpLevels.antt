@@ -337,7 +337,7 @@ module _ {S : Type 0} (meaning : Meaning S) (laws : KeepBySteps.Laws meaning) wh
   pub no-more : (xs ys : List (List ℕ)) → xs ≡ ys → length xs - length ys ≡ 0
   no-more xs ys e = let l : length xs ≡ length ys = ap length e in omega (arith, l)
 
-  some-more : (xs ys : List (List ℕ)) (posted : List Posted) → xs ≡ ys ++ bytes_for world_group posted → length xs - length ys ≡ length posted
+  pub some-more : (xs ys : List (List ℕ)) (posted : List Posted) → xs ≡ ys ++ bytes_for world_group posted → length xs - length ys ≡ length posted
   some-more xs ys posted e =
       let l : length xs ≡ length ys + length (bytes_for world_group posted) = ap length e ∙ length-append ys (bytes_for world_group posted) in
       let m : length (bytes_for world_group posted) ≡ length posted = length-map (map (spelled world_group) posted) bytes_of ∙ length-map posted (spelled world_group) in

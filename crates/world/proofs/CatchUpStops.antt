@@ -40,7 +40,7 @@ use Rattle.world.proofs.Deliveries.{breaks-none, breaks-next}
 
 module _ {S : Type 0} (meaning : Meaning S) where
   -- who runs in a view is open there
-  open-run : (w : WorldModel S) (p : Address) (l : MemberState S) (t : ViewState) (v : ViewId) (r : RepliesPlayed.RunsAs meaning w p l t) → (view_of t).id ≡ v → is_open_in p v (w.node_states p.node) ≡ true
+  pub open-run : (w : WorldModel S) (p : Address) (l : MemberState S) (t : ViewState) (v : ViewId) (r : RepliesPlayed.RunsAs meaning w p l t) → (view_of t).id ≡ v → is_open_in p v (w.node_states p.node) ≡ true
   open-run w p l t v r id =
       let view : open_view (Running r.stands.member) ≡ Some (view_of t) = rw (Standing.core-is meaning w p l r.stands, r.view_state, r.installed) refl in
       let same : same_address r.stands.member.address p ≡ true = ap (λ z. same_address z p) r.stands.address ∙ same_address-refl p in

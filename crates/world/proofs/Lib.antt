@@ -65,3 +65,12 @@ pub mod CatchUpStops
 pub mod PairsAreOpen
 pub mod CatchUpIsRun
 pub mod SettlingIsTold
+pub mod Covered
+pub mod GoesFurther
+pub mod FewOutstanding
+pub mod Groups
+pub mod EventsCounted
+pub mod HearsAll
+pub mod LevelsMore
+pub mod CalmIsRun
+pub mod CalmRounds

@@ -13,3 +13,4 @@ pub mod Completing
 pub mod Gaps
 pub mod Known
 pub mod Settled
+pub mod Calm

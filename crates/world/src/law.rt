@@ -1,5 +1,6 @@
 ghost use Rattle.world.specs.Settles.{ViewsSettle, SettlesBriefly, SettlingsEnd};
 ghost use Rattle.world.specs.Completing.{ViewsComplete, CompletesBriefly, CompletionsEnd};
+ghost use Rattle.world.specs.Calm.{CalmViewsDeliver, CalmViewsAreBrief};
 ghost use Rattle.world.specs.Meets.{LoneViewsMeet, LoneViewsJoin};
 ghost use Rattle.world.specs.LowProposals.{ProposalsRise, ProposalsOvertake, OvertakingsSettle, OvertakesBriefly, OvertakingsEnd, RoundsAreEnough};
 
@@ -55,4 +56,11 @@ pub fn low_proposals_rise<R: Receiver>()
     ensures brief { OvertakesBriefly R.meaning }
     ensures ends { OvertakingsEnd R.meaning }
     ensures enough { RoundsAreEnough R.meaning }
+{}
+
+/// The law of calm views. In every world that comes of any events: where all members of the view of the member that runs at a node run in it and are not
+/// blocked, and numbers are left, then after four rounds each of them has delivered all that was sent there, and knows it to be stable; these are at most 4,928 events. It does nothing.
+pub fn calm_views_deliver<R: Receiver>()
+    ensures deliver { CalmViewsDeliver R.meaning }
+    ensures brief { CalmViewsAreBrief R.meaning }
 {}

@@ -1,0 +1,211 @@
+//! A calm view delivers: where all members of a view run in it and are not blocked, all that was sent there is delivered to each of them, and known to be stable.
+
+ghost use Rattle.std.specs.Prelude.{◌≡◌, ◌+◌, ◌≤◌, length, Some, Ok, false, IfOk, OnOk, OnErr, is_some};
+ghost use Rattle.std.specs.List.{list_all};
+ghost use Rattle.std.specs.Option.{ForSome, IsSomeAnd};
+ghost use Rattle.std.specs.Ordering.{nat_cmp};
+ghost use Rattle.std.specs.BTreeMap.{get};
+ghost use Rattle.trace_props.specs.Places.{EachPlace};
+ghost use Rattle.trace_props.specs.Synchrony.{IsWellOrdered, IsVirtuallySynchronous};
+ghost use Rattle.law_processes.specs.Replicas.{ReplicasAgree};
+ghost use Rattle.law_processes.specs.Deployments.{IsPlayed};
+ghost use Rattle.world_model.specs.Faithful.{IsFaithful};
+ghost use Rattle.world_model.specs.Packets.{world_group};
+ghost use Rattle.world.specs.NodeStates.{deployment_of, node_states_in};
+ghost use Rattle.world.specs.Worlds.{shown, IsLonger};
+ghost use Rattle.world.specs.Known.{MembersKnow};
+ghost use Rattle.world.specs.Gaps.{is_open_in};
+ghost use Rattle.world.specs.Calm.{has_numbers, is_calm, calm_at, Speaks, AllSpeak, AllLevel, CalmRound, DeliversAll, IsThrough, SpeaksShort, AllSpeakShort, AllLevelShort, RoundShort, DeliversShort};
+
+use crate::gaps::{Pair, is_open_in};
+use crate::{NodeState, World};
+use address::limits::{GREATEST_NUMBER, MEMBERS, OUTSTANDING, WINDOW};
+use address::{Address, Node, ViewId};
+use state_transfer::Receiver;
+use std::alloc::AllocError;
+use std::collections::BTreeMap;
+use wire_values::Roster;
+use world_model::WorldEvent;
+
+/// Whether numbers of its view's order are left for all messages that may not be stable yet, as the member that runs here knows.
+fn has_numbers<R: Receiver>(node_state: &NodeState<R>) -> bool
+    ensures { result ≡ has_numbers node_state.now }
+{
+    match node_state {
+        NodeState::Vacant | NodeState::Ended(_) => false,
+        NodeState::Running(member) => {
+            member.stable() < GREATEST_NUMBER - (WINDOW + MEMBERS as u64 * OUTSTANDING)
+        }
+    }
+}
+
+/// The same, at a node.
+fn numbers_left<R: Receiver>(node_states: &BTreeMap<Node, NodeState<R>>, node: Node) -> bool
+    ensures { result ≡ has_numbers (node_states_in (get nat_cmp node_states.now) node) }
+{
+    match node_states.get(&node) {
+        None => false,
+        Some(node_state) => has_numbers(node_state),
+    }
+}
+
+/// Whether the member of an address runs in a view of this id, and is not blocked.
+fn is_there<R: Receiver>(
+    node_states: &BTreeMap<Node, NodeState<R>>,
+    address: Address,
+    view: ViewId,
+) -> bool
+    ensures { result ≡ is_open_in address view (node_states_in (get nat_cmp node_states.now) address.node) }
+{
+    match node_states.get(&address.node()) {
+        None => false,
+        Some(node_state) => is_open_in(node_state, address, view),
+    }
+}
+
+/// Whether each of a view runs in it, and is not blocked.
+fn all_are_there<R: Receiver>(node_states: &BTreeMap<Node, NodeState<R>>, view: &Roster) -> bool
+    ensures { result ≡ list_all (λ q. is_open_in q view.now.id (node_states_in (get nat_cmp node_states.now) q.node)) view.now.members }
+{
+    for address in view.members().as_slice() {
+        if !is_there(node_states, *address, view.id()) {
+            return false;
+        }
+    }
+    true
+}
+
+/// Whether a view is calm: each of it runs in it and is not blocked, and numbers are left.
+fn is_calm<R: Receiver>(node_states: &BTreeMap<Node, NodeState<R>>, view: &Roster) -> bool
+    ensures { result ≡ is_calm (node_states_in (get nat_cmp node_states.now)) view.now }
+{
+    all_are_there(node_states, view) && numbers_left(node_states, view.id().creator().node())
+}
+
+/// The view of the member that runs at a node, if it is calm (docs/GUARANTEES.md, "A calm view delivers"). Takes no memory.
+pub fn calm_view<R: Receiver>(
+    node_states: &BTreeMap<Node, NodeState<R>>,
+    node: Node,
+) -> Option<Roster>
+    ensures { result ≡ calm_at (node_states_in (get nat_cmp node_states.now)) node }
+{
+    match node_states.get(&node)? {
+        NodeState::Vacant | NodeState::Ended(_) => None,
+        NodeState::Running(member) => {
+            if member.is_blocked() {
+                return None;
+            }
+            let view = member.view()?;
+            let view = Roster::new(view.id(), view.members().as_slice())?;
+            if is_calm(node_states, &view) {
+                Some(view)
+            } else {
+                None
+            }
+        }
+    }
+}
+
+impl<R: Receiver> World<R> {
+    /// A tick of the member of an address, and a delivery of each packet that it puts out by that.
+    fn speak(&mut self, address: Address) -> Result<(), AllocError>
+        ensures ok { OnOk result (Speaks R.meaning address (shown self.old) (shown self.new)) }
+        ensures err { OnErr result (SpeaksShort R.meaning address (shown self.old) (shown self.new)) }
+    {
+        let known = self.pool.count();
+        self.play(&WorldEvent::Tick(address.node()))?;
+        self.deliver_past(known)
+    }
+
+    /// The same for each of a view but its coordinator.
+    fn all_speak(&mut self, view: &Roster) -> Result<(), AllocError>
+        ensures ok { OnOk result (AllSpeak R.meaning view.now.id.creator (shown self.old) view.now.members (shown self.new)) }
+        ensures err { OnErr result (AllSpeakShort R.meaning view.now.id.creator view.now.members (shown self.old) (shown self.new)) }
+    {
+        let creator = view.id().creator();
+        for address in view.members().as_slice() {
+            if *address != creator {
+                self.speak(*address)?;
+            }
+        }
+        Ok(())
+    }
+
+    /// Brings each of a view level with its coordinator.
+    fn all_level(&mut self, view: &Roster) -> Result<(), AllocError>
+        ensures ok { OnOk result (AllLevel R.meaning view.now.id (shown self.old) view.now.members (shown self.new)) }
+        ensures err { OnErr result (AllLevelShort R.meaning view.now.id view.now.members (shown self.old) (shown self.new)) }
+    {
+        let creator = view.id().creator();
+        for address in view.members().as_slice() {
+            if *address != creator {
+                let pair = Pair {
+                    member: *address,
+                    view: view.id(),
+                };
+                self.bring_level(&pair)?;
+            }
+        }
+        Ok(())
+    }
+
+    /// Plays a round.
+    fn calm_round(&mut self, view: &Roster) -> Result<(), AllocError>
+        ensures ok { OnOk result (CalmRound R.meaning view.now (shown self.old) (shown self.new)) }
+        ensures err { OnErr result (RoundShort R.meaning view.now (shown self.old) (shown self.new)) }
+    {
+        self.all_speak(view)?;
+        self.all_level(view)
+    }
+
+    /// Plays four of them.
+    fn four_rounds(&mut self, view: &Roster) -> Result<(), AllocError>
+        ensures ok { OnOk result (DeliversAll R.meaning view.now (shown self.old) (shown self.new)) }
+        ensures err { OnErr result (DeliversShort R.meaning view.now (shown self.old) (shown self.new)) }
+    {
+        self.calm_round(view)?;
+        self.calm_round(view)?;
+        self.calm_round(view)?;
+        self.calm_round(view)
+    }
+
+    /// Delivers all that was sent in the view of the member that runs at a node to each member of it (docs/GUARANTEES.md, "A calm view delivers"): four rounds,
+    /// in each of which every other member than the coordinator has a tick, all that it sends by that is delivered to the coordinator, and then each is brought
+    /// level with it, as by `catch_up`. These are events like those that `run` is given. Answers true then, and each member has delivered all messages that were
+    /// sent in the view, in one order, and knows all of them to be stable.
+    ///
+    /// Answers false, and does nothing, unless all members of the view run in it and are not blocked, and numbers of its order are left. Answers an error (7)
+    /// where the places of a step are refused, which is then not begun, and where memory is refused to one of the view in a step, by which it crashes; the
+    /// steps before it are carried out.
+    pub fn deliver_all(&mut self, node: Node) -> Result<bool, AllocError>
+        // It answers whether the view is calm; where it is not, nothing is done.
+        ensures answer { IfOk result (λ b. b ≡ is_some (calm_at (shown self.old).node_states node)) }
+        ensures nothing { result ≡ Ok false → shown self.new ≡ shown self.old }
+        // Else these steps are played, at most 4,928, and all is delivered at all, and known to be stable.
+        ensures plays { OnOk result (ForSome (calm_at (shown self.old).node_states node) (λ v. DeliversAll R.meaning v (shown self.old) (shown self.new))) }
+        ensures brief { OnOk result (length self.new.history.events ≤ length self.old.history.events + 4928) }
+        ensures through { OnOk result (ForSome (calm_at (shown self.old).node_states node) (λ v. IsThrough v (shown self.new))) }
+        // Or a beginning of them.
+        ensures stops { OnErr result (IsSomeAnd (calm_at (shown self.old).node_states node) (λ v. DeliversShort R.meaning v (shown self.old) (shown self.new))) }
+        // What was there is the beginning of what is there. It is a deployment that was played, all rules hold, copies agree, and members know what the trace says, as after `run`.
+        ensures longer { IsLonger self.old.history self.new.history }
+        ensures deployed { IsPlayed R.meaning world_group (deployment_of (shown self.new).node_states self.new.history.pool self.new.history.trace) }
+        ensures faithful { IsFaithful self.new.history }
+        ensures ordered { EachPlace IsWellOrdered self.new.history.trace }
+        ensures synchronous { IsVirtuallySynchronous R.meaning self.new.history.trace }
+        ensures agreeing { EachPlace (ReplicasAgree R.meaning) self.new.history.trace }
+        ensures known { MembersKnow R.meaning (shown self.new) }
+    {
+        let Some(view) = calm_view(&self.node_states, node) else {
+            self.kept();
+            return Ok(false);
+        };
+        let _members = view.members();
+        if let Err(refused) = self.four_rounds(&view) {
+            self.kept();
+            return Err(refused);
+        }
+        self.kept();
+        Ok(true)
+    }
+}
