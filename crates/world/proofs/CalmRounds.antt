@@ -13,7 +13,7 @@ use Rattle.address.proofs.SameIds.{same_address-refl, same_address-true}
 use Rattle.view.specs.Members.{View, stands_in, is_distinct}
 use Rattle.view.specs.View.{view_refusal, begins_with}
 use Rattle.view.specs.declared.ViewError.TheVariants as errors
-use Rattle.view.proofs.MembersListed.{coordinator-in}
+use Rattle.view.proofs.MembersListed.{coordinator-in, all-by as listed-by}
 use Rattle.state_transfer.specs.Meanings.{Meaning}
 use Rattle.trace_props.specs.declared.event.Numbered.{Numbered}
 use Rattle.trace_props.specs.Observed.{delivered_in, sent_in, own}
@@ -41,7 +41,7 @@ use Rattle.world.specs.declared.node_state.NodeState.TheVariants.{Vacant, Ended,
 use Rattle.world.proofs.MembersAtNodes
 use Rattle.world.proofs.PairsCompared
 use Rattle.world.specs.Known.{stable_at}
-use Rattle.world.specs.Calm.{calm_at, calm_of, is_calm, has_numbers, AllSpeak, AllLevel, CalmRound, DeliversAll, IsThrough}
+use Rattle.world.specs.Calm.{calm_at, calm_of, is_calm, has_numbers, AllSpeak, AllLevel, CalmRound, DeliversAll, IsThrough, AllOpen, most_calm_events}
 use Rattle.world.proofs.CatchUpEnds
 use Rattle.world.proofs.CatchUpLevels
 use Rattle.world.proofs.CatchUpStops
@@ -70,14 +70,6 @@ view-parts id list e = by (nat_eq (length list) 0) (nat_lt MEMBERS (length list)
 some-there : (q : Address) (acks : List Ack) → stands_in q (members_of acks) ≡ true → nat_eq (length acks) 0 ≡ false
 some-there q [] e = absurd (let bad : false ≡ true = e in cc)
 some-there q (a ∷ acks) e = grind (arith, nat_tests)
-
-list-at : (test : Address → Bool) (list : List Address) (q : Address) → list_all test list ≡ true → stands_in q list ≡ true → test q ≡ true
-list-at test [] q all there = absurd (let bad : false ≡ true = there in cc)
-list-at test (p ∷ list) q all there = by (same_address q p) refl there (list-at test list q (and_parts (test p) (list_all test list) all).1)
-  where
-    by : (b : Bool) → same_address q p ≡ b → (b || stands_in q list) ≡ true → (stands_in q list ≡ true → test q ≡ true) → test q ≡ true
-    by true e x later = ap test (same_address-true q p e) ∙ (and_parts (test p) (list_all test list) all).0
-    by false e x later = later x
 
 module _ {S : Type 0} (meaning : Meaning S) (laws : KeepBySteps.Laws meaning) where
   abbrev pub Group : WorldModel S → Address → MemberState S → Coordinator → Type 0
@@ -432,14 +424,6 @@ module _ {S : Type 0} (meaning : Meaning S) (laws : KeepBySteps.Laws meaning) wh
     count-c : length (delivered_in v.id.creator v.id w.history.trace) ≡ k.window.delivered
     count-c = ap (λ (p : Address). length (delivered_in p v.id w.history.trace)) creator ∙ ap (λ (u : View). length (delivered_in c u.id w.history.trace)) (sym view-is) ∙ (Facts w c x.after k x.group).delivered
 
-    opened-by : (q : Address) → stands_in q v.members ≡ true → (b : Bool) → same_address q c ≡ b → is_open_in q v.id (w.node_states q.node) ≡ true
-    opened-by q there true e =
-        subst (λ (z : Address). is_open_in z v.id (w.node_states z.node) ≡ true) (sym (same_address-true q c e))
-        (CatchUpStops.open-run meaning w c x.after (kinds.Coordinator k) v.id x.group.first (ap (λ (u : View). u.id) view-is))
-    opened-by q there false e =
-        let a = x.group.others q (listed q there) e in
-        CatchUpStops.open-run meaning w q a.member_state (kinds.Follower a.follows) v.id a.runs (ap (λ (u : View). u.id) (a.view ∙ view-is))
-
     level-by : (q : Address) → stands_in q v.members ≡ true → (b : Bool) → same_address q c ≡ b → delivered_in q v.id w.history.trace ≡ delivered_in v.id.creator v.id w.history.trace
     level-by q there true e = ap (λ (p : Address). delivered_in p v.id w.history.trace) (same_address-true q c e ∙ sym creator)
     level-by q there false e =
@@ -481,7 +465,7 @@ module _ {S : Type 0} (meaning : Meaning S) (laws : KeepBySteps.Laws meaning) wh
 
     pub is-through : IsThrough v w
     is-through = record {
-      opened = λ q there. opened-by q there (same_address q c) refl;
+      opened = subst (λ (u : View). AllOpen u w) view-is (Groups.group-open meaning laws w c x.after k x.group);
       level = λ q there. level-by q there (same_address q c) refl;
       all = all-by;
       stable = λ q there. stable-by q there (same_address q c) refl;
@@ -489,13 +473,13 @@ module _ {S : Type 0} (meaning : Meaning S) (laws : KeepBySteps.Laws meaning) wh
 
   -- ---- how it begins
 
-  record IsCalm (w : WorldModel S) (n : ℕ) (v : View) : Type 0 where
-    member : MemberModel S
-    node_state : w.node_states n ≡ Running member
-    opens : open_view (Running member) ≡ Some v
-    calm : is_calm w.node_states v ≡ true
+  pub record IsCalm (w : WorldModel S) (n : ℕ) (v : View) : Type 0 where
+    pub member : MemberModel S
+    pub node_state : w.node_states n ≡ Running member
+    pub opens : open_view (Running member) ≡ Some v
+    pub calm : is_calm w.node_states v ≡ true
 
-  calm-is : (w : WorldModel S) (n : ℕ) (v : View) → calm_at w.node_states n ≡ Some v → IsCalm w n v
+  pub calm-is : (w : WorldModel S) (n : ℕ) (v : View) → calm_at w.node_states n ≡ Some v → IsCalm w n v
   calm-is w n v at = by (w.node_states n) refl at
     where
       chosen : (m : MemberModel S) (u : View) → w.node_states n ≡ Running m → open_view (Running m) ≡ Some u → (b : Bool) → is_calm w.node_states u ≡ b → cond b (Some u) None ≡ Some v → IsCalm w n v
@@ -518,11 +502,11 @@ module _ {S : Type 0} (meaning : Meaning S) (laws : KeepBySteps.Laws meaning) wh
     view : view_of view_state ≡ v
     orderly : IsOrderly q view_state
 
-  record Leads (w : WorldModel S) (v : View) (c : Address) : Type 0 where
-    member_state : MemberState S
-    leads : Coordinator
-    runs : RunsAs w c member_state (kinds.Coordinator leads)
-    view : leads.view ≡ v
+  pub record Leads (w : WorldModel S) (v : View) (c : Address) : Type 0 where
+    pub member_state : MemberState S
+    pub leads : Coordinator
+    pub runs : RunsAs w c member_state (kinds.Coordinator leads)
+    pub view : leads.view ≡ v
 
   module _ (w : WorldModel S) (n : ℕ) (v : View) (keeps : IsWorld meaning w.node_states w.history) (sound : view_refusal v.id v.members ≡ None) (x : IsCalm w n v) where
     parts : (list_all (λ (q : Address). is_open_in q v.id (w.node_states q.node)) v.members ≡ true) × (has_numbers (w.node_states v.id.creator.node) ≡ true)
@@ -536,7 +520,7 @@ module _ {S : Type 0} (meaning : Meaning S) (laws : KeepBySteps.Laws meaning) wh
 
     in-view-of : (q : Address) → stands_in q v.members ≡ true → InView w v q
     in-view-of q there =
-        let o = CatchUpEnds.open-in q v.id (w.node_states q.node) (list-at (λ (p : Address). is_open_in p v.id (w.node_states p.node)) v.members q parts.0 there) in
+        let o = CatchUpEnds.open-in q v.id (w.node_states q.node) (listed-by (λ (p : Address). is_open_in p v.id (w.node_states p.node)) v.members q parts.0 there) in
         let z = CatchUpEnds.open-is o.member o.view o.opens in
         let r = CatchUpEnds.runs-open meaning laws w q.node q o.member o.view keeps o.node_state o.address z in
         let same : o.view ≡ v = PairsCompared.one-view meaning (system_of w.node_states w.history.pool w.history.trace) (MembersAtNodes.agreed meaning laws w.node_states w.history keeps).agreed
@@ -563,10 +547,10 @@ module _ {S : Type 0} (meaning : Meaning S) (laws : KeepBySteps.Laws meaning) wh
         let bad : true ≡ false = sym o.0.coordinator ∙ ap (λ (u : View). same_address q u.id.creator) same ∙ other in
         absurd cc
 
-    leader : Leads w v v.id.creator
+    pub leader : Leads w v v.id.creator
     leader = let y = in-view-of v.id.creator (coordinator-in v.id v.members sound) in leads-by y.member_state y.view_state y.runs y.view y.orderly
 
-    group-of : Group w v.id.creator leader.member_state leader.leads
+    pub group-of : Group w v.id.creator leader.member_state leader.leads
     group-of = record {
       keeps = keeps;
       first = leader.runs;
@@ -588,7 +572,7 @@ module _ {S : Type 0} (meaning : Meaning S) (laws : KeepBySteps.Laws meaning) wh
         omega (arith, low, reach)
 
   -- by so few events
-  pub brief-rounds : (old new : WorldModel S) (c : Address) (l : MemberState S) (k : Coordinator) → Group old c l k → DeliversAll meaning k.view old new → length new.history.events ≤ length old.history.events + 4928
+  pub brief-rounds : (old new : WorldModel S) (c : Address) (l : MemberState S) (k : Coordinator) → Group old c l k → DeliversAll meaning k.view old new → length new.history.events ≤ length old.history.events + most_calm_events
   brief-rounds old new c l k g x =
       let sent = SentBy old k.view.id in
       let r1 = round-on old x.one c l k k g refl sent (λ p there. refl) x.first in
@@ -609,7 +593,7 @@ module _ {S : Type 0} (meaning : Meaning S) (laws : KeepBySteps.Laws meaning) wh
       omega (arith, b1, b2, b3, b4, n1, n2, n3, few)
 
   pub calm-is-brief : (old new : WorldModel S) (n : ℕ) (v : View) → view_refusal v.id v.members ≡ None → IsWorld meaning old.node_states old.history → calm_at old.node_states n ≡ Some v → DeliversAll meaning v old new
-      → length new.history.events ≤ length old.history.events + 4928
+      → length new.history.events ≤ length old.history.events + most_calm_events
   calm-is-brief old new n v sound keeps at x =
       let y = calm-is old n v at in
       let l = leader old n v keeps sound y in

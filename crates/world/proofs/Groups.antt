@@ -38,7 +38,10 @@ use Rattle.member_rules.specs.Ordered.{IsOrderly}
 use Rattle.world.specs.Invariant.{IsWorld}
 use Rattle.world.specs.Turns.{OthersStand}
 use Rattle.world.specs.Worlds.{WorldModel}
+use Rattle.world.specs.Gaps.{is_open_in}
+use Rattle.world.specs.Calm.{AllOpen}
 use Rattle.world.proofs.CatchUpLevels
+use Rattle.world.proofs.CatchUpStops.{open-run}
 use Rattle.world.proofs.FewOutstanding
 use Rattle.world.proofs.MembersAtNodes
 use Rattle.world.proofs.MembersAsSystem.{system_of}
@@ -138,6 +141,15 @@ module _ {S : Type 0} (meaning : Meaning S) (laws : KeepBySteps.Laws meaning) wh
         runs = RepliesPlayed.runs-still meaning old p a.member_state (kinds.Follower a.follows) a.runs new q (Standing.nodes-apart meaning old q p lq a.member_state before.stands a.runs.stands is) stand;
         view = a.view;
       }
+
+  -- all of them are open in the view
+  pub group-open : (w : WorldModel S) (c : Address) (l : MemberState S) (k : Coordinator) → Group w c l k → AllOpen k.view w
+  group-open w c l k g q there = by (same_address q c) refl
+    where
+      by : (b : Bool) → same_address q c ≡ b → is_open_in q k.view.id (w.node_states q.node) ≡ true
+      by true e =
+          subst (λ (z : Address). is_open_in z k.view.id (w.node_states z.node) ≡ true) (sym (same_address-true q c e)) (open-run meaning w c l (kinds.Coordinator k) k.view.id g.first refl)
+      by false e = let a = g.others q there e in open-run meaning w q a.member_state (kinds.Follower a.follows) k.view.id a.runs (ap (λ (v : View). v.id) a.view)
 
   -- ---- what holds of the coordinator between its steps
 

@@ -234,15 +234,56 @@ module _ {S : Type 0} (meaning : Meaning S) (laws : KeepBySteps.Laws meaning) wh
   Among fs rest = (j : ℕ) (f : Numbered) → slice_get fs j ≡ Some f → (i : ℕ) × (slice_get rest i ≡ Some f)
 
   module _ (c q : Address) (lq : MemberState S) (kq : Follower) (other : same_address q c ≡ false) (few : length kq.forwards.rest ≤ OUTSTANDING) where
+    -- it heard a FORWARD, and the rest comes next
+    pub record Begun (w mid : WorldModel S) (past : ℕ) (k : Coordinator) (f : Numbered) (fs : List Numbered) : Type 0 where
+      pub goes : GoesOn w mid c k
+      pub covered : Covered q f.number goes.now.orderer.queues
+      pub listed : stands_in q goes.now.view.members ≡ true
+      pub still : RunsAs mid q lq (kinds.Follower kq)
+      pub same : kq.view ≡ goes.now.view
+      pub sound : EachSound world_group (told_packets q goes.now.view fs kq.window.delivered)
+      pub next : AreNext (past + 1) (told_packets q goes.now.view fs kq.window.delivered) mid.history.pool
+
+    module _ (past : ℕ) (w : WorldModel S) (l : MemberState S) (k : Coordinator) (g : Group w c l k) (there : stands_in q k.view.members ≡ true) (r : RunsAs w q lq (kinds.Follower kq)) (same : kq.view ≡ k.view) where
+      -- the ACK, behind all FORWARDs
+      abbrev pub last_packet : Posted
+      last_packet = packet q (bodies.Ack k.view.id kq.window.delivered) k.view.id.creator
+
+      pub last-for : EachSound world_group (told_packets q k.view [] kq.window.delivered) → AreNext past (told_packets q k.view [] kq.window.delivered) w.history.pool → Standing.IsFor meaning w (past + 1) c last_packet
+      last-for sound next = record { there = next-first past last_packet [] w.history.pool next; sound = sound.0; goes = g.own; other = other }
+
+      module _ (f : Numbered) (fs : List Numbered) (sound : EachSound world_group (told_packets q k.view (f ∷ fs) kq.window.delivered)) (next : AreNext past (told_packets q k.view (f ∷ fs) kq.window.delivered) w.history.pool) where
+        pub forward-for : Standing.IsFor meaning w (past + 1) c (forward_of q k.view f)
+        forward-for = record { there = next-first past (forward_of q k.view f) (told_packets q k.view fs kq.window.delivered) w.history.pool next; sound = sound.0; goes = g.own; other = other }
+
+        pub begun : Among (f ∷ fs) kq.forwards.rest → (mid : WorldModel S) → Plays meaning w (Deliver (past + 1)) mid → Begun w mid past k f fs
+        begun among mid plays =
+            let rest = told_packets q k.view fs kq.window.delivered in
+            let h = CatchUpLevels.sure meaning laws (lacks_memory plays.step.answer) plays.whole (Standing.heard meaning laws w mid g.keeps (past + 1) c l g.first.stands (forward_of q k.view f) forward-for plays.step) in
+            let keeps = KeepOfWorlds.step-keeps meaning laws w mid (Deliver (past + 1)) plays.step g.keeps in
+            let here = among 0 f refl in
+            let near = Groups.near meaning laws w c l k g q there other lq kq r same few here.0 f here.1 in
+            let o = forward-heard w mid c l k g keeps q there f.number f.payload near (subst (λ (p : Address). Standing.Heard meaning w mid c l (packet q (bodies.Forward k.view.id f.number f.payload) p)) g.own h) in
+            let view = o.0.further.view in
+            record {
+              goes = o.0;
+              covered = o.1;
+              listed = ap (λ (v : View). stands_in q v.members) view ∙ there;
+              still = RepliesPlayed.runs-still meaning w q lq (kinds.Follower kq) r mid c (Standing.nodes-apart meaning w c q l lq g.first.stands r.stands other) o.0.others;
+              same = same ∙ sym view;
+              sound = subst (λ (v : View). EachSound world_group (told_packets q v fs kq.window.delivered)) (sym view) sound.1;
+              next = subst (λ (v : View). AreNext (past + 1) (told_packets q v fs kq.window.delivered) mid.history.pool) (sym view)
+                  (subst (AreNext (past + 1) rest) (sym o.0.puts) (next-rest past (forward_of q k.view f) rest w.history.pool o.0.more next));
+            }
+
     pub hear-all : (fs : List Numbered) (past : ℕ) (w new : WorldModel S) (l : MemberState S) (k : Coordinator) → Group w c l k → stands_in q k.view.members ≡ true → RunsAs w q lq (kinds.Follower kq) → kq.view ≡ k.view
         → Among fs kq.forwards.rest → EachSound world_group (told_packets q k.view fs kq.window.delivered) → AreNext past (told_packets q k.view fs kq.window.delivered) w.history.pool
         → Delivers meaning past (length (told_packets q k.view fs kq.window.delivered)) w new → HeardAll w new c k q fs kq.window.delivered
     hear-all [] past w new l k g there r same among sound next all =
-        let m = packet q (bodies.Ack k.view.id kq.window.delivered) k.view.id.creator in
         let d = delivers-next meaning past 1 0 w new refl all in
         let is : new ≡ d.mid = delivers-none meaning (past + 1) 0 d.mid new refl d.rest in
-        let f : Standing.IsFor meaning w (past + 1) c m = record { there = next-first past m [] w.history.pool next; sound = sound.0; goes = g.own; other = other } in
-        let h = CatchUpLevels.sure meaning laws (lacks_memory d.plays.step.answer) d.plays.whole (Standing.heard meaning laws w d.mid g.keeps (past + 1) c l g.first.stands m f d.plays.step) in
+        let h = CatchUpLevels.sure meaning laws (lacks_memory d.plays.step.answer) d.plays.whole
+        (Standing.heard meaning laws w d.mid g.keeps (past + 1) c l g.first.stands (last_packet past w l k g there r same) (last-for past w l k g there r same sound next) d.plays.step) in
         let keeps = KeepOfWorlds.step-keeps meaning laws w d.mid (Deliver (past + 1)) d.plays.step g.keeps in
         let low : kq.window.delivered ≤ k.window.delivered = (CatchUpLevels.numbers meaning laws w c q l lq k kq (record { keeps = g.keeps; first = g.first; other = r; own = g.own; same = same; apart = other })).top in
         let o = ack-heard w d.mid c l k g keeps q there kq.window.delivered low (subst (λ (p : Address). Standing.Heard meaning w d.mid c l (packet q (bodies.Ack k.view.id kq.window.delivered) p)) g.own h) in
@@ -256,30 +297,18 @@ module _ {S : Type 0} (meaning : Meaning S) (laws : KeepBySteps.Laws meaning) wh
           acked = o.1;
         })
     hear-all (f ∷ fs) past w new l k g there r same among sound next all =
-        let m = forward_of q k.view f in
         let rest = told_packets q k.view fs kq.window.delivered in
-        let d = delivers-next meaning past (length (m ∷ rest)) (length rest) w new refl all in
-        let i : Standing.IsFor meaning w (past + 1) c m = record { there = next-first past m rest w.history.pool next; sound = sound.0; goes = g.own; other = other } in
-        let h = CatchUpLevels.sure meaning laws (lacks_memory d.plays.step.answer) d.plays.whole (Standing.heard meaning laws w d.mid g.keeps (past + 1) c l g.first.stands m i d.plays.step) in
-        let keeps = KeepOfWorlds.step-keeps meaning laws w d.mid (Deliver (past + 1)) d.plays.step g.keeps in
-        let here = among 0 f refl in
-        let near = Groups.near meaning laws w c l k g q there other lq kq r same few here.0 f here.1 in
-        let o = forward-heard w d.mid c l k g keeps q there f.number f.payload near (subst (λ (p : Address). Standing.Heard meaning w d.mid c l (packet q (bodies.Forward k.view.id f.number f.payload) p)) g.own h) in
-        let view = o.0.further.view in
-        let still : RunsAs d.mid q lq (kinds.Follower kq) = RepliesPlayed.runs-still meaning w q lq (kinds.Follower kq) r d.mid c
-        (Standing.nodes-apart meaning w c q l lq g.first.stands r.stands other) o.0.others in
-        let y = hear-all fs (past + 1) d.mid new o.0.after o.0.now o.0.group (ap (λ (v : View). stands_in q v.members) view ∙ there) still (same ∙ sym view) (λ j e at. among (suc j) e at)
-        (subst (λ (v : View). EachSound world_group (told_packets q v fs kq.window.delivered)) (sym view) sound.1)
-        (subst (λ (v : View). AreNext (past + 1) (told_packets q v fs kq.window.delivered) d.mid.history.pool) (sym view)
-        (subst (AreNext (past + 1) rest) (sym o.0.puts) (next-rest past m rest w.history.pool o.0.more next)))
-        (subst (λ (v : View). Delivers meaning (past + 1) (length (told_packets q v fs kq.window.delivered)) d.mid new) (sym view) d.rest) in
+        let d = delivers-next meaning past (length (forward_of q k.view f ∷ rest)) (length rest) w new refl all in
+        let b = begun past w l k g there r same f fs sound next among d.mid d.plays in
+        let y = hear-all fs (past + 1) d.mid new b.goes.after b.goes.now b.goes.group b.listed b.still b.same (λ j e at. among (suc j) e at) b.sound b.next
+        (subst (λ (v : View). Delivers meaning (past + 1) (length (told_packets q v fs kq.window.delivered)) d.mid new) (sym b.goes.further.view) d.rest) in
         record {
           after = y.after;
           now = y.now;
           group = y.group;
-          further = further-then k o.0.now y.now o.0.further y.further;
-          others = λ n apart. y.others n apart ∙ o.0.others n apart;
-          covered = each-covered q f fs y.now.orderer.queues (y.further.covered q f.number o.1) y.covered;
+          further = further-then k b.goes.now y.now b.goes.further y.further;
+          others = λ n apart. y.others n apart ∙ b.goes.others n apart;
+          covered = each-covered q f fs y.now.orderer.queues (y.further.covered q f.number b.covered) y.covered;
           acked = y.acked;
         }
 
@@ -299,18 +328,40 @@ module _ {S : Type 0} (meaning : Meaning S) (laws : KeepBySteps.Laws meaning) wh
     pub acked : kq.window.delivered ≤ count_of q now.acks
     pub brief : length new.history.events ≤ length old.history.events + 10
 
+  -- it ticked, and all that it put out by that is for the coordinator
+  pub record Ready (old told : WorldModel S) (c : Address) (l : MemberState S) (k : Coordinator) (q : Address) (lq : MemberState S) (kq : Follower) : Type 0 where
+    pub runs : RunsAs told q lq (kinds.Follower kq)
+    pub others : OthersStand q.node old.node_states told.node_states
+    pub group : Group told c l k
+    pub few : length kq.forwards.rest ≤ OUTSTANDING
+    pub many : length told.history.pool - length old.history.pool ≡ length (told_packets q k.view kq.forwards.rest kq.window.delivered)
+    pub sound : EachSound world_group (told_packets q k.view kq.forwards.rest kq.window.delivered)
+    pub next : AreNext (length old.history.pool) (told_packets q k.view kq.forwards.rest kq.window.delivered) told.history.pool
+
+  pub ready : (old told : WorldModel S) (c : Address) (l : MemberState S) (k : Coordinator) → Group old c l k → (q : Address) → same_address q c ≡ false → (lq : MemberState S) (kq : Follower) → RunsAs old q lq (kinds.Follower kq)
+      → kq.view ≡ k.view → Plays meaning old (Tick q.node) told → Ready old told c l k q lq kq
+  ready old told c l k g q other lq kq r same ticks =
+      let t = told-by old told q lq kq k.view r same ticks in
+      let keeps = KeepOfWorlds.step-keeps meaning laws old told (Tick q.node) ticks.step g.keeps in
+      let posted = told_packets q k.view kq.forwards.rest kq.window.delivered in
+      record {
+        runs = t.runs;
+        others = t.others;
+        group = Groups.other-moves meaning laws old told c l k g keeps q other lq lq kq kq r t.runs same t.others;
+        few = Groups.few-outstanding meaning laws told q lq (kinds.Follower kq) keeps t.runs;
+        many = CatchUpLevels.some-more meaning laws told.history.pool old.history.pool posted t.puts;
+        sound = t.sound;
+        next = subst (AreNext (length old.history.pool) posted) (sym t.puts) (put-next old.history.pool posted);
+      }
+
   pub spoke : (old new : WorldModel S) (c : Address) (l : MemberState S) (k : Coordinator) → Group old c l k → (q : Address) → stands_in q k.view.members ≡ true → same_address q c ≡ false → (lq : MemberState S) (kq : Follower)
       → RunsAs old q lq (kinds.Follower kq) → kq.view ≡ k.view → Speaks meaning q old new → SpokeOnce old new c k q lq kq
   spoke old new c l k g q there other lq kq r same x =
-      let t = told-by old x.told q lq kq k.view r same x.ticks in
-      let keeps = KeepOfWorlds.step-keeps meaning laws old x.told (Tick q.node) x.ticks.step g.keeps in
+      let t = ready old x.told c l k g q other lq kq r same x.ticks in
       let posted = told_packets q k.view kq.forwards.rest kq.window.delivered in
-      let many : length x.told.history.pool - length old.history.pool ≡ length posted = CatchUpLevels.some-more meaning laws x.told.history.pool old.history.pool posted t.puts in
-      let few = Groups.few-outstanding meaning laws x.told q lq (kinds.Follower kq) keeps t.runs in
-      let g1 = Groups.other-moves meaning laws old x.told c l k g keeps q other lq lq kq kq r t.runs same t.others in
-      let y = hear-all c q lq kq other few kq.forwards.rest (length old.history.pool) x.told new l k g1 there t.runs same (λ j f at. (j, at)) t.sound
-      (subst (AreNext (length old.history.pool) posted) (sym t.puts) (put-next old.history.pool posted)) (subst (λ (n : ℕ). Delivers meaning (length old.history.pool) n x.told new) many x.heard) in
-      let runs : RunsAs new q lq (kinds.Follower kq) = RepliesPlayed.runs-still meaning x.told q lq (kinds.Follower kq) t.runs new c (Standing.nodes-apart meaning x.told c q l lq g1.first.stands t.runs.stands other) y.others in
+      let all : Delivers meaning (length old.history.pool) (length posted) x.told new = subst (λ (n : ℕ). Delivers meaning (length old.history.pool) n x.told new) t.many x.heard in
+      let y = hear-all c q lq kq other t.few kq.forwards.rest (length old.history.pool) x.told new l k t.group there t.runs same (λ j f at. (j, at)) t.sound t.next all in
+      let runs : RunsAs new q lq (kinds.Follower kq) = RepliesPlayed.runs-still meaning x.told q lq (kinds.Follower kq) t.runs new c (Standing.nodes-apart meaning x.told c q l lq t.group.first.stands t.runs.stands other) y.others in
       let there_now : stands_in q y.now.view.members ≡ true = ap (λ (v : View). stands_in q v.members) y.further.view ∙ there in
       let same_now : kq.view ≡ y.now.view = same ∙ sym y.further.view in
       record {
@@ -325,9 +376,10 @@ module _ {S : Type 0} (meaning : Meaning S) (laws : KeepBySteps.Laws meaning) wh
         acked = y.acked;
         brief = (
             let one = adds meaning old x.told (Tick q.node) x.ticks in
-            let all = adds-all meaning (length old.history.pool) (length posted) x.told new (subst (λ (n : ℕ). Delivers meaning (length old.history.pool) n x.told new) many x.heard) in
+            let more = adds-all meaning (length old.history.pool) (length posted) x.told new all in
+            let few = t.few in
             let e : length posted ≡ length kq.forwards.rest + 1 = length-append (map (forward_of q k.view) kq.forwards.rest) _ ∙ ap (λ (n : ℕ). n + 1) (length-map kq.forwards.rest (forward_of q k.view)) in
-            omega (arith, one, all, e, few));
+            omega (arith, one, more, e, few));
       }
     where
       covers : (l : MemberState S) (k : Coordinator) (g : Group new c l k) (there : stands_in q k.view.members ≡ true) (r : RunsAs new q lq (kinds.Follower kq)) (same : kq.view ≡ k.view)

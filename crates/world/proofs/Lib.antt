@@ -61,6 +61,8 @@ pub mod StableEverywhere
 pub mod RepliesPlayed
 pub mod CatchUpLevels
 pub mod CatchUpEnds
+pub mod EventsCounted
+pub mod BroughtLevel
 pub mod CatchUpStops
 pub mod PairsAreOpen
 pub mod CatchUpIsRun
@@ -69,8 +71,9 @@ pub mod Covered
 pub mod GoesFurther
 pub mod FewOutstanding
 pub mod Groups
-pub mod EventsCounted
 pub mod HearsAll
 pub mod LevelsMore
 pub mod CalmIsRun
 pub mod CalmRounds
+pub mod CalmStops
+pub mod CalmIsTold

@@ -1,5 +1,5 @@
 -- A calm view delivers: which view it is about, which events it plays, and what it comes to.
-use Rattle.std.specs.Prelude.{◌≡◌, ℕ, ◌+◌, ◌-◌, ◌*◌, ◌≤◌, Bool, true, false, ◌&&◌, nat_lt, List, [], ◌∷◌, ◌++◌, length, take, slice_get, Option, None, Some, MatchBool, if◌then◌else◌}
+use Rattle.std.specs.Prelude.{◌≡◌, ℕ, ◌+◌, ◌-◌, ◌*◌, ◌≤◌, ◌⊎◌, Bool, true, false, ◌&&◌, nat_lt, List, [], ◌∷◌, ◌++◌, length, take, slice_get, Option, None, Some, MatchBool, if◌then◌else◌}
 use Rattle.std.specs.List.{list_all}
 use Rattle.std.specs.Option.{option_map_or, option_and_then}
 use Rattle.address.specs.declared.limits.TheConstants.{WINDOW, MEMBERS, OUTSTANDING, GREATEST_NUMBER}
@@ -7,6 +7,7 @@ use Rattle.address.specs.Ids.{Address, ViewId, same_address}
 use Rattle.view.specs.Members.{View, stands_in}
 use Rattle.view.specs.View.{view_refusal}
 use Rattle.state_transfer.specs.Meanings.{Meaning}
+use Rattle.trace_props.specs.declared.event.Event.{Event}
 use Rattle.trace_props.specs.Observed.{delivered_in, sent_in, own}
 use Rattle.member.specs.Members.{core_of}
 use Rattle.world_model.specs.declared.WorldEvent.TheVariants.{Tick}
@@ -15,8 +16,9 @@ use Rattle.world.specs.declared.node_state.NodeState.{NodeState}
 use Rattle.world.specs.declared.node_state.NodeState.TheVariants.{Vacant, Ended, Running}
 use Rattle.world.specs.Worlds.{WorldModel, IsReached}
 use Rattle.world.specs.Plays.{Plays, Fails, DeliversPast, BreaksPast}
-use Rattle.world.specs.Gaps.{open_view, is_open_in, CatchesUp, Stops}
-use Rattle.world.specs.Known.{stable_at}
+use Rattle.world.specs.Gaps.{open_view, is_open_in, runs_open_in, CatchesUp, Stops}
+use Rattle.world.specs.Known.{stable_at, view_at}
+use Rattle.world.specs.Settles.{LosesMember}
 
 -- ---- which view
 
@@ -36,6 +38,16 @@ calm_of at v = if is_calm at v then Some v else None
 -- the view in which the member that runs at a node is, if it is such a one
 abbrev pub calm_at : {S : Type 0} → (ℕ → NodeState S) → ℕ → Option View
 calm_at at n = option_and_then (calm_of at) (open_view (at n))
+
+-- ---- the same, as the trace says
+
+-- whether all members of a view run in it, and are not blocked
+abbrev pub all_open_in : View → List Event → Bool
+all_open_in v t = list_all (λ q. runs_open_in q v.id t) v.members
+
+-- whether that holds of the view of the member that runs at a node, and numbers are left, as the coordinator knows
+abbrev pub has_calm_view : {S : Type 0} → ℕ → WorldModel S → Bool
+has_calm_view n w = option_map_or (λ v. all_open_in v w.history.trace && has_numbers (w.node_states v.id.creator.node)) (view_at n w.history.trace) false
 
 -- ---- what it plays
 
@@ -113,14 +125,26 @@ module _ {S : Type 0} (meaning : Meaning S) where
 
 -- ---- what it comes to
 
+-- all members of a view run in it, and are not blocked
+abbrev pub AllOpen : {S : Type 0} → View → WorldModel S → Type 0
+AllOpen v w = (q : Address) → stands_in q v.members ≡ true → is_open_in q v.id (w.node_states q.node) ≡ true
+
+-- after an error: one of the view's members has crashed at last, or all are open in it
+abbrev pub EndsDelivering : {S : Type 0} → View → WorldModel S → Type 0
+EndsDelivering v w = LosesMember v w ⊎ AllOpen v w
+
 -- all members of a view run in it, not blocked; each has delivered what its coordinator has, which is all that each sent there; and each knows all of it to be stable
 pub record IsThrough {S : Type 0} (v : View) (w : WorldModel S) : Type 0 where
-  pub opened : (q : Address) → stands_in q v.members ≡ true → is_open_in q v.id (w.node_states q.node) ≡ true
+  pub opened : AllOpen v w
   pub level : (q : Address) → stands_in q v.members ≡ true → delivered_in q v.id w.history.trace ≡ delivered_in v.id.creator v.id w.history.trace
   pub all : (q : Address) → stands_in q v.members ≡ true → own q (delivered_in v.id.creator v.id w.history.trace) ≡ sent_in q v.id w.history.trace
   pub stable : (q : Address) → stands_in q v.members ≡ true → stable_at (w.node_states q.node) ≡ Some (length (delivered_in v.id.creator v.id w.history.trace))
 
 -- ---- the law
+
+-- so many events at most: in each of four rounds each member has a tick, its messages that are outstanding and an ACK, then a tick, a STATUS, a NAK and a window of ORDERs
+abbrev pub most_calm_events : ℕ
+most_calm_events = 4 * (MEMBERS * (2 + OUTSTANDING + (3 + WINDOW)))
 
 -- in every world a calm view delivers
 abbrev pub CalmViewsDeliver : {S : Type 0} → Meaning S → Type 0
@@ -129,4 +153,8 @@ CalmViewsDeliver {S} meaning = (old new : WorldModel S) (n : ℕ) (v : View) →
 -- by so few events
 abbrev pub CalmViewsAreBrief : {S : Type 0} → Meaning S → Type 0
 CalmViewsAreBrief {S} meaning = (old new : WorldModel S) (n : ℕ) (v : View) → view_refusal v.id v.members ≡ None → IsReached meaning old → calm_at old.node_states n ≡ Some v → DeliversAll meaning v old new
-    → length new.history.events ≤ length old.history.events + 4928
+    → length new.history.events ≤ length old.history.events + most_calm_events
+
+-- rounds that end in an error leave all members of the view open in it, or one of them has crashed
+abbrev pub CalmRoundsEnd : {S : Type 0} → Meaning S → Type 0
+CalmRoundsEnd {S} meaning = (old new : WorldModel S) (n : ℕ) (v : View) → view_refusal v.id v.members ≡ None → IsReached meaning old → calm_at old.node_states n ≡ Some v → DeliversShort meaning v old new → EndsDelivering v new

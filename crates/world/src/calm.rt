@@ -15,7 +15,7 @@ ghost use Rattle.world.specs.NodeStates.{deployment_of, node_states_in};
 ghost use Rattle.world.specs.Worlds.{shown, IsLonger};
 ghost use Rattle.world.specs.Known.{MembersKnow};
 ghost use Rattle.world.specs.Gaps.{is_open_in};
-ghost use Rattle.world.specs.Calm.{has_numbers, is_calm, calm_at, Speaks, AllSpeak, AllLevel, CalmRound, DeliversAll, IsThrough, SpeaksShort, AllSpeakShort, AllLevelShort, RoundShort, DeliversShort};
+ghost use Rattle.world.specs.Calm.{has_numbers, is_calm, calm_at, Speaks, AllSpeak, AllLevel, CalmRound, DeliversAll, IsThrough, most_calm_events, has_calm_view, EndsDelivering, SpeaksShort, AllSpeakShort, AllLevelShort, RoundShort, DeliversShort};
 
 use crate::gaps::{Pair, is_open_in};
 use crate::{NodeState, World};
@@ -178,15 +178,17 @@ impl<R: Receiver> World<R> {
     /// where the places of a step are refused, which is then not begun, and where memory is refused to one of the view in a step, by which it crashes; the
     /// steps before it are carried out.
     pub fn deliver_all(&mut self, node: Node) -> Result<bool, AllocError>
-        // It answers whether the view is calm; where it is not, nothing is done.
+        // It answers whether the view is calm, which the trace says too, but for the numbers; where it is not, nothing is done.
         ensures answer { IfOk result (λ b. b ≡ is_some (calm_at (shown self.old).node_states node)) }
+        ensures condition { IfOk result (λ b. b ≡ has_calm_view node (shown self.old)) }
         ensures nothing { result ≡ Ok false → shown self.new ≡ shown self.old }
-        // Else these steps are played, at most 4,928, and all is delivered at all, and known to be stable.
+        // Else these steps are played, at most 4,928 events. Then each member has delivered every message that was sent in the view, and knows it to be stable.
         ensures plays { OnOk result (ForSome (calm_at (shown self.old).node_states node) (λ v. DeliversAll R.meaning v (shown self.old) (shown self.new))) }
-        ensures brief { OnOk result (length self.new.history.events ≤ length self.old.history.events + 4928) }
+        ensures brief { OnOk result (length self.new.history.events ≤ length self.old.history.events + most_calm_events) }
         ensures through { OnOk result (ForSome (calm_at (shown self.old).node_states node) (λ v. IsThrough v (shown self.new))) }
-        // Or a beginning of them.
+        // Or a beginning of them is played. Then one of the view's members has crashed for want of memory, or a step was not begun and all are open.
         ensures stops { OnErr result (IsSomeAnd (calm_at (shown self.old).node_states node) (λ v. DeliversShort R.meaning v (shown self.old) (shown self.new))) }
+        ensures ends { OnErr result (IsSomeAnd (calm_at (shown self.old).node_states node) (λ v. EndsDelivering v (shown self.new))) }
         // What was there is the beginning of what is there. It is a deployment that was played, all rules hold, copies agree, and members know what the trace says, as after `run`.
         ensures longer { IsLonger self.old.history self.new.history }
         ensures deployed { IsPlayed R.meaning world_group (deployment_of (shown self.new).node_states self.new.history.pool self.new.history.trace) }
