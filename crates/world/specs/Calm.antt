@@ -1,5 +1,5 @@
 -- A calm view delivers: which view it is about, which events it plays, and what it comes to.
-use Rattle.std.specs.Prelude.{◌≡◌, ℕ, ◌+◌, ◌-◌, ◌*◌, ◌≤◌, ◌⊎◌, Bool, true, false, ◌&&◌, nat_lt, List, [], ◌∷◌, ◌++◌, length, take, slice_get, Option, None, Some, MatchBool, if◌then◌else◌}
+use Rattle.std.specs.Prelude.{◌≡◌, ℕ, ◌+◌, ◌-◌, ◌*◌, ◌≤◌, ◌⊎◌, Bool, true, false, ◌&&◌, nat_eq, nat_lt, List, [], ◌∷◌, ◌++◌, length, take, slice_get, Option, None, Some, MatchBool, if◌then◌else◌}
 use Rattle.std.specs.List.{list_all}
 use Rattle.std.specs.Option.{option_map_or, option_and_then}
 use Rattle.address.specs.declared.limits.TheConstants.{WINDOW, MEMBERS, OUTSTANDING, GREATEST_NUMBER}
@@ -38,6 +38,10 @@ calm_of at v = if is_calm at v then Some v else None
 -- the view in which the member that runs at a node is, if it is such a one
 abbrev pub calm_at : {S : Type 0} → (ℕ → NodeState S) → ℕ → Option View
 calm_at at n = option_and_then (calm_of at) (open_view (at n))
+
+-- whether the member that runs at a node is in a view and not blocked, and the coordinator of that view is of the node
+abbrev pub coordinates : {S : Type 0} → ℕ → NodeState S → Bool
+coordinates n s = option_map_or (λ v. nat_eq v.id.creator.node n) (open_view s) false
 
 -- ---- the same, as the trace says
 

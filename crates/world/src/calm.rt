@@ -15,9 +15,9 @@ ghost use Rattle.world.specs.NodeStates.{deployment_of, node_states_in};
 ghost use Rattle.world.specs.Worlds.{shown, IsLonger};
 ghost use Rattle.world.specs.Known.{MembersKnow};
 ghost use Rattle.world.specs.Gaps.{is_open_in};
-ghost use Rattle.world.specs.Calm.{has_numbers, is_calm, calm_at, Speaks, AllSpeak, AllLevel, CalmRound, DeliversAll, IsThrough, most_calm_events, has_calm_view, EndsDelivering, SpeaksShort, AllSpeakShort, AllLevelShort, RoundShort, DeliversShort};
+ghost use Rattle.world.specs.Calm.{has_numbers, is_calm, calm_at, coordinates, Speaks, AllSpeak, AllLevel, CalmRound, DeliversAll, IsThrough, most_calm_events, has_calm_view, EndsDelivering, SpeaksShort, AllSpeakShort, AllLevelShort, RoundShort, DeliversShort};
 
-use crate::gaps::{Pair, is_open_in};
+use crate::gaps::{Pair, is_open_in, open_view};
 use crate::{NodeState, World};
 use address::limits::{GREATEST_NUMBER, MEMBERS, OUTSTANDING, WINDOW};
 use address::{Address, Node, ViewId};
@@ -106,7 +106,27 @@ pub fn calm_view<R: Receiver>(
     }
 }
 
+/// Whether the member that runs here is not blocked, and the coordinator of its view is of this node.
+fn coordinates<R: Receiver>(node_state: &NodeState<R>, node: Node) -> bool
+    ensures { result ≡ coordinates node node_state.now }
+{
+    match open_view(node_state) {
+        None => false,
+        Some(view) => view.id().creator().node() == node,
+    }
+}
+
 impl<R: Receiver> World<R> {
+    /// Whether the member that runs at a node is the coordinator of its view, and not blocked.
+    pub fn coordinates(&self, node: Node) -> bool
+        ensures { result ≡ coordinates node ((shown self.now).node_states node) }
+    {
+        match self.node_states.get(&node) {
+            None => false,
+            Some(node_state) => coordinates(node_state, node),
+        }
+    }
+
     /// A tick of the member of an address, and a delivery of each packet that it puts out by that.
     fn speak(&mut self, address: Address) -> Result<(), AllocError>
         ensures ok { OnOk result (Speaks R.meaning address (shown self.old) (shown self.new)) }

@@ -33,7 +33,7 @@ pub(crate) struct Pair {
 }
 
 /// The view in which the member that runs here is, and is not blocked.
-fn open_view<R: Receiver>(node_state: &NodeState<R>) -> Option<&View>
+pub(crate) fn open_view<R: Receiver>(node_state: &NodeState<R>) -> Option<&View>
     ensures { option_copied result ≡ open_view node_state.now }
 {
     match node_state {
