@@ -1,22 +1,21 @@
 -- Whether a view is calm, as the trace says.
-use Rattle.std.proofs.Common.{◌≡◌, ℕ, Bool, true, false, cond, not, ◌&&◌, Option, Some, None, List, [], ◌∷◌, refl, sym, ap, ◌∙◌, subst}
+use Rattle.std.proofs.Common.{◌≡◌, ℕ, Bool, true, false, cond, not, ◌&&◌, Option, Some, None, List, [], ◌∷◌, refl, sym, ap, ◌∙◌}
 use Rattle.std.specs.Prelude.{is_some}
 use Rattle.std.specs.List.{list_all}
-use Rattle.std.specs.Option.{option_eq, option_map_or, option_and_then}
+use Rattle.std.specs.Option.{option_eq, option_and_then}
 use Rattle.std.proofs.lemmas.Bool.{and_parts}
 use Rattle.address.specs.Ids.{Address, ViewId, same_address, same_view_id}
 use Rattle.view.specs.Members.{View, stands_in}
 use Rattle.view.proofs.MembersListed.{all-by}
 use Rattle.state_transfer.specs.Meanings.{Meaning}
 use Rattle.trace_props.specs.Observed.{current_view, is_blocked}
-use Rattle.law_acts.specs.Cores.{Core, id_of, is_frozen}
+use Rattle.law_acts.specs.Cores.{Core, is_frozen}
 use Rattle.law_acts.specs.Members.{installed_as, IsInside}
 use Rattle.law_acts.proofs.KeepBySteps
 use Rattle.member.specs.Members.{MemberModel}
 use Rattle.world_model.specs.Histories.{History, running}
 use Rattle.world.specs.Calm.{has_numbers, is_calm, calm_of, calm_at, all_open_in, has_calm_view}
 use Rattle.world.specs.Gaps.{open_view, is_open_in, runs_open_in}
-use Rattle.world.specs.Known.{view_at}
 use Rattle.world.specs.declared.node_state.NodeState.{NodeState}
 use Rattle.world.specs.declared.node_state.NodeState.TheVariants.{Vacant, Ended, Running}
 use Rattle.world.specs.Worlds.{WorldModel}

@@ -1,5 +1,5 @@
 -- Four rounds in a calm view deliver all.
-use Rattle.std.proofs.Common.{◌≡◌, ℕ, ◌+◌, ◌-◌, ◌*◌, ◌<◌, ◌≤◌, Bool, true, false, cond, not, ◌||◌, Option, Some, None, List, [], ◌∷◌, length, nat_eq, nat_lt, inl, inr, ◌⊎◌, refl, sym, ap, ◌∙◌, subst, arith}
+use Rattle.std.proofs.Common.{◌≡◌, ℕ, ◌+◌, ◌-◌, ◌*◌, ◌<◌, ◌≤◌, Bool, true, false, cond, not, Option, Some, None, List, [], ◌∷◌, length, nat_eq, nat_lt, inl, inr, ◌⊎◌, refl, sym, ap, ◌∙◌, subst, arith}
 use Rattle.std.specs.Prelude.{slice_get}
 use Rattle.std.specs.Option.{option_map, option_and_then}
 use Rattle.std.specs.List.{list_all}
@@ -44,7 +44,6 @@ use Rattle.world.specs.Known.{stable_at}
 use Rattle.world.specs.Calm.{calm_at, calm_of, is_calm, has_numbers, AllSpeak, AllLevel, CalmRound, DeliversAll, IsThrough, AllOpen, most_calm_events}
 use Rattle.world.proofs.CatchUpEnds
 use Rattle.world.proofs.CatchUpLevels
-use Rattle.world.proofs.CatchUpStops
 use Rattle.world.proofs.MembersAsSystem.{system_of}
 use Rattle.world.proofs.RepliesPlayed
 use Rattle.world.proofs.Standing

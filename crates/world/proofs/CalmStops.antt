@@ -1,5 +1,5 @@
 -- Calm rounds that end in an error: one of the view's members has crashed at last, or all of them are open in it.
-use Rattle.std.proofs.Common.{◌≡◌, ℕ, suc, ◌+◌, ◌-◌, ◌≤◌, Bool, true, false, List, [], ◌∷◌, length, nat_eq, inl, inr, ◌⊎◌, refl, sym, ap, ◌∙◌, subst, take, ⊎_elim, None, Some}
+use Rattle.std.proofs.Common.{◌≡◌, ℕ, suc, ◌+◌, ◌≤◌, Bool, true, false, List, [], ◌∷◌, length, nat_eq, inl, inr, refl, sym, ap, ◌∙◌, subst, take, ⊎_elim, None, Some}
 use Rattle.address.specs.declared.limits.TheConstants.{OUTSTANDING}
 use Rattle.address.specs.Ids.{Address, same_address}
 use Rattle.address.proofs.SameIds.{same_address-true}
@@ -7,7 +7,6 @@ use Rattle.view.specs.Members.{View, stands_in}
 use Rattle.view.specs.View.{view_refusal}
 use Rattle.wire_values.specs.Posted.{Posted}
 use Rattle.state_transfer.specs.Meanings.{Meaning}
-use Rattle.trace_props.specs.declared.event.Event.TheVariants.{Crashed}
 use Rattle.trace_props.specs.declared.event.Numbered.{Numbered}
 use Rattle.law_acts.proofs.KeepBySteps
 use Rattle.law_processes.proofs.PostsAreSpelled.{EachSound}

@@ -33,7 +33,7 @@ use Rattle.world.specs.Invariant.{IsWorld, IsNodeStateOf}
 use Rattle.world.specs.Worlds.{WorldModel}
 use Rattle.world.specs.Pools.{first_for}
 use Rattle.world.specs.Plays.{lacks_memory, Plays}
-use Rattle.world.specs.Gaps.{open_view, is_open_in, pair_of, pair_in, pair_at, Hands, CatchesUp, IsLevel}
+use Rattle.world.specs.Gaps.{open_view, is_open_in, pair_of, pair_in, pair_at, Hands}
 use Rattle.world.proofs.PairsCompared
 use Rattle.world.proofs.KeepOfWorlds
 use Rattle.world.proofs.RepliesPlayed

@@ -6,7 +6,7 @@ use Rattle.std.proofs.lemmas.Bool.Decides.{nat_tests}
 use Rattle.std.proofs.lemmas.List.{append-nil, length-append, length-map}
 use Rattle.std.proofs.Math.Seq.{drop-append_seam}
 use Rattle.address.specs.declared.limits.TheConstants.{WINDOW}
-use Rattle.address.specs.Ids.{Address, ViewId, same_address}
+use Rattle.address.specs.Ids.{Address, same_address}
 use Rattle.view.specs.Members.{View, stands_in}
 use Rattle.wire_values.specs.Values.{Entry, Missing, held_at}
 use Rattle.state_transfer.specs.Meanings.{Meaning}

@@ -1,33 +1,15 @@
 -- All of a view are brought level with its coordinator, one after another.
-use Rattle.std.proofs.Common.{◌≡◌, ℕ, zero, suc, ◌+◌, ◌-◌, ◌*◌, ◌<◌, ◌≤◌, Bool, true, false, cond, Option, List, [], ◌∷◌, ◌++◌, map, length, nat_eq, nat_lt, min, inl, inr, ◌⊎◌, refl, sym, ap, ◌∙◌, subst, arith}
-use Rattle.std.specs.Prelude.{IsSome}
-use Rattle.std.proofs.lemmas.Bool.Decides.{nat_tests}
+use Rattle.std.proofs.Common.{◌≡◌, ℕ, ◌+◌, ◌*◌, ◌≤◌, Bool, true, false, List, [], ◌∷◌, ◌++◌, length, inl, inr, ◌⊎◌, refl, sym, ap, ◌∙◌, subst, arith}
 use Rattle.std.proofs.lemmas.List.{length-append}
-use Rattle.world.proofs.EventsCounted.{adds, adds-all, few-orders}
-use Rattle.address.specs.declared.limits.TheConstants.{WINDOW}
 use Rattle.address.specs.Ids.{Address, ViewId, same_address}
-use Rattle.address.proofs.SameIds.{same_address-sym}
-use Rattle.view.specs.Members.{View, stands_in}
-use Rattle.wire_values.specs.Values.{Entry, held_at}
-use Rattle.wire_values.specs.declared.packet.Body.TheVariants as bodies
-use Rattle.wire_values.specs.Posted.{Posted, packet}
+use Rattle.view.specs.Members.{stands_in}
 use Rattle.state_transfer.specs.Meanings.{Meaning}
-use Rattle.sequencer.specs.Forwards.{one_delivered}
-use Rattle.nak_stream.specs.Windows.{WindowModel, taken, collected, held_with, held_above, offers}
 use Rattle.law_acts.proofs.KeepBySteps
-use Rattle.step_output.specs.Steps.{who}
 use Rattle.traffic.specs.declared.coordinator.Coordinator.{Coordinator}
 use Rattle.traffic.specs.declared.follower.Follower.{Follower}
 use Rattle.traffic.specs.declared.view_state.ViewState.TheVariants as kinds
-use Rattle.traffic.specs.Followers.{collected_to, held_too}
-use Rattle.traffic.specs.Takes.{Asks, AsksUpTo, progress_of, DeliversTo}
-use Rattle.traffic.specs.Takes.DeliversTo.{Starts, DeliversMore}
 use Rattle.membership.specs.declared.member_state.MemberState.{MemberState}
-use Rattle.member_rules.specs.Heard.{is_near}
-use Rattle.law_processes.proofs.PostsAreSpelled.{EachSound}
-use Rattle.world_model.specs.declared.WorldEvent.TheVariants.{Deliver, Tick}
-use Rattle.world_model.specs.Packets.{world_group}
-use Rattle.world.specs.Gaps.{CatchesUp, Hands}
+use Rattle.world.specs.Gaps.{CatchesUp}
 use Rattle.world.specs.Calm.{pair_with, AllLevel}
 use Rattle.world.specs.Calm.AllLevel.{NobodyLevels, NextLevels}
 use Rattle.std.specs.Prelude.{MatchBool}
@@ -36,19 +18,12 @@ use Rattle.address.proofs.SameIds.{same_address-true}
 use Rattle.world.proofs.Groups
 use Rattle.world.proofs.HearsAll
 use Rattle.world.proofs.HearsAll.{before-or-last, in-front, at-last}
-use Rattle.world.specs.NodeStates.{bytes_of}
-use Rattle.world.specs.Plays.{lacks_memory, Plays, Delivers}
-use Rattle.world.specs.Turns.{OthersStand}
 use Rattle.world.specs.Worlds.{WorldModel}
 use Rattle.world.proofs.BroughtLevel
 use Rattle.world.proofs.CatchUpEnds
 use Rattle.world.proofs.CatchUpLevels
-use Rattle.world.proofs.Deliveries.{delivers-none, delivers-next}
-use Rattle.world.proofs.KeepOfWorlds
-use Rattle.world.proofs.PoolPackets.{IsSound, AreNext, next-rest, next-first}
 use Rattle.world.proofs.RepliesPlayed
 use Rattle.world.proofs.Standing
-use Rattle.world.proofs.WindowFills.{MissesWithin, nothing-missing, filled, collected-stable}
 
 module _ {S : Type 0} (meaning : Meaning S) (laws : KeepBySteps.Laws meaning) where
   -- ---- all are brought level

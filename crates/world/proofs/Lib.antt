@@ -77,3 +77,4 @@ pub mod CalmIsRun
 pub mod CalmRounds
 pub mod CalmStops
 pub mod CalmIsTold
+pub mod NotThroughShown

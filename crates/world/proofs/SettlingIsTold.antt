@@ -1,13 +1,12 @@
 -- What the test of a change of view tells of the view that it is about, and what follows of the outcome of its completion.
-use Rattle.std.proofs.Common.{◌≡◌, ℕ, Bool, true, false, Option, Some, None, Result, Ok, Err, is_some, inl, inr, ◌⊎◌, refl, ap, ◌∙◌, subst}
+use Rattle.std.proofs.Common.{◌≡◌, ℕ, Bool, false, Option, Some, None, Result, Ok, Err, is_some, inl, inr, ◌⊎◌, refl, ap, ◌∙◌, subst}
 use Rattle.std.specs.Prelude.{IfOk, OnOk, OnErr, MatchOption}
 use Rattle.std.specs.Option.{ForSome, IsSomeAnd}
 use Rattle.state_transfer.specs.Meanings.{Meaning}
 use Rattle.world.specs.Worlds.{WorldModel}
 use Rattle.world.specs.Settles.{IsSettled}
 use Rattle.world.specs.Completing.{completing_at, Completes}
-use Rattle.world.specs.Settled.{SettlesAt, DeliversAt}
-use Rattle.world.specs.Calm.{calm_at, coordinates, DeliversAll, IsThrough}
+use Rattle.world.specs.Settled.{SettlesAt}
 
 -- of an outcome that went well: what holds of it holds of the view
 pub then-of : {E X : Type 0} (r : Result Bool E) (o : Option X) (P Q : X → Type 0) → OnOk r (ForSome o P) → ((v : X) → o ≡ Some v → P v → Q v) → OnOk r (ForSome o Q)
@@ -46,15 +45,3 @@ module _ {S : Type 0} (meaning : Meaning S) where
       by : (o : Option _) → completing_at old.node_states node ≡ o → MatchOption o (new ≡ old) (λ v. Completes meaning node v old new × IsSettled v new.history.trace)
       by None e = nothing (answer ∙ ap is_some e)
       by (Some v) e = (plays v e, settled v e)
-
-  -- the same of a view that delivers everything
-  pub delivered-by : (b : Bool) (old new : WorldModel S) (n : ℕ) → coordinates n (old.node_states n) ≡ true → b ≡ is_some (calm_at old.node_states n) → (b ≡ false → new ≡ old)
-      → ForSome (calm_at old.node_states n) (λ v. DeliversAll meaning v old new) → ForSome (calm_at old.node_states n) (λ v. IsThrough v new) → DeliversAt meaning n old new
-  delivered-by b old new n leads answer nothing plays through = rw leads (by (calm_at old.node_states n) refl)
-    where
-      by : (o : Option _) → calm_at old.node_states n ≡ o → MatchOption o (new ≡ old) (λ v. DeliversAll meaning v old new × IsThrough v new)
-      by None e = nothing (answer ∙ ap is_some e)
-      by (Some v) e = (plays v e, through v e)
-
-  pub delivers-not : (w : WorldModel S) (n : ℕ) → coordinates n (w.node_states n) ≡ false → DeliversAt meaning n w w
-  delivers-not w n other = rw other refl

@@ -14,3 +14,4 @@ pub mod Gaps
 pub mod Known
 pub mod Settled
 pub mod Calm
+pub mod NotThrough

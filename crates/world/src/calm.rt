@@ -178,15 +178,15 @@ impl<R: Receiver> World<R> {
         self.all_level(view)
     }
 
-    /// Plays four of them.
+    /// Plays four rounds. At most 128 messages are outstanding, and at most 64 are ordered past those that are stable.
     fn four_rounds(&mut self, view: &Roster) -> Result<(), AllocError>
         ensures ok { OnOk result (DeliversAll R.meaning view.now (shown self.old) (shown self.new)) }
         ensures err { OnErr result (DeliversShort R.meaning view.now (shown self.old) (shown self.new)) }
     {
-        self.calm_round(view)?;
-        self.calm_round(view)?;
-        self.calm_round(view)?;
-        self.calm_round(view)
+        self.calm_round(view)?; // orders what the window has room for
+        self.calm_round(view)?; // frees half of the window at least, and orders more
+        self.calm_round(view)?; // orders the rest
+        self.calm_round(view) // tells all members that it is stable
     }
 
     /// Delivers all that was sent in the view of the member that runs at a node to each member of it (docs/GUARANTEES.md, "A calm view delivers"): four rounds,

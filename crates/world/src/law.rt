@@ -1,6 +1,7 @@
 ghost use Rattle.world.specs.Settles.{ViewsSettle, SettlesBriefly, SettlingsEnd};
 ghost use Rattle.world.specs.Completing.{ViewsComplete, CompletesBriefly, CompletionsEnd};
 ghost use Rattle.world.specs.Calm.{CalmViewsDeliver, CalmViewsAreBrief, CalmRoundsEnd};
+ghost use Rattle.world.specs.NotThrough.{MissingIsRefuted, UnstableIsRefuted, StoryIsRefuted};
 ghost use Rattle.world.specs.Meets.{LoneViewsMeet, LoneViewsJoin};
 ghost use Rattle.world.specs.LowProposals.{ProposalsRise, ProposalsOvertake, OvertakingsSettle, OvertakesBriefly, OvertakingsEnd, RoundsAreEnough};
 
@@ -66,4 +67,12 @@ pub fn calm_views_deliver<R: Receiver>()
     ensures deliver { CalmViewsDeliver R.meaning }
     ensures brief { CalmViewsAreBrief R.meaning }
     ensures ends { CalmRoundsEnd R.meaning }
+{}
+
+/// What the end of the law of calm views refutes: a world in which a member of the view has not delivered a message that another sent there (`missing`), one such
+/// written in full (`story`), and one in which a member does not know all of it to be stable (`unstable`). It does nothing.
+pub fn missing_messages_are_seen<R: Receiver>()
+    ensures missing { MissingIsRefuted R }
+    ensures unstable { UnstableIsRefuted R }
+    ensures story { StoryIsRefuted R }
 {}

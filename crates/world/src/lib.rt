@@ -36,7 +36,8 @@ pub use calm::calm_view;
 pub use followers::{begun, is_settling};
 pub use installs::{awaited, awaits_install};
 pub use law::{
-    calm_views_deliver, lone_views_meet, low_proposals_rise, views_complete, views_settle,
+    calm_views_deliver, lone_views_meet, low_proposals_rise, missing_messages_are_seen,
+    views_complete, views_settle,
 };
 use law_processes::deployments_are_synchronous;
 pub use node_state::NodeState;
