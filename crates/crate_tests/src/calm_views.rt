@@ -1,6 +1,11 @@
 //! Calm views: `World::deliver_all` delivers everything that was sent in a view to all its members, exactly if all of them are open in it
 //! (docs/GUARANTEES.md, "A calm view delivers"). The counts come from the trace alone.
 
+ghost use Rattle.std.specs.Prelude.{◌≡◌, true, is_some};
+ghost use Rattle.std.specs.Option.{ForSome};
+ghost use Rattle.world.specs.Worlds.{shown};
+ghost use Rattle.world.specs.Calm.{calm_at, IsThrough};
+
 use crate::last::Last;
 use crate::random_worlds::{Random, begin, go_on};
 use crate::two_members::{node, of_two};
@@ -13,6 +18,18 @@ use world_model::{Answer, WorldEvent};
 
 /// How many random worlds are made.
 const WORLDS: u64 = 300;
+
+/// Delivers everything that was sent in the view of the member at a node. If it answers true, the premises of `world::calm_views_deliver` were met before (`met`),
+/// and its end is reached (`through`): so the worlds of these tests are stories of that law.
+fn delivers_at(world: &mut World<Last>, at: Node) -> bool
+    ensures met { result ≡ true → is_some (calm_at (shown world.old).node_states at) ≡ true }
+    ensures through { result ≡ true → ForSome (calm_at (shown world.old).node_states at) (λ v. IsThrough v (shown world.new)) }
+{
+    match world.deliver_all(at) {
+        Ok(answer) => answer,
+        Err(_) => false,
+    }
+}
 
 /// The member at a node sends so many messages, of which no packet is delivered.
 fn send(alloc: Global, world: &mut World<Last>, at: Node, count: u64) -> bool {
@@ -113,7 +130,7 @@ fn lost_messages_are_delivered_to_both(rt: HostRuntime) {
         all_members(&world, view) == Some((true, false)),
         "both are open, and not all is delivered"
     );
-    assert!(rt; world.deliver_all(node(2)) == Ok(true), "the view is calm");
+    assert!(rt; delivers_at(&mut world, node(2)), "the view is calm");
     assert!(rt;
         all_members(&world, view) == Some((true, true)),
         "both delivered all eight, and know them to be stable"
@@ -123,7 +140,7 @@ fn lost_messages_are_delivered_to_both(rt: HostRuntime) {
         "they are eight"
     );
     assert!(rt;
-        world.deliver_all(node(3)) == Ok(false),
+        !delivers_at(&mut world, node(3)),
         "nobody runs at the third node"
     );
 }
@@ -182,7 +199,7 @@ fn sixteen_members_deliver_a_full_window_and_all_that_is_outstanding(rt: HostRun
         "128 are outstanding"
     );
     let events = world.events().len();
-    assert!(rt; world.deliver_all(node(9)) == Ok(true), "the view is calm");
+    assert!(rt; delivers_at(&mut world, node(9)), "the view is calm");
     assert!(rt;
         all_members(&world, view) == Some((true, true)),
         "all delivered all, and know it to be stable"

@@ -1,4 +1,5 @@
-//! A calm view delivers: where all members of a view run in it and are not blocked, all that was sent there is delivered to each of them, and known to be stable.
+//! Calm views: if all members of a view run in it and none is blocked, `World::deliver_all` delivers every message that was sent in the view to all of them, and
+//! all of them come to know that these messages are stable. It plays world events alone; `gaps` brings one member level.
 
 ghost use Rattle.std.specs.Prelude.{◌≡◌, ◌+◌, ◌≤◌, length, Some, Ok, false, IfOk, OnOk, OnErr, is_some};
 ghost use Rattle.std.specs.List.{list_all};
@@ -27,7 +28,7 @@ use std::collections::BTreeMap;
 use wire_values::Roster;
 use world_model::WorldEvent;
 
-/// Whether numbers of its view's order are left for all messages that may not be stable yet, as the member that runs here knows.
+/// Answers whether the order of the member's view has numbers left for every message that may not be stable yet: the window, and what is outstanding.
 fn has_numbers<R: Receiver>(node_state: &NodeState<R>) -> bool
     ensures { result ≡ has_numbers node_state.now }
 {
@@ -39,7 +40,7 @@ fn has_numbers<R: Receiver>(node_state: &NodeState<R>) -> bool
     }
 }
 
-/// The same, at a node.
+/// Answers the same of the member at a node; false if none runs there.
 fn numbers_left<R: Receiver>(node_states: &BTreeMap<Node, NodeState<R>>, node: Node) -> bool
     ensures { result ≡ has_numbers (node_states_in (get nat_cmp node_states.now) node) }
 {
@@ -49,7 +50,7 @@ fn numbers_left<R: Receiver>(node_states: &BTreeMap<Node, NodeState<R>>, node: N
     }
 }
 
-/// Whether the member of an address runs in a view of this id, and is not blocked.
+/// Answers whether the member of an address runs in the view of this id and is not blocked.
 fn is_there<R: Receiver>(
     node_states: &BTreeMap<Node, NodeState<R>>,
     address: Address,
@@ -63,7 +64,7 @@ fn is_there<R: Receiver>(
     }
 }
 
-/// Whether each of a view runs in it, and is not blocked.
+/// Answers whether every member of a view runs in it and is not blocked.
 fn all_are_there<R: Receiver>(node_states: &BTreeMap<Node, NodeState<R>>, view: &Roster) -> bool
     ensures { result ≡ list_all (λ q. is_open_in q view.now.id (node_states_in (get nat_cmp node_states.now) q.node)) view.now.members }
 {
@@ -75,14 +76,14 @@ fn all_are_there<R: Receiver>(node_states: &BTreeMap<Node, NodeState<R>>, view: 
     true
 }
 
-/// Whether a view is calm: each of it runs in it and is not blocked, and numbers are left.
+/// Answers whether a view is calm: every member runs in it and is not blocked, and its order has numbers left.
 fn is_calm<R: Receiver>(node_states: &BTreeMap<Node, NodeState<R>>, view: &Roster) -> bool
     ensures { result ≡ is_calm (node_states_in (get nat_cmp node_states.now)) view.now }
 {
     all_are_there(node_states, view) && numbers_left(node_states, view.id().creator().node())
 }
 
-/// The view of the member that runs at a node, if it is calm (docs/GUARANTEES.md, "A calm view delivers"). Takes no memory.
+/// Answers the view of the member that runs at a node, if that view is calm (docs/GUARANTEES.md, "A calm view delivers"). Takes no memory.
 pub fn calm_view<R: Receiver>(
     node_states: &BTreeMap<Node, NodeState<R>>,
     node: Node,
@@ -106,7 +107,7 @@ pub fn calm_view<R: Receiver>(
     }
 }
 
-/// Whether the member that runs here is not blocked, and the coordinator of its view is of this node.
+/// Answers whether the member that runs here is not blocked and the coordinator of its view is at this node.
 fn coordinates<R: Receiver>(node_state: &NodeState<R>, node: Node) -> bool
     ensures { result ≡ coordinates node node_state.now }
 {
@@ -117,7 +118,7 @@ fn coordinates<R: Receiver>(node_state: &NodeState<R>, node: Node) -> bool
 }
 
 impl<R: Receiver> World<R> {
-    /// Whether the member that runs at a node is the coordinator of its view, and not blocked.
+    /// Answers whether the member that runs at a node is the coordinator of its view and is not blocked.
     pub fn coordinates(&self, node: Node) -> bool
         ensures { result ≡ coordinates node ((shown self.now).node_states node) }
     {
@@ -127,7 +128,7 @@ impl<R: Receiver> World<R> {
         }
     }
 
-    /// A tick of the member of an address, and a delivery of each packet that it puts out by that.
+    /// Ticks the member of an address, and delivers each packet that it sends by that: FORWARDs of its outstanding messages, and an ACK.
     fn speak(&mut self, address: Address) -> Result<(), AllocError>
         ensures ok { OnOk result (Speaks R.meaning address (shown self.old) (shown self.new)) }
         ensures err { OnErr result (SpeaksShort R.meaning address (shown self.old) (shown self.new)) }
@@ -137,7 +138,7 @@ impl<R: Receiver> World<R> {
         self.deliver_past(known)
     }
 
-    /// The same for each of a view but its coordinator.
+    /// Does so for every member of a view but its coordinator.
     fn all_speak(&mut self, view: &Roster) -> Result<(), AllocError>
         ensures ok { OnOk result (AllSpeak R.meaning view.now.id.creator (shown self.old) view.now.members (shown self.new)) }
         ensures err { OnErr result (AllSpeakShort R.meaning view.now.id.creator view.now.members (shown self.old) (shown self.new)) }
@@ -151,7 +152,7 @@ impl<R: Receiver> World<R> {
         Ok(())
     }
 
-    /// Brings each of a view level with its coordinator.
+    /// Brings every member of a view level with its coordinator.
     fn all_level(&mut self, view: &Roster) -> Result<(), AllocError>
         ensures ok { OnOk result (AllLevel R.meaning view.now.id (shown self.old) view.now.members (shown self.new)) }
         ensures err { OnErr result (AllLevelShort R.meaning view.now.id view.now.members (shown self.old) (shown self.new)) }
@@ -169,7 +170,7 @@ impl<R: Receiver> World<R> {
         Ok(())
     }
 
-    /// Plays a round.
+    /// Plays one calm round.
     fn calm_round(&mut self, view: &Roster) -> Result<(), AllocError>
         ensures ok { OnOk result (CalmRound R.meaning view.now (shown self.old) (shown self.new)) }
         ensures err { OnErr result (RoundShort R.meaning view.now (shown self.old) (shown self.new)) }
@@ -178,7 +179,7 @@ impl<R: Receiver> World<R> {
         self.all_level(view)
     }
 
-    /// Plays four rounds. At most 128 messages are outstanding, and at most 64 are ordered past those that are stable.
+    /// Plays four calm rounds. At most 128 messages are outstanding, and at most 64 are ordered past those that are stable.
     fn four_rounds(&mut self, view: &Roster) -> Result<(), AllocError>
         ensures ok { OnOk result (DeliversAll R.meaning view.now (shown self.old) (shown self.new)) }
         ensures err { OnErr result (DeliversShort R.meaning view.now (shown self.old) (shown self.new)) }
@@ -189,14 +190,17 @@ impl<R: Receiver> World<R> {
         self.calm_round(view) // tells all members that it is stable
     }
 
-    /// Delivers all that was sent in the view of the member that runs at a node to each member of it (docs/GUARANTEES.md, "A calm view delivers"): four rounds,
-    /// in each of which every other member than the coordinator has a tick, all that it sends by that is delivered to the coordinator, and then each is brought
-    /// level with it, as by `catch_up`. These are events like those that `run` is given. Answers true then, and each member has delivered all messages that were
-    /// sent in the view, in one order, and knows all of them to be stable.
+    /// Delivers every message that was sent in the view of the member that runs at a node to all members of that view (docs/GUARANTEES.md, "A calm view
+    /// delivers"). It plays four calm rounds, at most 4,928 events like those that `run` is given. In each round every member but the coordinator ticks, its
+    /// packets are delivered to the coordinator, and then it is brought level, as by `catch_up`. Answers true then: all members have delivered all of these
+    /// messages in one order, and know them to be stable.
     ///
-    /// Answers false, and does nothing, unless all members of the view run in it and are not blocked, and numbers of its order are left. Answers an error (7)
-    /// where the places of a step are refused, which is then not begun, and where memory is refused to one of the view in a step, by which it crashes; the
-    /// steps before it are carried out.
+    /// Answers false and does nothing unless the view is calm: all its members run in it, none is blocked, and its order has numbers left.
+    ///
+    /// # Errors
+    ///
+    /// Out of memory (7). Either a step got no places in the history, and was not begun; or a member got no memory in a step, and has crashed. The steps before
+    /// it are carried out.
     pub fn deliver_all(&mut self, node: Node) -> Result<bool, AllocError>
         // It answers whether the view is calm, which the trace says too, but for the numbers; where it is not, nothing is done.
         ensures answer { IfOk result (λ b. b ≡ is_some (calm_at (shown self.old).node_states node)) }
