@@ -1,4 +1,4 @@
--- A run of events after which the changes of view complete that can; and what is printed of it.
+-- A run of events after which the changes of view complete that can, and calm views deliver everything; and what is printed of it.
 use Rattle.std.proofs.Common.{◌≡◌, ℕ, Bool, true, false, List, ◌++◌, length, drop, Option, Result, Ok, Err, OnOk, is_ok, sym, ap, ◌∙◌, subst}
 use Rattle.std.proofs.lemmas.List.{take-append-drop}
 use Rattle.state_transfer.specs.Meanings.{Meaning}
@@ -34,13 +34,13 @@ longer-then a b c x y = record {
 pub longer-same : (a : History) → IsLonger a a
 longer-same a = record { events = IsBeginningOf-same a.events; replies = IsBeginningOf-same a.replies; pool = IsBeginningOf-same a.pool; trace = IsBeginningOf-same a.trace }
 
-module _ {S : Type 0} (meaning : Meaning S) where
+module _ {S : Type 0} (meaning : Meaning S) (delivers : Bool) where
   -- ---- a script's run
 
   -- what is printed of it, all of it or a beginning, is a text of it
   settled-text : (script : Script) (w : WorldModel S) (ran : Bool) → KeepsRules meaning w → RunsInPart meaning no_world script.events w
-      → (ran ≡ true → RunsAndSettles meaning no_world script.events w) → (s : Status) (t : List ℕ)
-      → IsLinesText (lines_of_run (padded script.lines (length w.history.events)) w.history.replies w.history.trace) ran s t → IsSettledText meaning script s t
+      → (ran ≡ true → RunsAndSettles meaning delivers no_world script.events w) → (s : Status) (t : List ℕ)
+      → IsLinesText (lines_of_run (padded script.lines (length w.history.events)) w.history.replies w.history.trace) ran s t → IsSettledText meaning delivers script s t
   settled-text script w ran rules some all s t (Printed whole) = All w (all whole) rules
   settled-text script w ran rules some all s t (Unprinted count) = Part w count some rules
 
@@ -50,17 +50,17 @@ module _ {S : Type 0} (meaning : Meaning S) where
 
   pub settled-played : {A E : Type 0} (script : Script) (lines : List ℕ) (given : List WorldEvent) (old w : WorldModel S) (ran : Bool) (r : Result A E) (a b : Option (List ℕ)) (status : Status)
       → lines ≡ padded script.lines (length w.history.events) → given ≡ script.events → old ≡ no_world → KeepsRules meaning w → RunsInPart meaning old given w
-      → OnOk r (RunsAndSettles meaning old given w) → ran ≡ is_ok r → Written (IsLinesText (lines_of_run lines w.history.replies w.history.trace) ran) a b status
-      → Written (IsSettledText meaning script) a b status
+      → OnOk r (RunsAndSettles meaning delivers old given w) → ran ≡ is_ok r → Written (IsLinesText (lines_of_run lines w.history.replies w.history.trace) ran) a b status
+      → Written (IsSettledText meaning delivers script) a b status
   settled-played script lines given old w ran r a b status same all empty rules some whole is written =
       let at = λ (P : WorldModel S → List WorldEvent → Type 0) (x : P old given). subst (λ (o : WorldModel S). P o script.events) empty (subst (λ (g : List WorldEvent). P old g) all x) in
-      written-as (IsLinesText (lines_of_run (padded script.lines (length w.history.events)) w.history.replies w.history.trace) ran) (IsSettledText meaning script) a b status
-      (settled-text script w ran rules (at (λ o g. RunsInPart meaning o g w) some) (λ to-end. at (λ o g. RunsAndSettles meaning o g w) (on-ok r (RunsAndSettles meaning old given w) ran whole is to-end)))
+      written-as (IsLinesText (lines_of_run (padded script.lines (length w.history.events)) w.history.replies w.history.trace) ran) (IsSettledText meaning delivers script) a b status
+      (settled-text script w ran rules (at (λ o g. RunsInPart meaning o g w) some) (λ to-end. at (λ o g. RunsAndSettles meaning delivers o g w) (on-ok r (RunsAndSettles meaning delivers old given w) ran whole is to-end)))
       (subst (λ (l : List ℕ). Written (IsLinesText (lines_of_run l w.history.replies w.history.trace) ran) a b status) same written)
 
   -- it stopped before it was printed
   pub settled-stopped : (script : Script) (given : List WorldEvent) (old w : WorldModel S) (a b : Option (List ℕ)) (status : Status) → given ≡ script.events → old ≡ no_world → KeepsRules meaning w
-      → RunsInPart meaning old given w → Ends a b memory_line Memory status → Written (IsSettledText meaning script) a b status
+      → RunsInPart meaning old given w → Ends a b memory_line Memory status → Written (IsSettledText meaning delivers script) a b status
   settled-stopped script given old w a b status all empty rules some e = record {
     meant = Memory;
     text = memory_line;

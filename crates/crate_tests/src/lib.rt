@@ -1,11 +1,14 @@
 //! Tests of the crates that a member is made of, a module for each crate; of the packets, by hand from the format's tables, to the byte; of words, `hmac` and `frames`;
-//! of what runs members: how often a receiver is told of a view and of a block, lost messages that a catch-up brings, a step, random worlds that settle;
+//! of what runs members: how often a receiver is told of a view and of a block, lost messages that a catch-up brings, calm views that deliver everything, a step,
+//! random worlds that settle;
 //! and of what stands apart from views: bytes, lines, keys, tokens and states, commands of the map and of locks, guards, and what services answer.
 //! They stand apart from what they test, so that it is proved once and not twice.
 #![tactic(auto)]
 
 #[cfg(test)]
 mod address_tests;
+#[cfg(test)]
+mod calm_views;
 #[cfg(test)]
 mod candidates_tests;
 #[cfg(test)]

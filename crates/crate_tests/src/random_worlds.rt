@@ -22,8 +22,8 @@ const NODES: u16 = 4;
 
 /// Numbers that look random: Knuth's linear congruential generator, its upper bits.
 #[derive(Clone, Copy)]
-struct Random {
-    state: u64,
+pub(crate) struct Random {
+    pub(crate) state: u64,
 }
 
 impl Random {
@@ -37,7 +37,7 @@ impl Random {
     }
 
     /// One of the nodes.
-    fn node(&mut self) -> Node {
+    pub(crate) fn node(&mut self) -> Node {
         match self.below(4) {
             0 => node(1),
             1 => node(2),
@@ -181,7 +181,7 @@ impl Tally {
 }
 
 /// Some random events.
-fn go_on(world: &mut World<Last>, random: &mut Random) -> bool {
+pub(crate) fn go_on(world: &mut World<Last>, random: &mut Random) -> bool {
     for _ in 0..EVENTS {
         let event = random_event(random, world);
         if world.run(&[event]).is_err() {
@@ -191,8 +191,8 @@ fn go_on(world: &mut World<Last>, random: &mut Random) -> bool {
     true
 }
 
-/// Starts a member at each node, two of which create views, and goes on; whether all changes settle that can.
-fn settles(world: &mut World<Last>, random: &mut Random, tally: &mut Tally) -> bool {
+/// Starts a member at each node, two of which create views.
+pub(crate) fn begin(world: &mut World<Last>, random: &mut Random) -> bool {
     let events = [
         WorldEvent::Start(node(1)),
         WorldEvent::Start(node(2)),
@@ -201,7 +201,12 @@ fn settles(world: &mut World<Last>, random: &mut Random, tally: &mut Tally) -> b
         WorldEvent::Create(random.node()),
         WorldEvent::Create(random.node()),
     ];
-    if world.run(&events).is_err() {
+    world.run(&events).is_ok()
+}
+
+/// Begins, and goes on; whether all changes settle that can.
+fn settles(world: &mut World<Last>, random: &mut Random, tally: &mut Tally) -> bool {
+    if !begin(world, random) {
         return false;
     }
     for _ in 0..ROUNDS {

@@ -12,7 +12,7 @@ use Rattle.vsync.specs.declared.kept_words.Kept.{Kept}
 use Rattle.vsync.specs.declared.kept_words.Kept.TheVariants as kept
 use Rattle.vsync.specs.declared.kept_words.KeptFlags.{KeptFlags}
 use Rattle.vsync.specs.declared.text_words.Task.{Task}
-use Rattle.vsync.specs.declared.text_words.Task.TheVariants.{World, States, Packets, Settle, Check, Draw, DrawPackets, DrawTrace}
+use Rattle.vsync.specs.declared.text_words.Task.TheVariants.{World, States, Packets, Settle, SettleDeliver, Check, Draw, DrawPackets, DrawTrace}
 use Rattle.vsync.specs.Kept.{flags_of, flags_said}
 use Rattle.vsync.specs.Grammar.{program_app}
 use Rattle.vsync.specs.Words.{faults_of, is_path, is_stray, stray_fault, task_said, text_argument, words_for}
@@ -130,6 +130,10 @@ asks Settle kept.Chat = record { begins = begins_settle; walks = λ rest. refl; 
 asks Settle kept.LongChat = record { begins = begins_settle; walks = λ rest. refl; turns = λ rest. refl; ends = λ path. refl }
 asks Settle kept.Map = tt
 asks Settle kept.Locks = tt
+asks SettleDeliver kept.Chat = record { begins = begins_settle; walks = λ rest. refl; turns = λ rest. refl; ends = λ path. refl }
+asks SettleDeliver kept.LongChat = record { begins = begins_settle; walks = λ rest. refl; turns = λ rest. refl; ends = λ path. refl }
+asks SettleDeliver kept.Map = tt
+asks SettleDeliver kept.Locks = tt
 asks Check kept.Chat = record { begins = begins_check; walks = λ rest. refl; turns = λ rest. refl; ends = λ path. refl }
 asks Check kept.LongChat = record { begins = begins_check; walks = λ rest. refl; turns = λ rest. refl; ends = λ path. refl }
 asks Check kept.Map = record { begins = begins_check; walks = λ rest. refl; turns = λ rest. refl; ends = λ path. refl }

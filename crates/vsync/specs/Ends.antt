@@ -27,7 +27,7 @@ use Rattle.vsync_text.specs.declared.status.Status.TheVariants.{Done, Memory, Ou
 use Rattle.vsync.specs.declared.kept_words.Kept.{Kept}
 use Rattle.vsync.specs.declared.kept_words.Kept.TheVariants as kept
 use Rattle.vsync.specs.declared.text_words.Task.{Task}
-use Rattle.vsync.specs.declared.text_words.Task.TheVariants.{World, States, Packets, Settle, Check, Draw, DrawPackets, DrawTrace}
+use Rattle.vsync.specs.declared.text_words.Task.TheVariants.{World, States, Packets, Settle, SettleDeliver, Check, Draw, DrawPackets, DrawTrace}
 
 -- the task is done, from a reader with these bytes left to a writer: a script is run; or it is run and the states, or the packets, are
 -- printed; or a trace is checked; or a picture is drawn of a script's run, or of a trace. Its members keep what has this meaning, these words and this line
@@ -35,7 +35,8 @@ abbrev pub DoesWith : {S : Type 0} → Meaning S → (List ℕ → Result (List 
 DoesWith meaning payload_of line_of World left old new status = RunsScript meaning left old new status
 DoesWith meaning payload_of line_of States left old new status = RunsStates meaning payload_of line_of left old new status
 DoesWith meaning payload_of line_of Packets left old new status = RunsPackets meaning left old new status
-DoesWith meaning payload_of line_of Settle left old new status = SettlesScript meaning left old new status
+DoesWith meaning payload_of line_of Settle left old new status = SettlesScript meaning false left old new status
+DoesWith meaning payload_of line_of SettleDeliver left old new status = SettlesScript meaning true left old new status
 DoesWith meaning payload_of line_of Check left old new status = ChecksTrace meaning left old new status
 DoesWith meaning payload_of line_of Draw left old new status = DrawsScript meaning false left old new status
 DoesWith meaning payload_of line_of DrawPackets left old new status = DrawsScript meaning true left old new status

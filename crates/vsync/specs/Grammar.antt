@@ -101,6 +101,10 @@ script_app name = command_app name (required_rule (codes "SCRIPT") ∷ [])
 abbrev pub chats_app : Text → App
 chats_app name = command_app name (required_rule (codes "SCRIPT") ∷ flag_rule (codes "long") ∷ [])
 
+-- `settle [--long] [--deliver] SCRIPT`
+abbrev pub settle_app : App
+settle_app = command_app (codes "settle") (required_rule (codes "SCRIPT") ∷ flag_rule (codes "long") ∷ flag_rule (codes "deliver") ∷ [])
+
 -- `udp CONFIG SCRIPT`
 abbrev pub udp_app : App
 udp_app = command_app (codes "udp") (required_rule (codes "CONFIG") ∷ required_rule (codes "SCRIPT") ∷ [])
@@ -155,7 +159,7 @@ program_app = fold with_command (program_of_subcommands (codes "vsync"))
     (chats_app (codes "world")
     ∷ chats_app (codes "chat")
     ∷ chats_app (codes "packets")
-    ∷ chats_app (codes "settle")
+    ∷ settle_app
     ∷ check_app
     ∷ draw_app
     ∷ script_app (codes "map")

@@ -18,7 +18,7 @@ use Rattle.vsync.specs.declared.member_options.TheConstants.{MOST_TICK, MOST_MER
 use Rattle.vsync.specs.declared.kept_words.Kept.{Kept}
 use Rattle.vsync.specs.declared.kept_words.Kept.TheVariants as kept
 use Rattle.vsync.specs.declared.text_words.Task.{Task}
-use Rattle.vsync.specs.declared.text_words.Task.TheVariants.{World, States, Packets, Settle, Check, Draw, DrawPackets, DrawTrace}
+use Rattle.vsync.specs.declared.text_words.Task.TheVariants.{World, States, Packets, Settle, SettleDeliver, Check, Draw, DrawPackets, DrawTrace}
 use Rattle.vsync.specs.declared.text_words.TextCommand.{TextCommand}
 use Rattle.vsync.specs.declared.words.Invocation.{Invocation}
 use Rattle.vsync.specs.declared.words.Invocation.TheVariants.{Text as TextOf, Processes, Udp, Member, Explain}
@@ -31,6 +31,10 @@ use Rattle.vsync.specs.Kept.{flags_of, flags_said, stands}
 abbrev pub drawing_said : List Row → Task
 drawing_said rows = if stands (codes "trace") rows then DrawTrace else if stands (codes "packets") rows then DrawPackets else Draw
 
+-- what `settle` does by its flags
+abbrev pub settling_said : List Row → Task
+settling_said rows = if stands (codes "deliver") rows then SettleDeliver else Settle
+
 -- the subcommands over one text, with what each does; `check --processes` has several
 abbrev pub tasks : List Row → List (Text × Option Task)
 tasks rows =
@@ -39,7 +43,7 @@ tasks rows =
     ∷ (codes "map", Some States)
     ∷ (codes "locks", Some States)
     ∷ (codes "packets", Some Packets)
-    ∷ (codes "settle", Some Settle)
+    ∷ (codes "settle", Some (settling_said rows))
     ∷ (codes "check", if stands (codes "processes") rows then None else Some Check)
     ∷ (codes "draw", Some (drawing_said rows))
     ∷ []
@@ -53,6 +57,7 @@ text_argument World = codes "SCRIPT"
 text_argument States = codes "SCRIPT"
 text_argument Packets = codes "SCRIPT"
 text_argument Settle = codes "SCRIPT"
+text_argument SettleDeliver = codes "SCRIPT"
 text_argument Check = codes "TRACE"
 text_argument Draw = codes "INPUT"
 text_argument DrawPackets = codes "INPUT"
@@ -176,6 +181,7 @@ words_for World keeps = words_of_chats (codes "world") keeps
 words_for States keeps = words_of_states keeps
 words_for Packets keeps = words_of_chats (codes "packets") keeps
 words_for Settle keeps = words_of_chats (codes "settle") keeps
+words_for SettleDeliver keeps = option_map (λ w. (w.0, codes "--deliver" ∷ w.1)) (words_of_chats (codes "settle") keeps)
 words_for Check keeps = Some (codes "check", kept_words keeps)
 words_for Draw keeps = Some (codes "draw", kept_words keeps)
 words_for DrawPackets keeps = Some (codes "draw", codes "--packets" ∷ kept_words keeps)

@@ -2,7 +2,7 @@
 
 ghost use Rattle.std.specs.Prelude.{◌≡◌, IfSome};
 ghost use Rattle.clap.specs.Words.{found_of, rows_of};
-ghost use Rattle.vsync.specs.Words.{drawing_said, task_said, text_argument, IsSaid};
+ghost use Rattle.vsync.specs.Words.{drawing_said, settling_said, task_said, text_argument, IsSaid};
 
 use crate::arguments::{Form, Row, Subcommand, Takes};
 use crate::kept_words::{KEEPS_LOCKS, KEEPS_LONG, KEEPS_MAP, KeptFlags, kept_flags, stands};
@@ -20,6 +20,8 @@ pub enum Task {
     Packets,
     /// The script is run, the changes of view complete that can, and the trace is printed.
     Settle,
+    /// The same, but before it is printed everything that was sent in each calm view is delivered.
+    SettleDeliver,
     /// The trace is checked.
     Check,
     /// The script is run, and a picture of it is drawn.
@@ -30,7 +32,7 @@ pub enum Task {
     DrawTrace,
 }
 
-/// A command over one text, a script or a trace: `world`, `chat`, `packets` or `settle`, each perhaps with `--long`; `map` or `locks`;
+/// A command over one text, a script or a trace: `world`, `chat`, `packets` or `settle`, each perhaps with `--long`, `settle` with `--deliver`; `map` or `locks`;
 /// `check`, or `draw` perhaps with `--packets` or `--trace`, each perhaps with `--long`, `--map` and `--locks`.
 #[derive(Clone, Copy)]
 pub struct TextCommand<'a> {
@@ -54,6 +56,17 @@ const ONE_SCRIPT: [Row<'static>; 1] = [SCRIPT];
 
 // The arguments of the commands over a script whose members keep a chat.
 const CHATS: [Row<'static>; 2] = [SCRIPT, KEEPS_LONG];
+
+// The arguments of `settle`.
+const SETTLED: [Row<'static>; 3] = [
+    SCRIPT,
+    KEEPS_LONG,
+    Row {
+        name: "deliver",
+        form: Form::Flag,
+        help: "Then everything that was sent in a view is delivered to all of it, if all its members are open in it",
+    },
+];
 
 // The arguments of `draw`.
 const DRAWN: [Row<'static>; 6] = [
@@ -105,8 +118,8 @@ pub(crate) const PACKETS: &Subcommand<'static> = &Subcommand {
 pub(crate) const SETTLE: &Subcommand<'static> = &Subcommand {
     name: "settle",
     about: "Runs a script as `world` does, completes the changes of view that can complete, and prints the trace",
-    after_help: "A change of view completes by a tick of the member that has begun it, and by the deliveries that come of that, if all on its list run and would follow. This is done node by node.\n\nExample:\n  vsync settle examples/join.script",
-    arguments: &CHATS,
+    after_help: "A change of view completes by a tick of the member that has begun it, and by the deliveries that come of that, if all on its list run and would follow. This is done node by node.\n\nExamples:\n  vsync settle examples/join.script\n  vsync settle --deliver examples/lost.script",
+    arguments: &SETTLED,
 };
 
 /// The subcommand `draw`.
@@ -146,6 +159,17 @@ fn drawing(matches: &ArgMatches<'_>) -> Task
     }
 }
 
+/// Whether everything is delivered by the flags of `settle`.
+fn settling(matches: &ArgMatches<'_>) -> Task
+    ensures { result ≡ settling_said (rows_of (found_of matches.now)) }
+{
+    if stands(matches, "deliver") {
+        Task::SettleDeliver
+    } else {
+        Task::Settle
+    }
+}
+
 /// What the subcommand of this name does with a text, by its flags; `None` of a subcommand that has no text, or several.
 fn task_in(name: &str, matches: &ArgMatches<'_>) -> Option<Task>
     ensures { result ≡ task_said (name.now, rows_of (found_of matches.now)) }
@@ -154,7 +178,7 @@ fn task_in(name: &str, matches: &ArgMatches<'_>) -> Option<Task>
         "world" => Some(Task::World),
         "chat" | "map" | "locks" => Some(Task::States),
         "packets" => Some(Task::Packets),
-        "settle" => Some(Task::Settle),
+        "settle" => Some(settling(matches)),
         "check" => {
             if stands(matches, "processes") {
                 None
@@ -172,7 +196,9 @@ fn argument_of(task: Task) -> &'static str
     ensures { result.now ≡ text_argument task }
 {
     match task {
-        Task::World | Task::States | Task::Packets | Task::Settle => "SCRIPT",
+        Task::World | Task::States | Task::Packets | Task::Settle | Task::SettleDeliver => {
+            "SCRIPT"
+        }
         Task::Check => "TRACE",
         Task::Draw | Task::DrawPackets | Task::DrawTrace => "INPUT",
     }

@@ -119,7 +119,7 @@ fn parsed<'a>(alloc: Global, words: &'a [String]) -> Result<Invocation<'a>, Erro
 }
 
 /// The command that the words of a command line ask for, the program's name first: `world [--long] SCRIPT`, `chat [--long] SCRIPT`,
-/// `packets [--long] SCRIPT`, `settle [--long] SCRIPT`, `check TRACE`, `check --processes FILE..`, `draw [--packets] SCRIPT`, `draw --trace TRACE`, `map SCRIPT`, `locks SCRIPT`, `udp CONFIG SCRIPT`,
+/// `packets [--long] SCRIPT`, `settle [--long] [--deliver] SCRIPT`, `check TRACE`, `check --processes FILE..`, `draw [--packets] SCRIPT`, `draw --trace TRACE`, `map SCRIPT`, `locks SCRIPT`, `udp CONFIG SCRIPT`,
 /// `member CONFIG NODE INCARNATION ROUNDS` with its options, or `explain CODE`. `check` and `draw` may have `--long`, `--map` or `--locks`.
 /// No words after the name are `world -`. A path that begins with `-` and is more than that stands behind `--`.
 ///

@@ -35,12 +35,12 @@ use Rattle.world.proofs.StageOfInstalls
 use Rattle.world.proofs.StageOfInstalls.{state_packets}
 
 -- what stands in a list
-in-list : (qs : List Address) (k : ℕ) (q : Address) → slice_get qs k ≡ Some q → stands_in q qs ≡ true
+pub in-list : (qs : List Address) (k : ℕ) (q : Address) → slice_get qs k ≡ Some q → stands_in q qs ≡ true
 in-list [] k q at = absurd (none-some q at)
 in-list (p ∷ qs) zero q at = or_left (same_address q p) (stands_in q qs) (ap (same_address q) (same_Some p q at) ∙ same_address-refl q)
 in-list (p ∷ qs) (suc k) q at = or_right (same_address q p) (stands_in q qs) (in-list qs k q at)
 
-in-take : (qs : List Address) (k : ℕ) (q : Address) → stands_in q (take k qs) ≡ true → stands_in q qs ≡ true
+pub in-take : (qs : List Address) (k : ℕ) (q : Address) → stands_in q (take k qs) ≡ true → stands_in q qs ≡ true
 in-take qs zero q there = absurd (let n : false ≡ true = there in cc)
 in-take [] (suc k) q there = absurd (let n : false ≡ true = there in cc)
 in-take (p ∷ qs) (suc k) q there = by (same_address q p) there (in-take qs k q)

@@ -1,4 +1,4 @@
--- Whom a catch-up is about, and what comes of it: the two are level, or one has crashed, or both run.
+-- Whom a catch-up is about, and how its first steps go.
 use Rattle.std.proofs.Common.{◌≡◌, ℕ, Bool, true, false, cond, Option, Some, None, length, refl, sym, ap, ◌∙◌, subst}
 use Rattle.std.specs.Prelude.{◌||◌, is_some}
 use Rattle.std.specs.Option.{option_map, option_map_or, option_and_then}
@@ -33,7 +33,7 @@ use Rattle.world.specs.Invariant.{IsWorld, IsNodeStateOf}
 use Rattle.world.specs.Worlds.{WorldModel}
 use Rattle.world.specs.Pools.{first_for}
 use Rattle.world.specs.Plays.{lacks_memory, Plays}
-use Rattle.world.specs.Gaps.{open_view, is_open_in, pair_of, pair_in, pair_at, Hands, CatchesUp, IsLevel}
+use Rattle.world.specs.Gaps.{open_view, is_open_in, pair_of, pair_in, pair_at, Hands}
 use Rattle.world.proofs.PairsCompared
 use Rattle.world.proofs.KeepOfWorlds
 use Rattle.world.proofs.RepliesPlayed
@@ -126,7 +126,7 @@ module _ {S : Type 0} where
 -- ---- a catch-up
 
 module _ {S : Type 0} (meaning : Meaning S) (laws : KeepBySteps.Laws meaning) where
-  abbrev Keeps : WorldModel S → Type 0
+  abbrev pub Keeps : WorldModel S → Type 0
   Keeps w = IsWorld meaning w.node_states w.history
 
   abbrev Couple : WorldModel S → Address → Address → MemberState S → MemberState S → Coordinator → Follower → Type 0
@@ -136,7 +136,7 @@ module _ {S : Type 0} (meaning : Meaning S) (laws : KeepBySteps.Laws meaning) wh
   node_state-of : (w : WorldModel S) (n : ℕ) (m : MemberModel S) → Keeps w → w.node_states n ≡ Running m → IsNodeStateOf n (last_of n w.history.trace) (is_connected n w.history) w.history.trace (Running m)
   node_state-of w n m keeps node_state = subst (IsNodeStateOf n (last_of n w.history.trace) (is_connected n w.history) w.history.trace) node_state (keeps.node_states n)
 
-  runs-open : (w : WorldModel S) (n : ℕ) (p : Address) (m : MemberModel S) (v : View) → Keeps w → w.node_states n ≡ Running m → m.address ≡ p → (o : IsOpen m v)
+  pub runs-open : (w : WorldModel S) (n : ℕ) (p : Address) (m : MemberModel S) (v : View) → Keeps w → w.node_states n ≡ Running m → m.address ≡ p → (o : IsOpen m v)
       → RepliesPlayed.RunsAs meaning w p o.member_state o.view_state
   runs-open w n p m v keeps node_state is o =
       let k = node_state-of w n m keeps node_state in
@@ -155,7 +155,7 @@ module _ {S : Type 0} (meaning : Meaning S) (laws : KeepBySteps.Laws meaning) wh
         installed = o.installed;
       }
 
-  orderly-of : (w : WorldModel S) (n : ℕ) (p : Address) (m : MemberModel S) (v : View) → Keeps w → w.node_states n ≡ Running m → m.address ≡ p → (o : IsOpen m v) → IsOrderly p o.view_state
+  pub orderly-of : (w : WorldModel S) (n : ℕ) (p : Address) (m : MemberModel S) (v : View) → Keeps w → w.node_states n ≡ Running m → m.address ≡ p → (o : IsOpen m v) → IsOrderly p o.view_state
   orderly-of w n p m v keeps node_state is o =
       let k = MembersAtNodes.is-here meaning laws w.node_states w.history n m keeps node_state (node_state-of w n m keeps node_state).1 in
       subst (λ (q : Address). IsOrderly q o.view_state) is ((k.alive o.member_state o.lives).ordered o.view_state o.keeps)
@@ -230,7 +230,7 @@ module _ {S : Type 0} (meaning : Meaning S) (laws : KeepBySteps.Laws meaning) wh
   -- after the STATUS
   pub asked-so : (old announced asked : WorldModel S) (pair : Pair) (f : Found old pair) (t : CatchUpLevels.AnnouncedSo meaning laws old announced pair.view.creator pair.member f.first f.other f.leads f.follows)
       → Hands meaning (first_for pair.member (length old.history.pool) announced.history.pool) announced asked
-      → CatchUpLevels.AskedSo meaning laws announced asked pair.view.creator pair.member f.first f.leads
+      → CatchUpLevels.AskedSo meaning laws announced asked pair.view.creator pair.member f.first f.leads f.follows
   asked-so old announced asked pair f t hands =
       let x : Plays meaning announced (Deliver t.number) asked =
       subst (λ (o : Option ℕ). Hands meaning o announced asked) t.found hands in
@@ -239,12 +239,3 @@ module _ {S : Type 0} (meaning : Meaning S) (laws : KeepBySteps.Laws meaning) wh
       (Standing.heard meaning laws announced asked t.couple.keeps t.number pair.member f.other t.couple.other.stands m t.status x.step) in
       CatchUpLevels.asked-by meaning laws announced asked pair.view.creator pair.member f.first f.other f.leads f.follows t.couple
       (keeps-on announced asked (Deliver t.number) x t.couple.keeps) h
-
-  -- what the member delivered in the view is what its coordinator delivered there
-  pub levels : (old new : WorldModel S) (n : ℕ) (pair : Pair) → Keeps old → pair_at old.node_states n ≡ Some pair → CatchesUp meaning pair old new → IsLevel pair new.history.trace
-  levels old new n pair keeps e x =
-      let f = found old n pair keeps e in
-      let t = announced-so old x.announced pair f x.ticks in
-      let s = asked-so old x.announced x.asked pair f t x.hears in
-      subst (λ (v : ViewId). CatchUpLevels.Level meaning laws new pair.view.creator pair.member v) f.id
-      (CatchUpLevels.levelled meaning laws x.announced x.asked x.answered pair.view.creator pair.member f.first f.leads s x.asks new x.answers)

@@ -1,15 +1,17 @@
 -- A catch-up brings a member level with the coordinator of its view.
-use Rattle.std.proofs.Common.{◌≡◌, ℕ, zero, suc, ◌+◌, ◌-◌, ◌<◌, ◌≤◌, Bool, true, false, Option, Some, None, List, [], ◌∷◌, ◌++◌, map, drop, length, is_some, nat_eq, nat_lt, inl, inr, ◌⊎◌, refl, sym, ap, ◌∙◌, subst, arith}
+use Rattle.std.proofs.Common.{◌≡◌, ℕ, zero, suc, ◌+◌, ◌-◌, ◌<◌, ◌≤◌, Bool, true, false, cond, min, Option, Some, None, List, [], ◌∷◌, ◌++◌, map, drop, length, is_some, nat_eq, nat_lt, inl, inr, ◌⊎◌, refl, sym, ap, ◌∙◌, subst, arith}
 use Rattle.std.specs.List.{position_from}
 use Rattle.std.specs.Option.{option_map_or}
 use Rattle.std.proofs.lemmas.Bool.Decides.{nat_tests}
 use Rattle.std.proofs.lemmas.List.{append-nil, length-append, length-map}
 use Rattle.std.proofs.Math.Seq.{drop-append_seam}
 use Rattle.address.specs.declared.limits.TheConstants.{WINDOW}
-use Rattle.address.specs.Ids.{Address, ViewId, same_address}
+use Rattle.address.specs.Ids.{Address, same_address}
 use Rattle.view.specs.Members.{View, stands_in}
 use Rattle.wire_values.specs.Values.{Entry, Missing, held_at}
 use Rattle.state_transfer.specs.Meanings.{Meaning}
+use Rattle.sequencer.specs.Forwards.{one_delivered}
+use Rattle.nak_stream.specs.Windows.{WindowModel, taken, collected, held_with, held_above, offers}
 use Rattle.wire_values.specs.declared.packet.Body.TheVariants as bodies
 use Rattle.wire_values.specs.Posted.{Posted, packet}
 use Rattle.trace_props.specs.Observed.{delivered_in}
@@ -27,7 +29,8 @@ use Rattle.traffic.specs.declared.view_state.ViewState.{ViewState}
 use Rattle.traffic.specs.declared.view_state.ViewState.TheVariants as kinds
 use Rattle.traffic.specs.ViewStates.{coordinator_core, follower_core}
 use Rattle.traffic.specs.Followers.{collected_to, held_too}
-use Rattle.traffic.specs.Takes.{Asks, AsksUpTo, progress_of, orders_held}
+use Rattle.traffic.specs.Takes.{Asks, AsksUpTo, progress_of, orders_held, DeliversTo}
+use Rattle.traffic.specs.Takes.DeliversTo.{Starts, DeliversMore}
 use Rattle.membership.specs.declared.member_state.MemberState.{MemberState}
 use Rattle.membership.specs.MemberStates.{core_of as core_at, view_core_in}
 use Rattle.member_rules.specs.Heard.{is_near}
@@ -40,7 +43,7 @@ use Rattle.world.specs.Invariant.{IsWorld}
 use Rattle.world.specs.Worlds.{WorldModel}
 use Rattle.world.specs.Pools.{is_destined, first_for}
 use Rattle.world.specs.Plays.{lacks_memory, Delivers, DeliversPast}
-use Rattle.world.proofs.WindowFills.{MissesWithin, asked-within, nothing-missing, filled}
+use Rattle.world.proofs.WindowFills.{MissesWithin, asked-within, filled}
 use Rattle.world.proofs.PairsCompared
 use Rattle.world.proofs.MembersAtNodes
 use Rattle.world.proofs.MembersAsSystem.{runs, system_of}
@@ -52,6 +55,34 @@ use Rattle.world.proofs.Standing
 use Rattle.step_output.specs.Steps.{who}
 use Rattle.world.proofs.PoolPackets.{IsSound, put-out, AreNext, put-next, next-rest, next-first}
 use Rattle.world.proofs.Deliveries.{delivers-none, delivers-next}
+
+-- ---- what a member keeps while it delivers
+
+delivers-sent : (p : Address) (m n : Follower) (entries : List Entry) → DeliversTo p m entries n → n.forwards.sent ≡ m.forwards.sent
+delivers-sent p m _ _ (Starts _) = refl
+delivers-sent p m _ _ (DeliversMore _ n entries e so there) = by (same_address e.sender p) ∙ delivers-sent p m n entries so
+  where
+    by : (b : Bool) → (cond b (one_delivered n.forwards) n.forwards).sent ≡ n.forwards.sent
+    by true = refl
+    by false = refl
+
+delivers-stable : (p : Address) (m n : Follower) (entries : List Entry) → DeliversTo p m entries n → n.window.stable ≡ m.window.stable
+delivers-stable p m _ _ (Starts _) = refl
+delivers-stable p m _ _ (DeliversMore _ n entries e so there) = delivers-stable p m n entries so
+
+taken-stable : (g : ℕ) (e : Entry) (w : WindowModel) → (taken g e w).stable ≡ w.stable
+taken-stable g e w = by (offers g w)
+  where
+    by : (b : Bool) → (cond b (record w { held = held_with g e w.held }) w).stable ≡ w.stable
+    by true = refl
+    by false = refl
+
+collected-up : (t : ℕ) (w : WindowModel) → w.stable ≤ (collected t w).stable
+collected-up t w = by (nat_lt w.stable (min t w.delivered)) refl
+  where
+    by : (b : Bool) → nat_lt w.stable (min t w.delivered) ≡ b → w.stable ≤ (cond b (record { stable = min t w.delivered; delivered = w.delivered; held = held_above (min t w.delivered) w.held }) w).stable
+    by true e = let x : w.stable < min t w.delivered = grind (arith, nat_tests) in omega (arith, x)
+    by false e = omega arith
 
 -- ---- the two
 
@@ -163,6 +194,7 @@ module _ {S : Type 0} (meaning : Meaning S) (laws : KeepBySteps.Laws meaning) wh
 
   pub record AnnouncedSo (old announced : WorldModel S) (c q : Address) (lc lq : MemberState S) (kc : Coordinator) (kq : Follower) : Type 0 where
     pub couple : Couple announced c q lc lq kc kq
+    pub others : OthersStand c.node old.node_states announced.node_states
     pub number : ℕ
     pub found : first_for q (length old.history.pool) announced.history.pool ≡ Some number
     pub status : Standing.IsFor meaning announced number q (packet c (bodies.Status kc.view.id (progress_of kc.window)) q)
@@ -177,6 +209,7 @@ module _ {S : Type 0} (meaning : Meaning S) (laws : KeepBySteps.Laws meaning) wh
       let rest : drop (length old.history.pool) announced.history.pool ≡ bytes_for world_group posted = ap (drop (length old.history.pool)) t.puts ∙ drop-append_seam old.history.pool (bytes_for world_group posted) in
       record {
         couple = coordinator-moves old announced c q lc lq kc kq x keeps t.runs t.others;
+        others = t.others;
         number = length old.history.pool + 1 + f.place;
         found = ap (position_from (is_destined q) (length old.history.pool + 1)) rest ∙ f.found;
         status = record {
@@ -203,10 +236,12 @@ module _ {S : Type 0} (meaning : Meaning S) (laws : KeepBySteps.Laws meaning) wh
   listed-of v w c same there = ap (λ (z : View). stands_in c z.members) same ∙ there
 
   -- it heard the STATUS
-  pub record AskedSo (announced asked : WorldModel S) (c q : Address) (lc : MemberState S) (kc : Coordinator) : Type 0 where
+  pub record AskedSo (announced asked : WorldModel S) (c q : Address) (lc : MemberState S) (kc : Coordinator) (kq : Follower) : Type 0 where
     pub after : MemberState S
     pub now : Follower
+    pub is : now ≡ collected_to kc.window.stable kq
     pub couple : Couple asked c q lc after kc now
+    pub others : OthersStand q.node announced.node_states asked.node_states
     pub start : Output
     pub out : Output
     pub nothing : Puts [] [] start
@@ -214,7 +249,7 @@ module _ {S : Type 0} (meaning : Meaning S) (laws : KeepBySteps.Laws meaning) wh
     pub puts : asked.history.pool ≡ announced.history.pool ++ map bytes_of out.packets.items
 
   pub asked-by : (announced asked : WorldModel S) (c q : Address) (lc lq : MemberState S) (kc : Coordinator) (kq : Follower) → Couple announced c q lc lq kc kq → Keeps asked
-      → Standing.Heard meaning announced asked q lq (packet c (bodies.Status kc.view.id (progress_of kc.window)) q) → AskedSo announced asked c q lc kc
+      → Standing.Heard meaning announced asked q lq (packet c (bodies.Status kc.view.id (progress_of kc.window)) q) → AskedSo announced asked c q lc kc kq
   asked-by announced asked c q lc lq kc kq x keeps h =
       let n = numbers announced c q lc lq kc kq x in
       let a = progress_of kc.window in
@@ -224,7 +259,9 @@ module _ {S : Type 0} (meaning : Meaning S) (laws : KeepBySteps.Laws meaning) wh
       record {
         after = r.after;
         now = r.now;
+        is = r.is;
         couple = other-moves announced asked c q lc lq r.after kc kq r.now x keeps r.runs r.others (ap (λ (o : Follower). o.view) r.is);
+        others = r.others;
         start = r.start;
         out = r.out;
         nothing = r.nothing;
@@ -234,28 +271,34 @@ module _ {S : Type 0} (meaning : Meaning S) (laws : KeepBySteps.Laws meaning) wh
 
   -- ---- the answers
 
-  pub record Ended (new : WorldModel S) (c q : Address) (lc : MemberState S) (kc : Coordinator) (last : ℕ) : Type 0 where
+  pub record Ended (w new : WorldModel S) (c q : Address) (lc : MemberState S) (kc : Coordinator) (kq : Follower) (last : ℕ) : Type 0 where
     pub member_state : MemberState S
     pub now : Follower
     pub couple : Couple new c q lc member_state kc now
     pub within : MissesWithin (last + 1) last kc.window.delivered now.window
+    pub sent : now.forwards.sent ≡ kq.forwards.sent
+    pub stable : kq.window.stable ≤ now.window.stable
+    pub others : OthersStand q.node w.node_states new.node_states
 
   some-of : (o : Option Entry) → is_some o ≡ true → (e : Entry) × (o ≡ Some e)
   some-of None x = absurd (let bad : false ≡ true = x in cc)
   some-of (Some e) x = (e, refl)
 
   -- one ORDER is heard
-  pub record Round (w mid : WorldModel S) (c q : Address) (lc : MemberState S) (kc : Coordinator) (g last : ℕ) : Type 0 where
+  pub record Round (w mid : WorldModel S) (c q : Address) (lc : MemberState S) (kc : Coordinator) (kq : Follower) (g last : ℕ) : Type 0 where
     pub member_state : MemberState S
     pub now : Follower
     pub couple : Couple mid c q lc member_state kc now
     pub within : MissesWithin (g + 1) last kc.window.delivered now.window
+    pub sent : now.forwards.sent ≡ kq.forwards.sent
+    pub stable : kq.window.stable ≤ now.window.stable
+    pub others : OthersStand q.node w.node_states mid.node_states
     pub more : List (List ℕ)
     pub puts : mid.history.pool ≡ w.history.pool ++ more
 
   pub round : (w mid : WorldModel S) (c q : Address) (lc lq : MemberState S) (kc : Coordinator) (kq : Follower) (g last : ℕ) (e : Entry) → Couple w c q lc lq kc kq
       → MissesWithin g last kc.window.delivered kq.window → g ≤ kc.window.delivered → IsSound (packet c (bodies.Order kc.view.id g e) q) → Keeps mid
-      → Standing.Heard meaning w mid q lq (packet c (bodies.Order kc.view.id g e) q) → Round w mid c q lc kc g last
+      → Standing.Heard meaning w mid q lq (packet c (bodies.Order kc.view.id g e) q) → Round w mid c q lc kc kq g last
   round w mid c q lc lq kc kq g last e x within known sound keeps h =
       let n = numbers w c q lc lq kc kq x in
       let stable = n.stable in
@@ -264,11 +307,18 @@ module _ {S : Type 0} (meaning : Meaning S) (laws : KeepBySteps.Laws meaning) wh
       let near : nat_lt kq.window.delivered (g - WINDOW) ≡ false = grind (arith, nat_tests) in
       let r = RepliesPlayed.ordered meaning w mid c q lq kq g e x.other (own-of kc.view kq.view c x.same x.own) (listed-of kc.view kq.view c x.same n.coordinator) near
       (subst (λ (v : View). Standing.Heard meaning w mid q lq (packet c (bodies.Order v.id g e) q)) (sym x.same) h) in
+      let start = held_too g e (collected_to (g - WINDOW) kq) in
+      let up = collected-up (g - WINDOW) kq.window in
+      let on = delivers-stable q start r.now r.takes.delivers.entries r.takes.delivers.delivers in
+      let kept = taken-stable g e (collected (g - WINDOW) kq.window) in
       record {
         member_state = r.after;
         now = r.now;
         couple = other-moves w mid c q lc lq r.after kc kq r.now x keeps r.runs r.others r.takes.delivers.view;
-        within = filled q g last kc.window.delivered e kq (held_too g e (collected_to (g - WINDOW) kq)) r.now r.takes.delivers.entries sound.body.1.1 far refl r.takes.delivers.delivers within;
+        within = filled q g last kc.window.delivered e kq start r.now r.takes.delivers.entries sound.body.1.1 far refl r.takes.delivers.delivers within;
+        sent = delivers-sent q start r.now r.takes.delivers.entries r.takes.delivers.delivers;
+        stable = omega (arith, up, on, kept);
+        others = r.others;
         more = map bytes_of r.out.packets.items;
         puts = r.puts;
       }
@@ -293,7 +343,7 @@ module _ {S : Type 0} (meaning : Meaning S) (laws : KeepBySteps.Laws meaning) wh
 
   pub rounds : (n g past : ℕ) (w new : WorldModel S) (c q : Address) (lc lq : MemberState S) (kc : Coordinator) (kq : Follower) (last : ℕ) → Couple w c q lc lq kc kq
       → MissesWithin g last kc.window.delivered kq.window → g + n ≡ last + 1 → kc.window.stable < g → last ≤ kc.window.delivered → EachSound world_group (orders c q kc g n)
-      → AreNext past (orders c q kc g n) w.history.pool → Delivers meaning past (length (orders c q kc g n)) w new → Ended new c q lc kc last
+      → AreNext past (orders c q kc g n) w.history.pool → Delivers meaning past (length (orders c q kc g n)) w new → Ended w new c q lc kc kq last
   rounds zero g past w new c q lc lq kc kq last x within count low high sound next all =
       let is : new ≡ w = delivers-none meaning past 0 w new refl all in
       let end : g ≡ last + 1 = omega (arith, count) in
@@ -302,6 +352,9 @@ module _ {S : Type 0} (meaning : Meaning S) (laws : KeepBySteps.Laws meaning) wh
         now = kq;
         couple = subst (λ (v : WorldModel S). Couple v c q lc lq kc kq) (sym is) x;
         within = subst (λ (k : ℕ). MissesWithin k last kc.window.delivered kq.window) end within;
+        sent = refl;
+        stable = omega arith;
+        others = λ m apart. ap (λ (v : WorldModel S). v.node_states m) is;
       }
   rounds (suc n) g past w new c q lc lq kc kq last x within count low high sound next all =
       let known : g ≤ kc.window.delivered = omega (arith, count, high) in
@@ -317,27 +370,26 @@ module _ {S : Type 0} (meaning : Meaning S) (laws : KeepBySteps.Laws meaning) wh
       let h = sure (lacks_memory d.plays.step.answer) d.plays.whole (Standing.heard meaning laws w d.mid x.keeps (past + 1) q lq x.other.stands m f d.plays.step) in
       let keeps = KeepOfWorlds.step-keeps meaning laws w d.mid (Deliver (past + 1)) d.plays.step x.keeps in
       let r = round w d.mid c q lc lq kc kq g last o.entry x within known sounds.0 keeps h in
-      rounds n (g + 1) (past + 1) d.mid new c q lc r.member_state kc r.now last r.couple r.within (omega (arith, count)) (omega (arith, low)) high sounds.1
-      (subst (AreNext (past + 1) rest) (sym r.puts) (next-rest past m rest w.history.pool r.more nexts)) d.rest
+      let y = rounds n (g + 1) (past + 1) d.mid new c q lc r.member_state kc r.now last r.couple r.within (omega (arith, count)) (omega (arith, low)) high sounds.1
+      (subst (AreNext (past + 1) rest) (sym r.puts) (next-rest past m rest w.history.pool r.more nexts)) d.rest in
+      let up = y.stable in
+      let before = r.stable in
+      record {
+        member_state = y.member_state;
+        now = y.now;
+        couple = y.couple;
+        within = y.within;
+        sent = y.sent ∙ r.sent;
+        stable = omega (arith, up, before);
+        others = λ j apart. y.others j apart ∙ r.others j apart;
+      }
 
   -- ---- the whole
-
-  abbrev pub Level : WorldModel S → Address → Address → ViewId → Type 0
-  Level w c q v = delivered_in q v w.history.trace ≡ delivered_in c v w.history.trace
-
-  ended-level : (new : WorldModel S) (c q : Address) (lc : MemberState S) (kc : Coordinator) (last : ℕ) → Ended new c q lc kc last → Level new c q kc.view.id
-  ended-level new c q lc kc last x =
-      (numbers new c q lc x.member_state kc x.now x.couple).level
-      (nothing-missing x.now.window kc.window.delivered (λ g past known. x.within g past known (by g (nat_lt last g) refl)) (none-next new c q lc x.member_state kc x.now x.couple))
-    where
-      by : (g : ℕ) (b : Bool) → nat_lt last g ≡ b → (g < last + 1) ⊎ (last < g)
-      by g true e = let z : last < g = grind (arith, nat_tests) in inr z
-      by g false e = let z : g < last + 1 = grind (arith, nat_tests) in inl z
 
   pub no-more : (xs ys : List (List ℕ)) → xs ≡ ys → length xs - length ys ≡ 0
   no-more xs ys e = let l : length xs ≡ length ys = ap length e in omega (arith, l)
 
-  some-more : (xs ys : List (List ℕ)) (posted : List Posted) → xs ≡ ys ++ bytes_for world_group posted → length xs - length ys ≡ length posted
+  pub some-more : (xs ys : List (List ℕ)) (posted : List Posted) → xs ≡ ys ++ bytes_for world_group posted → length xs - length ys ≡ length posted
   some-more xs ys posted e =
       let l : length xs ≡ length ys + length (bytes_for world_group posted) = ap length e ∙ length-append ys (bytes_for world_group posted) in
       let m : length (bytes_for world_group posted) ≡ length posted = length-map (map (spelled world_group) posted) bytes_of ∙ length-map posted (spelled world_group) in
@@ -348,7 +400,7 @@ module _ {S : Type 0} (meaning : Meaning S) (laws : KeepBySteps.Laws meaning) wh
     pub many : length asked.history.pool - length announced.history.pool ≡ 1
     pub packet : Standing.IsFor meaning asked (length announced.history.pool + 1) c (packet q (bodies.Nak kc.view.id missing) c)
 
-  module _ (announced asked : WorldModel S) (c q : Address) (lc : MemberState S) (kc : Coordinator) (s : AskedSo announced asked c q lc kc) where
+  module _ (announced asked : WorldModel S) (c q : Address) (lc : MemberState S) (kc : Coordinator) (kq : Follower) (s : AskedSo announced asked c q lc kc kq) where
     pub silent-pool : s.out ≡ s.start → asked.history.pool ≡ announced.history.pool
     silent-pool silent =
         s.puts ∙ ap (λ (l : List _). announced.history.pool ++ map bytes_of l) (ap (λ (o : Output). o.packets.items) silent ∙ s.nothing.packets) ∙ append-nil announced.history.pool
@@ -367,19 +419,20 @@ module _ {S : Type 0} (meaning : Meaning S) (laws : KeepBySteps.Laws meaning) wh
           packet = record { there = next-first (length announced.history.pool) nak [] asked.history.pool next; sound = grows.sound.0; goes = refl; other = s.couple.apart };
         }
 
-  module _ (announced asked replied : WorldModel S) (c q : Address) (lc : MemberState S) (kc : Coordinator) (s : AskedSo announced asked c q lc kc)
+  module _ (announced asked replied : WorldModel S) (c q : Address) (lc : MemberState S) (kc : Coordinator) (kq : Follower) (s : AskedSo announced asked c q lc kc kq)
       (asks : DeliversPast meaning (length announced.history.pool) asked replied) where
     -- nothing was missing, and nothing is asked
     pub none-asked : s.out ≡ s.start → replied ≡ asked
     none-asked silent =
         delivers-none meaning (length announced.history.pool) (length asked.history.pool - length announced.history.pool) asked replied
-        (no-more asked.history.pool announced.history.pool (silent-pool announced asked c q lc kc s silent)) asks
+        (no-more asked.history.pool announced.history.pool (silent-pool announced asked c q lc kc kq s silent)) asks
 
     -- or it asked, and was answered by the ORDERs of all that it misses
     pub record Replied : Type 0 where
       pub first : ℕ
       pub last : ℕ
       pub couple : Couple replied c q lc s.after kc s.now
+      pub others : OthersStand c.node asked.node_states replied.node_states
       pub within : MissesWithin first last kc.window.delivered s.now.window
       pub count : first + (last + 1 - first) ≡ last + 1
       pub low : kc.window.stable < first
@@ -391,7 +444,7 @@ module _ {S : Type 0} (meaning : Meaning S) (laws : KeepBySteps.Laws meaning) wh
     pub replied-so : (k : Asks (who q world_group) kc.window.delivered s.now s.start s.out) → Replied
     replied-so k =
         let n = numbers asked c q lc s.after kc s.now s.couple in
-        let nak = nak-of announced asked c q lc kc s k in
+        let nak = nak-of announced asked c q lc kc kq s k in
         let d = delivers-next meaning (length announced.history.pool) (length asked.history.pool - length announced.history.pool) 0 asked replied nak.many asks in
         let mid : replied ≡ d.mid = delivers-none meaning (length announced.history.pool + 1) 0 d.mid replied refl d.rest in
         let h = sure (lacks_memory d.plays.step.answer) d.plays.whole
@@ -408,6 +461,7 @@ module _ {S : Type 0} (meaning : Meaning S) (laws : KeepBySteps.Laws meaning) wh
           first = first;
           last = last;
           couple = subst (λ (w : WorldModel S). Couple w c q lc s.after kc s.now) (sym mid) (coordinator-moves asked d.mid c q lc s.after kc s.now s.couple keeps r.runs r.others);
+          others = λ n apart. ap (λ (w : WorldModel S). w.node_states n) mid ∙ r.others n apart;
           within = asked-within s.now.window kc.window.delivered first last k.least k.greatest;
           count = omega (arith, rising);
           low = omega (arith, low, stable);
@@ -417,19 +471,3 @@ module _ {S : Type 0} (meaning : Meaning S) (laws : KeepBySteps.Laws meaning) wh
               (subst (AreNext (length asked.history.pool) list) (sym r.puts) (put-next asked.history.pool list));
           many = some-more replied.history.pool asked.history.pool list (ap (λ (w : WorldModel S). w.history.pool) mid ∙ r.puts);
         }
-
-    pub levelled : (new : WorldModel S) → DeliversPast meaning (length asked.history.pool) replied new → Level new c q kc.view.id
-    levelled new answers = by s.asks
-      where
-        by : AsksUpTo (who q world_group) kc.window.delivered s.now s.start s.out → Level new c q kc.view.id
-        by (inl k) =
-            let r = replied-so k in
-            ended-level new c q lc kc r.last
-            (rounds (r.last + 1 - r.first) r.first (length asked.history.pool) replied new c q lc s.after kc s.now r.last r.couple r.within r.count r.low r.high r.sound r.next
-            (subst (λ (j : ℕ). Delivers meaning (length asked.history.pool) j replied new) r.many answers))
-        by (inr k) =
-            let a = none-asked k.1 in
-            let b : new ≡ replied = delivers-none meaning (length asked.history.pool) (length replied.history.pool - length asked.history.pool) replied new
-            (no-more replied.history.pool asked.history.pool (ap (λ (w : WorldModel S). w.history.pool) a)) answers in
-            subst (λ (w : WorldModel S). Level w c q kc.view.id) (sym (b ∙ a))
-            ((numbers asked c q lc s.after kc s.now s.couple).level (nothing-missing s.now.window kc.window.delivered k.0 (none-next asked c q lc s.after kc s.now s.couple)))

@@ -1,5 +1,5 @@
 -- A catch-up that ends in an error: the coordinator or the member has crashed at last, or both run as before.
-use Rattle.std.proofs.Common.{◌≡◌, ℕ, zero, suc, ◌+◌, ◌-◌, ◌<◌, ◌≤◌, true, false, Option, Some, List, ◌∷◌, length, inl, inr, refl, sym, ap, ◌∙◌, subst, arith, ⊎_elim}
+use Rattle.std.proofs.Common.{◌≡◌, ℕ, zero, suc, ◌+◌, ◌-◌, ◌<◌, ◌≤◌, true, false, Option, Some, List, ◌∷◌, length, nat_eq, inl, inr, ◌⊎◌, refl, sym, ap, ◌∙◌, subst, arith, ⊎_elim}
 use Rattle.std.specs.Option.{IsSomeAnd, option_map_or}
 use Rattle.std.proofs.lemmas.Bool.{and_from}
 use Rattle.address.specs.Ids.{Address, ViewId, same_address, same_view_id}
@@ -25,7 +25,7 @@ use Rattle.world.specs.Invariant.{IsWorld}
 use Rattle.world.specs.Worlds.{WorldModel}
 use Rattle.world.specs.Pools.{first_for}
 use Rattle.world.specs.Plays.{lacks_memory, Plays, Fails, Breaks, BreaksPast, DeliversPast}
-use Rattle.world.specs.Gaps.{open_view, is_open_in, pair_at, Hands, Stops, BothRun, EndsSo}
+use Rattle.world.specs.Gaps.{open_view, is_open_in, pair_at, Hands, Stops, LosesOne, BothRun, EndsSo}
 use Rattle.world.specs.Gaps.Stops.{AtTick, AtStatus, AtRequest, AtAnswer}
 use Rattle.world.proofs.WindowFills.{MissesWithin}
 use Rattle.law_processes.proofs.PostsAreSpelled.{EachSound}
@@ -40,7 +40,7 @@ use Rattle.world.proofs.Deliveries.{breaks-none, breaks-next}
 
 module _ {S : Type 0} (meaning : Meaning S) where
   -- who runs in a view is open there
-  open-run : (w : WorldModel S) (p : Address) (l : MemberState S) (t : ViewState) (v : ViewId) (r : RepliesPlayed.RunsAs meaning w p l t) → (view_of t).id ≡ v → is_open_in p v (w.node_states p.node) ≡ true
+  pub open-run : (w : WorldModel S) (p : Address) (l : MemberState S) (t : ViewState) (v : ViewId) (r : RepliesPlayed.RunsAs meaning w p l t) → (view_of t).id ≡ v → is_open_in p v (w.node_states p.node) ≡ true
   open-run w p l t v r id =
       let view : open_view (Running r.stands.member) ≡ Some (view_of t) = rw (Standing.core-is meaning w p l r.stands, r.view_state, r.installed) refl in
       let same : same_address r.stands.member.address p ≡ true = ap (λ z. same_address z p) r.stands.address ∙ same_address-refl p in
@@ -59,42 +59,55 @@ module _ {S : Type 0} (meaning : Meaning S) (laws : KeepBySteps.Laws meaning) wh
     member = open-run meaning w pair.member lq (kinds.Follower kq) pair.view x.other (ap (λ (v : View). v.id) x.same ∙ id);
   }
 
-  -- ---- one step that fails
+  -- nobody else did anything
+  abbrev pub Rest : Pair → WorldModel S → WorldModel S → Type 0
+  Rest pair old new = (n : ℕ) → nat_eq pair.view.creator.node n ≡ false → nat_eq pair.member.node n ≡ false → new.node_states n ≡ old.node_states n
 
-  ends-tick : (old new : WorldModel S) (pair : Pair) (lc lq : MemberState S) (kc : Coordinator) (kq : Follower) → Couple old pair.view.creator pair.member lc lq kc kq → kc.view.id ≡ pair.view
-      → Fails meaning old (Tick pair.view.creator.node) new → EndsSo pair new
-  ends-tick old new pair lc lq kc kq x id (inl same) = inr (subst (BothRun pair) (sym same) (both-run old pair lc lq kc kq x id))
-  ends-tick old new pair lc lq kc kq x id (inr f) =
-      let y = CatchUpLevels.lost meaning laws (lacks_memory f.0.answer) f.1 (RepliesPlayed.ticked meaning old new pair.view.creator lc kc x.first f.0) in
-      inl (record { before = old.history.trace; crash = inl y.trace })
+  -- nobody was lost
+  pub record Unharmed (pair : Pair) (old new : WorldModel S) : Type 0 where
+    pub both : BothRun pair new
+    pub rest : Rest pair old new
 
-  -- a packet to the coordinator
-  ends-first : (w new : WorldModel S) (pair : Pair) (lc lq : MemberState S) (kc : Coordinator) (kq : Follower) (k : ℕ) (m : Posted) → Couple w pair.view.creator pair.member lc lq kc kq
-      → kc.view.id ≡ pair.view → Standing.IsFor meaning w k pair.view.creator m → Fails meaning w (Deliver k) new → EndsSo pair new
-  ends-first w new pair lc lq kc kq k m x id f (inl same) = inr (subst (BothRun pair) (sym same) (both-run w pair lc lq kc kq x id))
-  ends-first w new pair lc lq kc kq k m x id f (inr y) =
-      let z = CatchUpLevels.lost meaning laws (lacks_memory y.0.answer) y.1
-      (Standing.heard meaning laws w new x.keeps k pair.view.creator lc x.first.stands m f y.0) in
-      inl (record { before = w.history.trace; crash = inl z.trace })
+  abbrev pub Ends : Pair → WorldModel S → WorldModel S → Type 0
+  Ends pair old new = LosesOne pair new ⊎ Unharmed pair old new
 
-  -- and one to the member
-  ends-other : (w new : WorldModel S) (pair : Pair) (lc lq : MemberState S) (kc : Coordinator) (kq : Follower) (k : ℕ) (m : Posted) → Couple w pair.view.creator pair.member lc lq kc kq
-      → kc.view.id ≡ pair.view → Standing.IsFor meaning w k pair.member m → Fails meaning w (Deliver k) new → EndsSo pair new
-  ends-other w new pair lc lq kc kq k m x id f (inl same) = inr (subst (BothRun pair) (sym same) (both-run w pair lc lq kc kq x id))
-  ends-other w new pair lc lq kc kq k m x id f (inr y) =
-      let z = CatchUpLevels.lost meaning laws (lacks_memory y.0.answer) y.1
-      (Standing.heard meaning laws w new x.keeps k pair.member lq x.other.stands m f y.0) in
-      inl (record { before = w.history.trace; crash = inr z.trace })
+  -- ---- one step that fails, in a catch-up that began in a world `old`
+
+  module _ (old w new : WorldModel S) (pair : Pair) (lc lq : MemberState S) (kc : Coordinator) (kq : Follower) (x : Couple w pair.view.creator pair.member lc lq kc kq) (id : kc.view.id ≡ pair.view) (rest : Rest pair old w) where
+    -- it was not begun
+    not-begun : new ≡ w → Ends pair old new
+    not-begun same = inr (subst (Unharmed pair old) (sym same) (record { both = both-run w pair lc lq kc kq x id; rest = rest }))
+
+    -- the tick of the coordinator
+    ends-tick : Fails meaning w (Tick pair.view.creator.node) new → Ends pair old new
+    ends-tick (inl same) = not-begun same
+    ends-tick (inr f) =
+        let y = CatchUpLevels.lost meaning laws (lacks_memory f.0.answer) f.1 (RepliesPlayed.ticked meaning w new pair.view.creator lc kc x.first f.0) in
+        inl (record { before = w.history.trace; crash = inl y.trace })
+
+    -- a packet to the coordinator
+    ends-first : (k : ℕ) (m : Posted) → Standing.IsFor meaning w k pair.view.creator m → Fails meaning w (Deliver k) new → Ends pair old new
+    ends-first k m f (inl same) = not-begun same
+    ends-first k m f (inr y) =
+        let z = CatchUpLevels.lost meaning laws (lacks_memory y.0.answer) y.1 (Standing.heard meaning laws w new x.keeps k pair.view.creator lc x.first.stands m f y.0) in
+        inl (record { before = w.history.trace; crash = inl z.trace })
+
+    -- and one to the member
+    ends-other : (k : ℕ) (m : Posted) → Standing.IsFor meaning w k pair.member m → Fails meaning w (Deliver k) new → Ends pair old new
+    ends-other k m f (inl same) = not-begun same
+    ends-other k m f (inr y) =
+        let z = CatchUpLevels.lost meaning laws (lacks_memory y.0.answer) y.1 (Standing.heard meaning laws w new x.keeps k pair.member lq x.other.stands m f y.0) in
+        inl (record { before = w.history.trace; crash = inr z.trace })
 
   -- ---- the answers
 
-  rounds-break : (n g past : ℕ) (w new : WorldModel S) (pair : Pair) (lc lq : MemberState S) (kc : Coordinator) (kq : Follower) (last : ℕ) → Couple w pair.view.creator pair.member lc lq kc kq
-      → kc.view.id ≡ pair.view → MissesWithin g last kc.window.delivered kq.window → g + n ≡ last + 1 → kc.window.stable < g → last ≤ kc.window.delivered
+  rounds-break : (n g past : ℕ) (old w new : WorldModel S) (pair : Pair) (lc lq : MemberState S) (kc : Coordinator) (kq : Follower) (last : ℕ) → Couple w pair.view.creator pair.member lc lq kc kq
+      → kc.view.id ≡ pair.view → Rest pair old w → MissesWithin g last kc.window.delivered kq.window → g + n ≡ last + 1 → kc.window.stable < g → last ≤ kc.window.delivered
       → EachSound world_group (CatchUpLevels.orders meaning laws pair.view.creator pair.member kc g n)
       → AreNext past (CatchUpLevels.orders meaning laws pair.view.creator pair.member kc g n) w.history.pool
-      → Breaks meaning past (length (CatchUpLevels.orders meaning laws pair.view.creator pair.member kc g n)) w new → EndsSo pair new
-  rounds-break zero g past w new pair lc lq kc kq last x id within count low high sound next all = absurd (breaks-none meaning past 0 w new refl all)
-  rounds-break (suc n) g past w new pair lc lq kc kq last x id within count low high sound next all =
+      → Breaks meaning past (length (CatchUpLevels.orders meaning laws pair.view.creator pair.member kc g n)) w new → Ends pair old new
+  rounds-break zero g past old w new pair lc lq kc kq last x id rest within count low high sound next all = absurd (breaks-none meaning past 0 w new refl all)
+  rounds-break (suc n) g past old w new pair lc lq kc kq last x id stand within count low high sound next all =
       let c = pair.view.creator in
       let q = pair.member in
       let o = CatchUpLevels.order-at meaning laws w c q lc lq kc kq n g last x count low high in
@@ -104,65 +117,70 @@ module _ {S : Type 0} (meaning : Meaning S) (laws : KeepBySteps.Laws meaning) wh
       let nexts : AreNext past (m ∷ rest) w.history.pool = subst (λ (l : List Posted). AreNext past l w.history.pool) o.is next in
       let f : Standing.IsFor meaning w (past + 1) q m =
       record { there = next-first past m rest w.history.pool nexts; sound = sounds.0; goes = refl; other = same_address-sym c q ∙ x.apart } in
-      ⊎_elim (λ fails. ends-other w new pair lc lq kc kq (past + 1) m x id f fails)
+      ⊎_elim (λ fails. ends-other old w new pair lc lq kc kq x id stand (past + 1) m f fails)
       (λ d.
       let h = CatchUpLevels.sure meaning laws (lacks_memory d.plays.step.answer) d.plays.whole
       (Standing.heard meaning laws w d.mid x.keeps (past + 1) q lq x.other.stands m f d.plays.step) in
       let keeps = KeepOfWorlds.step-keeps meaning laws w d.mid (Deliver (past + 1)) d.plays.step x.keeps in
       let known : g ≤ kc.window.delivered = omega (arith, count, high) in
       let r = CatchUpLevels.round meaning laws w d.mid c q lc lq kc kq g last o.entry x within known sounds.0 keeps h in
-      rounds-break n (g + 1) (past + 1) d.mid new pair lc r.member_state kc r.now last r.couple id r.within (omega (arith, count)) (omega (arith, low)) high sounds.1
+      rounds-break n (g + 1) (past + 1) old d.mid new pair lc r.member_state kc r.now last r.couple id (λ j a b. r.others j b ∙ stand j a b) r.within (omega (arith, count)) (omega (arith, low)) high sounds.1
       (subst (AreNext (past + 1) rest) (sym r.puts) (next-rest past m rest w.history.pool r.more nexts)) d.rest)
       (breaks-next meaning past (length (m ∷ rest)) (length rest) w new refl (subst (λ (l : List Posted). Breaks meaning past (length l) w new) o.is all))
 
   -- ---- all stages
 
-  pub ends : (old new : WorldModel S) (n : ℕ) (pair : Pair) → IsWorld meaning old.node_states old.history → pair_at old.node_states n ≡ Some pair
-      → Stops meaning pair old new → EndsSo pair new
-  ends old _ n pair keeps e (AtTick new fails) =
-      let f = CatchUpEnds.found meaning laws old n pair keeps e in
-      ends-tick old new pair f.first f.other f.leads f.follows f.couple f.id fails
-  ends old _ n pair keeps e (AtStatus announced new ticks fails) =
-      let f = CatchUpEnds.found meaning laws old n pair keeps e in
+  pub ends-from : (old new : WorldModel S) (pair : Pair) → CatchUpEnds.Found meaning laws old pair → Stops meaning pair old new → Ends pair old new
+  ends-from old _ pair f (AtTick new fails) = ends-tick old old new pair f.first f.other f.leads f.follows f.couple f.id (λ n a b. refl) fails
+  ends-from old _ pair f (AtStatus announced new ticks fails) =
       let t = CatchUpEnds.announced-so meaning laws old announced pair f ticks in
       let x : Fails meaning announced (Deliver t.number) new =
       subst (λ (o : Option ℕ). IsSomeAnd o (λ k. Fails meaning announced (Deliver k) new)) t.found fails in
-      ends-other announced new pair f.first f.other f.leads f.follows t.number _ t.couple f.id t.status x
-  ends old _ n pair keeps e (AtRequest announced asked new ticks hands breaks) =
-      let f = CatchUpEnds.found meaning laws old n pair keeps e in
-      let t = CatchUpEnds.announced-so meaning laws old announced pair f ticks in
-      let s = CatchUpEnds.asked-so meaning laws old announced asked pair f t hands in
-      by f s s.asks
+      ends-other old announced new pair f.first f.other f.leads f.follows t.couple f.id (λ n a b. t.others n a) t.number _ t.status x
+  ends-from old _ pair f (AtRequest announced asked new ticks hands breaks) = by s.asks
     where
-      by : (f : CatchUpEnds.Found meaning laws old pair)
-          (s : CatchUpLevels.AskedSo meaning laws announced asked pair.view.creator pair.member f.first f.leads)
-          → AsksUpTo (who pair.member world_group) f.leads.window.delivered s.now s.start s.out → EndsSo pair new
-      by f s (inl k) =
-          let nak = CatchUpLevels.nak-of meaning laws announced asked pair.view.creator pair.member f.first f.leads s k in
-          ⊎_elim (λ fails. ends-first asked new pair f.first s.after f.leads s.now (length announced.history.pool + 1) (packet pair.member (bodies.Nak f.leads.view.id k.missing) pair.view.creator) s.couple f.id nak.packet fails)
+      t : CatchUpLevels.AnnouncedSo meaning laws old announced pair.view.creator pair.member f.first f.other f.leads f.follows
+      t = CatchUpEnds.announced-so meaning laws old announced pair f ticks
+
+      s : CatchUpLevels.AskedSo meaning laws announced asked pair.view.creator pair.member f.first f.leads f.follows
+      s = CatchUpEnds.asked-so meaning laws old announced asked pair f t hands
+
+      by : AsksUpTo (who pair.member world_group) f.leads.window.delivered s.now s.start s.out → Ends pair old new
+      by (inl k) =
+          let nak = CatchUpLevels.nak-of meaning laws announced asked pair.view.creator pair.member f.first f.leads f.follows s k in
+          ⊎_elim (λ fails. ends-first old asked new pair f.first s.after f.leads s.now s.couple f.id (λ n a b. s.others n b ∙ t.others n a) (length announced.history.pool + 1)
+          (packet pair.member (bodies.Nak f.leads.view.id k.missing) pair.view.creator) nak.packet fails)
           (λ d. absurd (breaks-none meaning (length announced.history.pool + 1) 0 d.mid new refl d.rest))
           (breaks-next meaning (length announced.history.pool) (length asked.history.pool - length announced.history.pool) 0 asked new nak.many breaks)
-      by f s (inr k) =
+      by (inr k) =
           absurd (breaks-none meaning (length announced.history.pool) (length asked.history.pool - length announced.history.pool) asked new
           (CatchUpLevels.no-more meaning laws asked.history.pool announced.history.pool
-          (CatchUpLevels.silent-pool meaning laws announced asked pair.view.creator pair.member f.first f.leads s k.1)) breaks)
-  ends old _ n pair keeps e (AtAnswer announced asked replied new ticks hands asks breaks) =
-      let f = CatchUpEnds.found meaning laws old n pair keeps e in
-      let t = CatchUpEnds.announced-so meaning laws old announced pair f ticks in
-      let s = CatchUpEnds.asked-so meaning laws old announced asked pair f t hands in
-      by f s s.asks
+          (CatchUpLevels.silent-pool meaning laws announced asked pair.view.creator pair.member f.first f.leads f.follows s k.1)) breaks)
+  ends-from old _ pair f (AtAnswer announced asked replied new ticks hands asks breaks) = by s.asks
     where
-      by : (f : CatchUpEnds.Found meaning laws old pair)
-          (s : CatchUpLevels.AskedSo meaning laws announced asked pair.view.creator pair.member f.first f.leads)
-          → AsksUpTo (who pair.member world_group) f.leads.window.delivered s.now s.start s.out → EndsSo pair new
-      by f s (inl k) =
-          let r = CatchUpLevels.replied-so meaning laws announced asked replied pair.view.creator pair.member f.first f.leads s asks k in
-          rounds-break (r.last + 1 - r.first) r.first (length asked.history.pool) replied new pair f.first s.after f.leads s.now r.last r.couple f.id r.within r.count r.low r.high r.sound r.next
-          (subst (λ (j : ℕ). Breaks meaning (length asked.history.pool) j replied new) r.many breaks)
-      by f s (inr k) =
-          let a : replied ≡ asked = CatchUpLevels.none-asked meaning laws announced asked replied pair.view.creator pair.member f.first f.leads s asks k.1 in
+      t : CatchUpLevels.AnnouncedSo meaning laws old announced pair.view.creator pair.member f.first f.other f.leads f.follows
+      t = CatchUpEnds.announced-so meaning laws old announced pair f ticks
+
+      s : CatchUpLevels.AskedSo meaning laws announced asked pair.view.creator pair.member f.first f.leads f.follows
+      s = CatchUpEnds.asked-so meaning laws old announced asked pair f t hands
+
+      by : AsksUpTo (who pair.member world_group) f.leads.window.delivered s.now s.start s.out → Ends pair old new
+      by (inl k) =
+          let r = CatchUpLevels.replied-so meaning laws announced asked replied pair.view.creator pair.member f.first f.leads f.follows s asks k in
+          rounds-break (r.last + 1 - r.first) r.first (length asked.history.pool) old replied new pair f.first s.after f.leads s.now r.last r.couple f.id (λ n a b. r.others n a ∙ s.others n b ∙ t.others n a)
+          r.within r.count r.low r.high r.sound r.next (subst (λ (j : ℕ). Breaks meaning (length asked.history.pool) j replied new) r.many breaks)
+      by (inr k) =
+          let a : replied ≡ asked = CatchUpLevels.none-asked meaning laws announced asked replied pair.view.creator pair.member f.first f.leads f.follows s asks k.1 in
           absurd (breaks-none meaning (length asked.history.pool) (length replied.history.pool - length asked.history.pool) replied new
           (CatchUpLevels.no-more meaning laws replied.history.pool asked.history.pool (ap (λ (w : WorldModel S). w.history.pool) a)) breaks)
+
+  pub ends : (old new : WorldModel S) (n : ℕ) (pair : Pair) → IsWorld meaning old.node_states old.history → pair_at old.node_states n ≡ Some pair
+      → Stops meaning pair old new → EndsSo pair new
+  ends old new n pair keeps e x = by (ends-from old new pair (CatchUpEnds.found meaning laws old n pair keeps e) x)
+    where
+      by : Ends pair old new → EndsSo pair new
+      by (inl lost) = inl lost
+      by (inr unharmed) = inr unharmed.both
 
 -- ---- from what the code did
 

@@ -51,7 +51,7 @@ module _ {S : Type 0} (meaning : Meaning S) (laws : KeepBySteps.Laws meaning) (a
     block = x.fact.standing.block;
   }
 
-  open-at : (s : NodeState S) (q : Address) (v : ViewId) → at q.node ≡ s → is_open_in q v s ≡ runs_open_in q v h.trace
+  pub open-at : (s : NodeState S) (q : Address) (v : ViewId) → at q.node ≡ s → is_open_in q v s ≡ runs_open_in q v h.trace
   open-at Vacant q v e = rw (← WorldsAfterEvents.nobody-yet meaning at h q.node w e) refl
   open-at (Ended p) q v e = rw (← WorldsAfterEvents.nobody-more meaning at h q.node p w e) refl
   open-at (Running m) q v e =

@@ -13,3 +13,5 @@ pub mod Completing
 pub mod Gaps
 pub mod Known
 pub mod Settled
+pub mod Calm
+pub mod NotThrough

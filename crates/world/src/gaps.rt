@@ -27,13 +27,13 @@ use world_model::WorldEvent;
 
 /// A member and the coordinator of its view: two members that run in that view and are not blocked.
 #[derive(Clone, Copy)]
-struct Pair {
-    member: Address,
-    view: ViewId,
+pub(crate) struct Pair {
+    pub(crate) member: Address,
+    pub(crate) view: ViewId,
 }
 
 /// The view in which the member that runs here is, and is not blocked.
-fn open_view<R: Receiver>(node_state: &NodeState<R>) -> Option<&View>
+pub(crate) fn open_view<R: Receiver>(node_state: &NodeState<R>) -> Option<&View>
     ensures { option_copied result ≡ open_view node_state.now }
 {
     match node_state {
@@ -49,7 +49,11 @@ fn open_view<R: Receiver>(node_state: &NodeState<R>) -> Option<&View>
 }
 
 /// Whether the member of an address runs here, in a view of this id, and is not blocked.
-fn is_open_in<R: Receiver>(node_state: &NodeState<R>, address: Address, view: ViewId) -> bool
+pub(crate) fn is_open_in<R: Receiver>(
+    node_state: &NodeState<R>,
+    address: Address,
+    view: ViewId,
+) -> bool
     ensures { result ≡ is_open_in address view node_state.now }
 {
     match node_state {
@@ -117,7 +121,7 @@ impl<R: Receiver> World<R> {
     }
 
     /// Plays the steps of a catch-up.
-    fn bring_level(&mut self, pair: &Pair) -> Result<(), AllocError>
+    pub(crate) fn bring_level(&mut self, pair: &Pair) -> Result<(), AllocError>
         ensures ok { OnOk result (CatchesUp R.meaning pair.now (shown self.old) (shown self.new)) }
         ensures err { OnErr result (Stops R.meaning pair.now (shown self.old) (shown self.new)) }
     {

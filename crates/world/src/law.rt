@@ -1,5 +1,7 @@
 ghost use Rattle.world.specs.Settles.{ViewsSettle, SettlesBriefly, SettlingsEnd};
 ghost use Rattle.world.specs.Completing.{ViewsComplete, CompletesBriefly, CompletionsEnd};
+ghost use Rattle.world.specs.Calm.{CalmViewsDeliver, CalmViewsAreBrief, CalmRoundsEnd};
+ghost use Rattle.world.specs.NotThrough.{MissingIsRefuted, UnstableIsRefuted, StoryIsRefuted};
 ghost use Rattle.world.specs.Meets.{LoneViewsMeet, LoneViewsJoin};
 ghost use Rattle.world.specs.LowProposals.{ProposalsRise, ProposalsOvertake, OvertakingsSettle, OvertakesBriefly, OvertakingsEnd, RoundsAreEnough};
 
@@ -55,4 +57,22 @@ pub fn low_proposals_rise<R: Receiver>()
     ensures brief { OvertakesBriefly R.meaning }
     ensures ends { OvertakingsEnd R.meaning }
     ensures enough { RoundsAreEnough R.meaning }
+{}
+
+/// The law of calm views. In every world that comes of any events: where all members of the view of the member that runs at a node run in it and are not
+/// blocked, and numbers of its order are left, then after four calm rounds each of them has delivered every message that was sent in the view, in one order, and
+/// knows all of them to be stable. These are at most 4,928 events. Where a growth is refused, one of the view's members has crashed, or a step was not begun and
+/// all members are open as before. For every receiver that keeps the laws. It does nothing.
+pub fn calm_views_deliver<R: Receiver>()
+    ensures deliver { CalmViewsDeliver R.meaning }
+    ensures brief { CalmViewsAreBrief R.meaning }
+    ensures ends { CalmRoundsEnd R.meaning }
+{}
+
+/// What the end of the law of calm views refutes: a world in which a member of the view has not delivered a message that another sent there (`missing`), one such
+/// written in full (`story`), and one in which a member does not know all of it to be stable (`unstable`). It does nothing.
+pub fn missing_messages_are_seen<R: Receiver>()
+    ensures missing { MissingIsRefuted R }
+    ensures unstable { UnstableIsRefuted R }
+    ensures story { StoryIsRefuted R }
 {}

@@ -18,6 +18,7 @@ ghost use Rattle.world.specs.NodeStates.{deployment_of};
 ghost use Rattle.world.specs.Turns.{Carries};
 ghost use Rattle.world.specs.Known.{IsStableAt, MembersKnow, stable_at};
 
+mod calm;
 mod followers;
 mod gaps;
 mod installs;
@@ -31,9 +32,13 @@ mod settle;
 
 use address::limits::{Refusal, STEP_EVENTS};
 use address::{Address, Bytes, Node};
+pub use calm::calm_view;
 pub use followers::{begun, is_settling};
 pub use installs::{awaited, awaits_install};
-pub use law::{lone_views_meet, low_proposals_rise, views_complete, views_settle};
+pub use law::{
+    calm_views_deliver, lone_views_meet, low_proposals_rise, missing_messages_are_seen,
+    views_complete, views_settle,
+};
 use law_processes::deployments_are_synchronous;
 pub use node_state::NodeState;
 pub use nodes::carry;

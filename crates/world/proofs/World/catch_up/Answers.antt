@@ -8,7 +8,7 @@ use Rattle.world.specs.Worlds.{WorldValue, shown}
 use Rattle.world.specs.Gaps.{pair_at, EndsSo, IsLevel}
 use Rattle.world.proofs.KeepOfWorlds.{reached-keeps}
 use Rattle.world.proofs.PairsAreOpen.{open-pair-is}
-use Rattle.world.proofs.CatchUpEnds.{levels}
+use Rattle.world.proofs.BroughtLevel.{levels}
 use Rattle.world.proofs.CatchUpStops.{ends}
 use Rattle.world.proofs.CatchUpIsRun.{catches-longer, stops-longer}
 use Rattle.world.proofs.World.catch_up.Goals as goal

@@ -1,8 +1,0 @@
-use Rattle.world.specs.Worlds.{IsLonger, shown}
-use Rattle.commands.specs.Settled.{KeepsRules, SettlesTo}
-use Rattle.commands.proofs.settles.run_and_settle.Given as goal
-
--- the changes of view have completed up to this node
-abbrev pub invariant-loop-before : goal.invariant-loop-before
-invariant-loop-before g l =
-    SettlesTo g.R.Receiver.meaning (shown l.initial.world) l.before (shown l.world) × IsLonger l.initial.world.history l.world.history × KeepsRules g.R.Receiver.meaning (shown l.world)
