@@ -203,8 +203,8 @@ impl<R: Receiver> Channel<R> {
         }
     }
 
-    /// How many messages of its view it knows to be stable: each member of the view has delivered them, the first of its order, so they are in the state of each that goes on from this view
-    /// (docs/PROTOCOL.md, "Stability"). 0 when a view is installed, without a view, and after its end.
+    /// How many messages of its view it knows to be stable: each member of the view has delivered them, the first of its order. They are in the state of each that goes on from this
+    /// view, unless that is given another state later (docs/PROTOCOL.md, "Stability"). 0 when a view is installed, without a view, and after its end.
     pub fn stable(&self) -> u64
         ensures { result ≡ stable_in self.now.stage }
     {
