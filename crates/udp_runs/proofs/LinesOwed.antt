@@ -1,6 +1,7 @@
 -- What a node that runs by itself keeps of its lines, from one call to the next.
-use Rattle.std.proofs.Common.{◌≡◌, ℕ, true, false, List, [], ◌++◌, Option, Some, Result, Ok, Err, IfOk, IsOk, OnOk, inl, inr, refl, sym, ◌∙◌, subst}
+use Rattle.std.proofs.Common.{◌≡◌, ℕ, true, false, List, [], ◌++◌, Option, None, Some, ap, Result, Ok, Err, IfOk, IsOk, OnOk, inl, inr, refl, sym, ◌∙◌, subst}
 use Rattle.std.specs.Result.{IsErr}
+use Rattle.std.specs.Option.{is_some}
 use Rattle.std.proofs.lemmas.Option.{same_Some}
 use Rattle.address.specs.Ids.{ViewId}
 use Rattle.view.specs.Members.{View}
@@ -34,6 +35,12 @@ on-any P (Err e) p = tt
 pub no-ok : {A E : Type 0} (P : A → Type 0) (r : Result A E) → IsErr r → IfOk r P
 no-ok P (Ok a) e = absurd (let bad : false ≡ true = e in cc)
 no-ok P (Err e) x = tt
+
+-- where no list of what came is kept, any text is such a line
+pub unlisted-line : (start came : Option (List ℕ)) (text : List ℕ) → came ≡ None → IsLineOf start came text
+unlisted-line (Some start) None text none = tt
+unlisted-line (Some start) (Some came) text none = absurd (let bad : is_some (Some came) ≡ false = ap is_some none in cc)
+unlisted-line None came text none = tt
 
 -- the next line may be said
 pub line-of : (start came : Option (List ℕ)) (o o' : OutboxModel) (u : UnsaidModel) (line text : List ℕ) → o' ≡ o → line ≡ text → (text ≡ before_byte 10 o'.waiting) × (is_whole o'.waiting ≡ true)

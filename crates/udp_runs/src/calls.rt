@@ -65,8 +65,8 @@ pub(crate) fn asked_by(event: &WorldEvent) -> Asked<'_>
     }
 }
 
-/// Sends a payload by a channel; answers the number of its message in the view. The outer error says that memory was refused before that.
-pub(crate) fn send<N: Net, C: Application>(
+/// Sends a payload by a channel; answers the number of its message in the view. The outer error says that it ran out of memory before that.
+pub(crate) fn send_numbered<N: Net, C: Application>(
     alloc: Global,
     runner: &mut Runner<N, C>,
     payload: &Bytes,
@@ -79,6 +79,22 @@ pub(crate) fn send<N: Net, C: Application>(
     match runner.channel().send(payload) {
         Ok(number) => Ok(Ok(number)),
         Err((_, error)) => Ok(Err(error)),
+    }
+}
+
+// The same, without the number.
+fn send<N: Net, C: Application>(
+    alloc: Global,
+    runner: &mut Runner<N, C>,
+    payload: &Bytes,
+) -> Result<Result<(), Error>, AllocError>
+    ensures makes { IfOk result (λ answer. IsCall (CallsLent C.meaning input.Send payload.now) runner.old (result_err answer) runner.new) }
+    ensures called { (group : List ℕ) → IfOk result (λ answer. MakesNoOffer N.log N.failed (IsThat runner.old.channel.stage payload.now) C.meaning group runner.old [] (result_err answer) runner.new) }
+    ensures uncalled { IfErr result (λ _. runner.new ≡ runner.old) }
+{
+    match send_numbered(alloc, runner, payload)? {
+        Ok(_) => Ok(Ok(())),
+        Err(error) => Ok(Err(error)),
     }
 }
 
@@ -97,10 +113,7 @@ pub(crate) fn do_call<N: Net, C: Application>(
     match call {
         Call::Create => Ok(runner.channel().connect_new(group)),
         Call::Join(contact) => Ok(runner.channel().connect_to(group, *contact)),
-        Call::Send(payload) => match send(alloc, runner, payload)? {
-            Ok(_) => Ok(Ok(())),
-            Err(error) => Ok(Err(error)),
-        },
+        Call::Send(payload) => send(alloc, runner, payload),
         Call::Tick => Ok(runner.channel().tick()),
         Call::Suspect(address) => Ok(runner.channel().suspect(*address)),
         Call::MergeHint(address) => Ok(runner.channel().merge_hint(*address)),

@@ -182,6 +182,11 @@ impl<'a, N: Net, C: Application> LoneNode<'a, N, C> {
         tally
     }
 
+    // Whether it gives up its address, or was asked to leave.
+    fn is_going(&self) -> bool {
+        self.gives_up | self.is_leaving
+    }
+
     // Whether it has ended, or no more lines come.
     fn is_over(&self) -> bool {
         self.has_ended | self.outbox.is_over()
@@ -382,7 +387,7 @@ impl<'a, N: Net, C: Application> LoneNode<'a, N, C> {
         ensures voice { self.new.teller.voice ≡ self.old.teller.voice }
         ensures came { L.came lines.new ≡ L.came lines.old }
     {
-        if !(leaves || self.gives_up || self.is_leaving) {
+        if !(leaves || self.is_going()) {
             return Ok(());
         }
         let left = left_by(self.member.channel().disconnect());

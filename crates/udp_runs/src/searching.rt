@@ -105,15 +105,16 @@ impl<'a, N: Net, C: Application> LoneNode<'a, N, C> {
         let call = match step {
             Step::Stay => return Ok(()),
             Step::Ask(contact) => Call::Join(contact),
-            Step::Make => {
-                self.watch.note(Notice::FoundNobody);
-                Call::Create
-            }
+            Step::Make => Call::Create,
             Step::Again => {
                 self.gives_up = true;
                 return Ok(());
             }
         };
-        say_nothing(self.alloc, &mut self.member, settings, &call)
+        let said = say_nothing(self.alloc, &mut self.member, settings, &call);
+        if matches!(call, Call::Create) {
+            self.watch.note(Notice::FoundNobody);
+        }
+        said
     }
 }

@@ -10,7 +10,7 @@ ghost use Rattle.udp_runs.specs.Outboxes.{OutboxModel, without_next};
 ghost use Rattle.udp_runs.specs.Unsaid.{UnsaidModel};
 ghost use Rattle.udp_runs.specs.Came.{Fills, IsEarlier, IsLineOf, IsSentOf, IsText, Keeps, Owes};
 
-use crate::calls::send;
+use crate::calls::send_numbered;
 use crate::ends::Cut;
 use crate::lone::{LoneNode, unless_memory};
 use crate::outbox::{Outbox, OutboxError};
@@ -211,7 +211,7 @@ impl<'a, N: Net, C: Application> LoneNode<'a, N, C> {
         ensures same { (self.new.teller.voice ≡ self.old.teller.voice) × (self.new.once ≡ self.old.once) }
         ensures owes { (start came : Option (List ℕ)) → IsSentOf start came sent → Owes start came self.old.outbox self.old.teller.unsaid → OnOk result (Owes start came self.new.outbox self.new.teller.unsaid) }
     {
-        let answer = send(self.alloc, &mut self.member, payload)?;
+        let answer = send_numbered(self.alloc, &mut self.member, payload)?;
         let number = unless_memory(answer)?;
         let is_noted = number.is_some() & (self.manner.finds | C::says_again());
         note_sent(&mut self.teller.unsaid, is_noted, sent)?;

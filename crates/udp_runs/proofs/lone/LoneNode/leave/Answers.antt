@@ -4,10 +4,10 @@ use Rattle.udp_runs.proofs.ProcessesTurn.{left-so}
 use Rattle.udp_runs.proofs.lone.LoneNode.leave.Goals as goal
 use Rattle.udp_runs.proofs.lone.LoneNode.leave.Goals.{then-leaves, else-leaves}
 
-pub returns-then-not-self-clause-tells : goal.returns-then-not-self-clause-tells
-returns-then-not-self-clause-tells g c group start later none =
+pub returns-then-not-is_going-clause-tells : goal.returns-then-not-is_going-clause-tells
+returns-then-not-is_going-clause-tells g c group start later none =
     elim c.if-leaves.branch [
-      | then-leaves w ↦ absurd (let bad : true ≡ false = sym w.if-leaves.true ∙ sym w.value-is ∙ c.if-not-self.true in cc)
+      | then-leaves w ↦ absurd (let bad : true ≡ false = sym w.if-leaves.true ∙ sym w.value-is ∙ c.if-not-is_going.true in cc)
       | else-leaves w ↦ rw (w.if-leaves.false) (end-none _ _ _ _ group _ _ _ _ none)
     ]
 

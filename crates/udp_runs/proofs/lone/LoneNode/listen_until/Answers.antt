@@ -32,8 +32,8 @@ loop-preserved g c =
       λ start owed. c.in-Ok.ensures.owes start (rw c.look.ensures (owes start owed)),
     )
 
-pub returns-then-self-is_over-clause-owes : goal.returns-then-self-is_over-clause-owes
-returns-then-self-is_over-clause-owes g c = let (told, voice, gone, once, grows, owes) = c.loop.invariant in owes
+pub returns-then-is_over-leaves-clause-owes : goal.returns-then-is_over-leaves-clause-owes
+returns-then-is_over-leaves-clause-owes g c = let (told, voice, gone, once, grows, owes) = c.loop.invariant in owes
 
 pub returns-clause-owes : goal.returns-clause-owes
 returns-clause-owes g c = let (told, voice, gone, once, grows, owes) = c.loop.invariant in owes
@@ -50,17 +50,17 @@ returns-then-round-eq0-clause-gone g c = refl
 pub returns-then-round-eq0-clause-grows : goal.returns-then-round-eq0-clause-grows
 returns-then-round-eq0-clause-grows g c = earlier-refl _
 
-pub returns-then-self-is_over-clause-same : goal.returns-then-self-is_over-clause-same
-returns-then-self-is_over-clause-same g c = let (told, voice, gone, once, grows, owes) = c.loop.invariant in (voice, once)
+pub returns-then-is_over-leaves-clause-same : goal.returns-then-is_over-leaves-clause-same
+returns-then-is_over-leaves-clause-same g c = let (told, voice, gone, once, grows, owes) = c.loop.invariant in (voice, once)
 
-pub returns-then-self-is_over-clause-tells : goal.returns-then-self-is_over-clause-tells
-returns-then-self-is_over-clause-tells g c = let (told, voice, gone, once, grows, owes) = c.loop.invariant in told
+pub returns-then-is_over-leaves-clause-tells : goal.returns-then-is_over-leaves-clause-tells
+returns-then-is_over-leaves-clause-tells g c = let (told, voice, gone, once, grows, owes) = c.loop.invariant in told
 
-pub returns-then-self-is_over-clause-grows : goal.returns-then-self-is_over-clause-grows
-returns-then-self-is_over-clause-grows g c = let (told, voice, gone, once, grows, owes) = c.loop.invariant in grows
+pub returns-then-is_over-leaves-clause-grows : goal.returns-then-is_over-leaves-clause-grows
+returns-then-is_over-leaves-clause-grows g c = let (told, voice, gone, once, grows, owes) = c.loop.invariant in grows
 
-pub returns-then-self-is_over-clause-gone : goal.returns-then-self-is_over-clause-gone
-returns-then-self-is_over-clause-gone g c = let (told, voice, gone, once, grows, owes) = c.loop.invariant in c.now-self.ensures ∙ gone
+pub returns-then-is_over-leaves-clause-gone : goal.returns-then-is_over-leaves-clause-gone
+returns-then-is_over-leaves-clause-gone g c = let (told, voice, gone, once, grows, owes) = c.loop.invariant in c.now-self.ensures ∙ gone
 
 pub returns-in-Err-clause-same : goal.returns-in-Err-clause-same
 returns-in-Err-clause-same g c = let (told, voice, gone, once, grows, owes) = c.loop.invariant in (c.listen_for.ensures.same.0 ∙ voice, c.listen_for.ensures.same.1 ∙ once)

@@ -46,23 +46,23 @@ loop-round-preserved g c =
       λ start owed. same-keeps _ _ _ _ _ _ c.look.ensures.same.2 start _ (c.in-Ok-turn.ensures.owes start (c.in-Ok.ensures.owes start (owes start owed))),
     )
 
-pub returns-then-self-is_over-clause-owes : goal.returns-then-self-is_over-clause-owes
-returns-then-self-is_over-clause-owes g c = let (told, voice, gone, once, grows, owes) = c.loop-round.invariant in owes
+pub returns-then-is_over-self-clause-owes : goal.returns-then-is_over-self-clause-owes
+returns-then-is_over-self-clause-owes g c = let (told, voice, gone, once, grows, owes) = c.loop-round.invariant in owes
 
 pub returns-clause-owes : goal.returns-clause-owes
 returns-clause-owes g c = let (told, voice, gone, once, grows, owes) = c.loop-round.invariant in owes
 
-pub returns-then-self-is_over-clause-same : goal.returns-then-self-is_over-clause-same
-returns-then-self-is_over-clause-same g c = let (told, voice, gone, once, grows, owes) = c.loop-round.invariant in (voice, once)
+pub returns-then-is_over-self-clause-same : goal.returns-then-is_over-self-clause-same
+returns-then-is_over-self-clause-same g c = let (told, voice, gone, once, grows, owes) = c.loop-round.invariant in (voice, once)
 
-pub returns-then-self-is_over-clause-tells : goal.returns-then-self-is_over-clause-tells
-returns-then-self-is_over-clause-tells g c = let (told, voice, gone, once, grows, owes) = c.loop-round.invariant in told
+pub returns-then-is_over-self-clause-tells : goal.returns-then-is_over-self-clause-tells
+returns-then-is_over-self-clause-tells g c = let (told, voice, gone, once, grows, owes) = c.loop-round.invariant in told
 
-pub returns-then-self-is_over-clause-grows : goal.returns-then-self-is_over-clause-grows
-returns-then-self-is_over-clause-grows g c = let (told, voice, gone, once, grows, owes) = c.loop-round.invariant in grows
+pub returns-then-is_over-self-clause-grows : goal.returns-then-is_over-self-clause-grows
+returns-then-is_over-self-clause-grows g c = let (told, voice, gone, once, grows, owes) = c.loop-round.invariant in grows
 
-pub returns-then-self-is_over-clause-gone : goal.returns-then-self-is_over-clause-gone
-returns-then-self-is_over-clause-gone g c = let (told, voice, gone, once, grows, owes) = c.loop-round.invariant in gone
+pub returns-then-is_over-self-clause-gone : goal.returns-then-is_over-self-clause-gone
+returns-then-is_over-self-clause-gone g c = let (told, voice, gone, once, grows, owes) = c.loop-round.invariant in gone
 
 pub returns-in-Err-clause-same : goal.returns-in-Err-clause-same
 returns-in-Err-clause-same g c = let (told, voice, gone, once, grows, owes) = c.loop-round.invariant in (c.listen_until.ensures.same.0 ∙ voice, c.listen_until.ensures.same.1 ∙ once)

@@ -1,7 +1,7 @@
 use Rattle.std.proofs.Common.{refl, ◌∙◌}
 use Rattle.udp_runs.proofs.TellsBeforeOffers.{sent-so}
-use Rattle.udp_runs.proofs.calls.send.Goals.{in-Ok, in-Err}
-use Rattle.udp_runs.proofs.calls.send.Goals as goal
+use Rattle.udp_runs.proofs.calls.send_numbered.Goals.{in-Ok, in-Err}
+use Rattle.udp_runs.proofs.calls.send_numbered.Goals as goal
 
 pub returns-clause-called : goal.returns-clause-called
 returns-clause-called g c group =
