@@ -18,3 +18,4 @@ pub mod Carrying
 pub mod Scripts
 pub mod Playing
 pub mod Members
+pub mod Searching

@@ -5,6 +5,7 @@ ghost use Rattle.std.specs.Option.{option_copied};
 ghost use Rattle.member.specs.declared.error.Error.{Error};
 ghost use Rattle.udp_net.specs.Logs.{Lists};
 ghost use Rattle.udp_runs.specs.Calls.{MakesCall};
+ghost use Rattle.udp_runs.specs.Searching.{followed};
 ghost use Rattle.udp_runs.specs.Telling.{Quietly};
 ghost use Rattle.udp_runs.specs.Said.{AreSame, MaySay, says_nothing};
 
@@ -14,8 +15,9 @@ use crate::lone::{LoneNode, unless_memory};
 use address::Address;
 use application::Application;
 use channel::Channel;
-use node_finding::{Finder, Standing, Step, Whereabouts, milliseconds};
+use node_finding::{Finder, Lineage, Standing, Step, Whereabouts, milliseconds};
 use std::alloc::Global;
+use trace_props::Event;
 use udp_member::Runner;
 use udp_net::{MOST_NODES, Net, Settings};
 
@@ -35,12 +37,32 @@ pub(crate) fn say_nothing<N: Net, C: Application>(
     unless_memory(answer)
 }
 
-// Where the member of a channel is.
-pub(crate) fn whereabouts<C: Application>(channel: &Channel<C>) -> Whereabouts {
+// What a member saw of the history of its view, after an event of its own.
+pub(crate) fn follow(lineage: &mut Lineage, event: &Event)
+    ensures { lineage.new ≡ followed event.now lineage.old }
+{
+    match event {
+        Event::Delivered(delivery) => lineage.deliver(delivery.view),
+        Event::Installed(boxed) => {
+            let install = boxed.get();
+            let view = install.view.id();
+            if install.given.is_some() {
+                lineage.enter(view);
+            } else {
+                lineage.install(view);
+            }
+        }
+        _ => (),
+    }
+}
+
+// Where the member of a channel is, and what it saw of the history there.
+pub(crate) fn whereabouts<C: Application>(channel: &Channel<C>, lineage: Lineage) -> Whereabouts {
     let view = match channel.view() {
         Some(view) => Some(Standing {
             view: view.id(),
             members: view.members().len(),
+            lineage,
         }),
         None => None,
     };
@@ -75,7 +97,7 @@ impl<'a, N: Net, C: Application> LoneNode<'a, N, C> {
             return Ok(());
         }
         let now = milliseconds(self.time);
-        let at = whereabouts(self.member.channel_ref());
+        let at = whereabouts(self.member.channel_ref(), self.teller.lineage);
         let step = self.finder.step(now, &at, self.member.net_ref().words());
         say(self.member.net(), &self.finder, self.round, now, at.own);
         let call = match step {

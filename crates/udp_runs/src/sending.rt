@@ -21,7 +21,7 @@ use crate::{LineTrouble, Lines, LinesError, Notice, Tally};
 use address::{Bytes, ViewId};
 use application::Application;
 use channel::Channel;
-use node_finding::Standing;
+use node_finding::{Lineage, Standing};
 use std::alloc::Global;
 use udp_net::Net;
 use vsync_text::{Fault, Unheard};
@@ -116,7 +116,7 @@ pub(crate) fn take_lines<L: Lines>(
 
 // The view of a channel, where it has too few members to send in it.
 pub(crate) fn few_in<C: Application>(channel: &Channel<C>, quorum: u32) -> Option<Standing> {
-    match whereabouts(channel).view {
+    match whereabouts(channel, Lineage::new()).view {
         Some(standing) if standing.members < quorum as usize => Some(standing),
         _ => None,
     }

@@ -9,10 +9,12 @@ ghost use Rattle.udp_runs.specs.OwnLines.{InState, texts_of as own_texts};
 ghost use Rattle.udp_runs.specs.Telling.{AppendsSaid, AppendsTurn, Shown, ThenOffers, Writes, WritesTurn};
 ghost use Rattle.udp_runs.specs.Texts.{Happens, texts_of};
 ghost use Rattle.udp_runs.specs.Came.{KeepsUnsaid};
+ghost use Rattle.udp_runs.specs.Searching.{followed};
 ghost use Rattle.udp_runs.specs.Unsaid.{noted};
 
 use crate::ends::{Cut, settle};
 use crate::process::append_state_of;
+use crate::searching::follow;
 use crate::speaking::Speaker;
 use crate::stable_lines::append_stable;
 use crate::unsaid::Unsaid;
@@ -20,6 +22,7 @@ use crate::{Lines, NodeManner, Tally};
 use address::{Address, ViewId};
 use application::Application;
 use channel::Channel;
+use node_finding::Lineage;
 use std::alloc::{AllocError, Global};
 use std::io::Write;
 use trace_props::Event;
@@ -49,6 +52,8 @@ pub(crate) struct Teller {
     pub tally: Tally,
     /// What its node sent and has not seen delivered.
     pub unsaid: Unsaid,
+    /// What its member saw of the history of its view.
+    pub lineage: Lineage,
     // The view of which it told last how many messages are stable, and how many.
     known_view: Option<ViewId>,
     known: u64,
@@ -63,6 +68,7 @@ impl Drop for Teller {
             is_blocked: _,
             tally: _,
             unsaid: _,
+            lineage: _,
             known_view: _,
             known: _,
         } = self;
@@ -131,6 +137,7 @@ impl Teller {
             is_blocked: false,
             tally: Tally::new(),
             unsaid: Unsaid::new(alloc),
+            lineage: Lineage::new(),
             known_view: None,
             known: 0,
         }
@@ -209,8 +216,10 @@ impl Teller {
         ensures err { self.old.voice.speaks ≡ false → OnErr result (self.new.text.items ≡ self.old.text.items) }
         ensures voice { self.new.voice ≡ self.old.voice }
         ensures unsaid { OnOk result (self.new.unsaid ≡ noted event.now self.old.unsaid) }
+        ensures lineage { self.new.lineage ≡ followed event.now self.old.lineage }
     {
         count(&mut self.tally, event);
+        follow(&mut self.lineage, event);
         self.unsaid.note(event)?;
         if self.voice.speaks {
             self.speaker.append(&mut self.text, event)
