@@ -94,28 +94,29 @@ fn says_both_versions(rt: HostRuntime) {
 
 #[test]
 fn hears_both_versions(rt: HostRuntime) {
-    let (first, second) = (word(WordVersion::First, 0), word(WordVersion::Second, 2));
+    let found = kept(&rt, &[FIRST]);
     assert!(rt;
-        kept(&rt, &[FIRST]) == Some(first),
+        found == Some(word(WordVersion::First, 0)),
         "one of version 1 is read"
     );
+    let found = kept(&rt, &[SECOND]);
     assert!(rt;
-        kept(&rt, &[SECOND]) == Some(second),
+        found == Some(word(WordVersion::Second, 2)),
         "one of version 2 is read"
     );
+    let found = kept(&rt, &[FIRST, SECOND]);
     assert!(rt;
-        kept(&rt, &[FIRST, SECOND]) == Some(second),
+        found == Some(word(WordVersion::Second, 2)),
         "version 2 counts"
     );
+    let found = kept(&rt, &[SECOND, LATER]);
     assert!(rt;
-        kept(&rt, &[SECOND, LATER]) == Some(second),
+        found == Some(word(WordVersion::Second, 2)),
         "version 2 stays"
     );
-    let again = kept(&rt, &[SECOND, AGAIN]);
-    assert!(rt;
-        again.is_some_and(|word| word.version == WordVersion::First),
-        "a later start counts"
-    );
+    let found = kept(&rt, &[SECOND, AGAIN]);
+    let is_first = found.is_some_and(|word| word.version == WordVersion::First);
+    assert!(rt; is_first, "one of a later start counts, of either version");
     let absurd = hearing(&rt, &[ABSURD]);
     assert_eq!(rt;
         absurd.strange(),
