@@ -57,7 +57,7 @@ fn deliver_led<R: Receiver>(world: &mut World<R>, node: Node) -> Result<(), Allo
     Ok(())
 }
 
-/// The same at the node of a number.
+/// Does so at the node of a number.
 fn deliver_at<R: Receiver>(world: &mut World<R>, number: u16) -> Result<(), AllocError>
     requires { 1 ≤ number }
     ensures ok { OnOk result (DeliversAt R.meaning number (shown world.old) (shown world.new)) }
@@ -70,7 +70,7 @@ fn deliver_at<R: Receiver>(world: &mut World<R>, number: u16) -> Result<(), Allo
     }
 }
 
-/// Delivers everything that was sent in each calm view, by the node of its coordinator.
+/// Delivers everything that was sent in each calm view, in the order of the nodes of their coordinators.
 fn deliver_everywhere<R: Receiver>(world: &mut World<R>) -> Result<(), AllocError>
     ensures ok { OnOk result (AtEachNode (DeliversAt R.meaning) (shown world.old) GREATEST_NODE (shown world.new)) }
     ensures longer { IsLonger world.old.history world.new.history }
@@ -82,7 +82,7 @@ fn deliver_everywhere<R: Receiver>(world: &mut World<R>) -> Result<(), AllocErro
     Ok(())
 }
 
-/// The same if it is asked for.
+/// Does so if it is asked for.
 fn deliver_if<R: Receiver>(world: &mut World<R>, delivers: bool) -> Result<(), AllocError>
     ensures ok { OnOk result (MatchBool delivers (AtEachNode (DeliversAt R.meaning) (shown world.old) GREATEST_NODE (shown world.new)) (shown world.new ≡ shown world.old)) }
     ensures longer { IsLonger world.old.history world.new.history }
