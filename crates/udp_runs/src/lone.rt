@@ -94,7 +94,7 @@ fn has_more(
 }
 
 // What a channel answered to a call by which nothing is sent.
-fn left_by(answer: Result<(), Error>) -> Result<(), Cut> {
+pub(crate) fn left_by(answer: Result<(), Error>) -> Result<(), Cut> {
     unless_memory(answer)?;
     Ok(())
 }

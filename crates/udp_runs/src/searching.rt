@@ -12,7 +12,8 @@ ghost use Rattle.udp_runs.specs.Said.{AreSame, MaySay, says_nothing};
 use crate::calls::{Call, do_call};
 use crate::Notice;
 use crate::ends::Cut;
-use crate::lone::{LoneNode, unless_memory};
+use crate::lone::{LoneNode, left_by};
+use crate::watch::Watch;
 use address::Address;
 use application::Application;
 use channel::Channel;
@@ -35,8 +36,7 @@ pub(crate) fn say_nothing<N: Net, C: Application>(
 {
     let group = settings.group();
     let answer = do_call(alloc, member, group.as_slice(), call)?;
-    unless_memory(answer)?;
-    Ok(())
+    left_by(answer)
 }
 
 // What a member saw of the history of its view, after an event of its own.
@@ -71,6 +71,13 @@ pub(crate) fn whereabouts<C: Application>(channel: &Channel<C>, lineage: Lineage
     Whereabouts {
         own: channel.address(),
         view,
+    }
+}
+
+// Notes that a node found nobody, if it makes a group.
+fn note_alone(watch: &mut Watch, call: &Call<'_>) {
+    if matches!(call, Call::Create) {
+        watch.note(Notice::FoundNobody);
     }
 }
 
@@ -112,9 +119,7 @@ impl<'a, N: Net, C: Application> LoneNode<'a, N, C> {
             }
         };
         let said = say_nothing(self.alloc, &mut self.member, settings, &call);
-        if matches!(call, Call::Create) {
-            self.watch.note(Notice::FoundNobody);
-        }
+        note_alone(&mut self.watch, &call);
         said
     }
 }

@@ -14,4 +14,4 @@ pub returns-in-Again-clause-drives : goal.returns-in-Again-clause-drives
 returns-in-Again-clause-drives g c start later = quiet-by _ _ _ _ c.args.settings.now.group _ _ _ (Wait _ (rw c.net.ensures.value at c.say.ensures) refl) refl tt
 
 pub returns-clause-drives : goal.returns-clause-drives
-returns-clause-drives g c start later = quiet-then _ _ _ _ _ _ _ _ (quiet-by _ _ _ _ c.args.settings.now.group _ _ _ (Wait _ (rw c.net.ensures.value at c.say.ensures) refl) refl tt) (c.say_nothing.ensures.drives (option_copied c.args.self.now.once) start later)
+returns-clause-drives g c start later = quiet-then _ _ _ _ _ _ _ _ (quiet-by _ _ _ _ c.args.settings.now.group _ _ _ (Wait _ (rw c.net.ensures.value at c.say.ensures) refl) refl tt) (c.say_nothing-said.ensures.drives (option_copied c.args.self.now.once) start later)

@@ -2,7 +2,7 @@ use Rattle.std.proofs.Common.{refl}
 use Rattle.law_runners.specs.Runs.{Listen}
 use Rattle.udp_runs.proofs.NodesTell.{quiet-none, quiet-by, quiet-then}
 use Rattle.udp_runs.proofs.LinesOwed.{filled-owes, on-any}
-use Rattle.udp_runs.proofs.LinesKept.{fills-earlier, earlier-refl}
+use Rattle.udp_runs.proofs.LinesKept.{fills-earlier}
 use Rattle.udp_runs.proofs.lone.LoneNode.listen.Goals as goal
 
 pub returns-in_err-take_lines-clause-drives : goal.returns-in_err-take_lines-clause-drives
@@ -12,10 +12,10 @@ pub returns-in_err-has_sent-clause-drives : goal.returns-in_err-has_sent-clause-
 returns-in_err-has_sent-clause-drives g c group start later owed earlier = c.send_lines.ensures.drives group start _ later (filled-owes _ _ _ _ _ _ _ c.in_ok-take_lines.ensures refl owed) earlier
 
 pub returns-in_err-has_written-clause-drives : goal.returns-in_err-has_written-clause-drives
-returns-in_err-has_written-clause-drives g c group start later owed earlier = ?
+returns-in_err-has_written-clause-drives g c group start later owed earlier = quiet-then _ _ _ _ group _ _ _ (c.send_lines.ensures.drives group start _ later (filled-owes _ _ _ _ _ _ _ c.in_ok-take_lines.ensures refl owed) (rw c.send_writes.ensures.came at earlier)) (rw c.send_lines.ensures.same.1 at c.send_writes.ensures.drives group start later (c.in_ok-has_sent.ensures.owes start _ (filled-owes _ _ _ _ _ _ _ c.in_ok-take_lines.ensures refl owed)) earlier)
 
 pub returns-clause-drives : goal.returns-clause-drives
-returns-clause-drives g c group start later owed earlier = ?
+returns-clause-drives g c group start later owed earlier = quiet-then _ _ _ _ group _ _ _ (quiet-then _ _ _ _ group _ _ _ (c.send_lines.ensures.drives group start _ later (filled-owes _ _ _ _ _ _ _ c.in_ok-take_lines.ensures refl owed) (rw c.send_writes.ensures.came at earlier)) (rw c.send_lines.ensures.same.1 at c.send_writes.ensures.drives group start later (c.in_ok-has_sent.ensures.owes start _ (filled-owes _ _ _ _ _ _ _ c.in_ok-take_lines.ensures refl owed)) earlier)) (quiet-by _ _ _ _ group _ _ _ (Listen _ _ c.listen-heard.ensures) refl tt)
 
 pub returns-in_err-take_lines-clause-grows : goal.returns-in_err-take_lines-clause-grows
 returns-in_err-take_lines-clause-grows g c = fills-earlier _ _ _ _ _ c.take_lines.ensures
