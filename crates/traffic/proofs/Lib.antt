@@ -17,3 +17,5 @@ mod OthersDeliver
 mod RangesHeld
 pub mod ActsOfAnswers
 pub mod NewViewTraffic
+pub mod Covered
+pub mod GoesFurther

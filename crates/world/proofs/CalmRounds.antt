@@ -51,8 +51,8 @@ use Rattle.world.proofs.Groups
 use Rattle.world.proofs.Groups.{slice_get-there}
 use Rattle.world.proofs.HearsAll
 use Rattle.world.proofs.LevelsMore
-use Rattle.world.proofs.Covered.{Covered, low-covered, find-covers, waits-at, all_ordered, total, at-most, at-least, all-of, all-total}
-use Rattle.world.proofs.GoesFurther.{Further, further-then, stable-least, full-or-none, all-ordered}
+use Rattle.traffic.proofs.Covered.{Covered, low-covered, find-covers, waits-at, all_ordered, total, at-most, at-least, all-of, all-total}
+use Rattle.traffic.proofs.GoesFurther.{Further, further-then, stable-least, full-or-none, all-ordered}
 
 -- ---- a view's list
 

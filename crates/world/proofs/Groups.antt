@@ -42,7 +42,7 @@ use Rattle.world.specs.Gaps.{is_open_in}
 use Rattle.world.specs.Calm.{AllOpen}
 use Rattle.world.proofs.CatchUpLevels
 use Rattle.world.proofs.CatchUpStops.{open-run}
-use Rattle.world.proofs.FewOutstanding
+use Rattle.world_model.proofs.FewOutstanding
 use Rattle.world.proofs.MembersAtNodes
 use Rattle.world.proofs.MembersAsSystem.{system_of}
 use Rattle.world.proofs.RepliesPlayed

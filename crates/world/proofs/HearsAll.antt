@@ -47,9 +47,9 @@ use Rattle.world.specs.Calm.{Speaks, AllSpeak}
 use Rattle.world.specs.Calm.AllSpeak.{NobodySpeaks, NextSpeaks}
 use Rattle.trace_props.specs.Observed.{sent_in}
 use Rattle.world.proofs.CatchUpLevels
-use Rattle.world.proofs.Covered.{Covered, offered-is, low-covered}
+use Rattle.traffic.proofs.Covered.{Covered, offered-is, low-covered}
 use Rattle.world.proofs.Deliveries.{delivers-none, delivers-next}
-use Rattle.world.proofs.GoesFurther.{Further, still, further-then, queued-further, acknowledged-further, turns-further, noted-here}
+use Rattle.traffic.proofs.GoesFurther.{Further, still, further-then, queued-further, acknowledged-further, turns-further, noted-here}
 use Rattle.world.proofs.Groups
 use Rattle.world.proofs.InputsTaken.{when-true}
 use Rattle.world.proofs.KeepOfWorlds

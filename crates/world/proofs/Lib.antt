@@ -67,9 +67,6 @@ pub mod CatchUpStops
 pub mod PairsAreOpen
 pub mod CatchUpIsRun
 pub mod SettlingIsTold
-pub mod Covered
-pub mod GoesFurther
-pub mod FewOutstanding
 pub mod Groups
 pub mod HearsAll
 pub mod LevelsMore

@@ -19,7 +19,7 @@ use Rattle.traffic.specs.Coordinators.{queued, after_one, acknowledged}
 use Rattle.traffic.specs.Turns.{turned, TurnsTo}
 use Rattle.traffic.specs.Turns.TurnsTo.{Starts, Turns}
 use Rattle.traffic.specs.ViewStates.{senders_of, ordered_of}
-use Rattle.world.proofs.Covered.{Covered, covered-offered, covered-served, all_ordered, one-ordered-more, offered-ordered, none-covered, rest-distinct, EachQueue}
+use Rattle.traffic.proofs.Covered.{Covered, covered-offered, covered-served, all_ordered, one-ordered-more, offered-ordered, none-covered, rest-distinct, EachQueue}
 
 -- ---- counts
 
