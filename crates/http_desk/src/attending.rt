@@ -98,9 +98,10 @@ impl Desk {
             return Reply::plain(self.alloc, StatusCode::SERVICE_UNAVAILABLE);
         };
         match self.rendering(at) {
-            Ok(shared) => self.of_copy(
-                Reply::sharing(self.alloc, shared).since(self.alloc, self.changes.last),
-            ),
+            Ok(shared) => self.of_copy(Reply::sharing(self.alloc, shared).since(
+                self.alloc,
+                self.changes.last,
+            )),
             Err(_) => Reply::plain(self.alloc, StatusCode::SERVICE_UNAVAILABLE),
         }
     }
@@ -208,10 +209,7 @@ impl Desk {
         if let Some(asked) = &client.asked {
             let found = if client.is_reserved && !Desk::is_for_all(asked) {
                 client.is_last = true;
-                Found::Reply(Reply::plain(
-                    self.alloc,
-                    StatusCode::SERVICE_UNAVAILABLE,
-                ))
+                Found::Reply(Reply::plain(self.alloc, StatusCode::SERVICE_UNAVAILABLE))
             } else {
                 self.find(asked)
             };

@@ -1,12 +1,12 @@
 //! A connection. Its requests are read ahead by one `Connection`, and answered by another one that is given the same bytes: what the second one sends are answers to
 //! the requests that came, whatever the first one makes of them.
 
-use crate::{IDLE, RESERVED_IDLE};
 use crate::accepting::Caller;
 use crate::kept::Keeps;
 use crate::reply::Reply;
 use crate::request::Asked;
 use crate::services::{Answered, Giving, Noting};
+use crate::{IDLE, RESERVED_IDLE};
 use http_server::{Config, Connection};
 use mio::net::TcpStream;
 use std::alloc::{AllocError, Global};
@@ -24,6 +24,7 @@ const READ: usize = 8_192;
 
 /// The most bytes that are written at once, and how often at most before others have their turn.
 const WRITE: usize = 65_536;
+
 const WRITES: u32 = 2;
 
 /// How many steps a connection has before others have theirs.

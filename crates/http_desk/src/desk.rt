@@ -298,13 +298,7 @@ impl Desk {
     }
 
     // Answers a ticket, if it is open still.
-    fn answer(
-        &mut self,
-        ticket: u64,
-        reply: Reply,
-        at: Option<Place>,
-        grants: Option<Vec<u8>>,
-    ) {
+    fn answer(&mut self, ticket: u64, reply: Reply, at: Option<Place>, grants: Option<Vec<u8>>) {
         if self.tickets.is_open(ticket) {
             self.tickets.settle(ticket);
             let pushed = self.replies.push(Answer {
@@ -336,11 +330,7 @@ impl Desk {
         };
         self.counts.write();
         let is_done = reply.status == StatusCode::OK;
-        let grants = if is_done {
-            self.granted(ticket)
-        } else {
-            None
-        };
+        let grants = if is_done { self.granted(ticket) } else { None };
         let is_stable = match self.orders.of(ticket) {
             Some(order) => order.is_stable,
             None => false,
@@ -457,7 +447,8 @@ impl Desk {
             Event::Delivered(delivery) if delivery.message.sender == self.own => {
                 let payload = delivery.message.payload.as_slice();
                 if let Some(name) = self.kept.released(self.alloc, payload)? {
-                    self.claims.retain(|claimed| claimed.as_slice() != name.as_slice());
+                    self.claims
+                        .retain(|claimed| claimed.as_slice() != name.as_slice());
                 }
             }
             Event::Installed(install) if install.get().given.is_some() => self.claims.clear(),

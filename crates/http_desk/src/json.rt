@@ -149,12 +149,7 @@ fn put_key(out: &mut Text, alloc: Global, map: &ReplicatedMap, key: &[u8]) {
 }
 
 /// Appends the keys of these changes of a map as an object, each once: with its value, or `null` if it has none.
-pub(crate) fn put_changes(
-    out: &mut Text,
-    alloc: Global,
-    map: &ReplicatedMap,
-    changes: &[Change],
-) {
+pub(crate) fn put_changes(out: &mut Text, alloc: Global, map: &ReplicatedMap, changes: &[Change]) {
     out.put(b"{");
     let mut is_first = true;
     for (i, change) in changes.iter().enumerate() {

@@ -9,8 +9,8 @@ ghost use Rattle.udp_runs.specs.Searching.{followed};
 ghost use Rattle.udp_runs.specs.Telling.{Quietly};
 ghost use Rattle.udp_runs.specs.Said.{AreSame, MaySay, says_nothing};
 
-use crate::calls::{Call, do_call};
 use crate::Notice;
+use crate::calls::{Call, do_call};
 use crate::ends::Cut;
 use crate::lone::{LoneNode, left_by};
 use crate::watch::Watch;

@@ -153,7 +153,11 @@ impl<'a, N: Net, C: Application> LoneNode<'a, N, C> {
             return Ok(());
         };
         let number = self.sends(&payload, Sent::First)?;
-        self.opened = if number.is_some() { Some(id) } else { self.opened };
+        self.opened = if number.is_some() {
+            Some(id)
+        } else {
+            self.opened
+        };
         Ok(())
     }
 

@@ -117,9 +117,9 @@ pub(crate) fn udp(rt: &HostRuntime, words: &UdpWords<'_>) -> Status {
 
 // The first of these peers whose host has no address now.
 fn unresolved<'a>(rt: &HostRuntime, peers: &[(Node, &'a str)]) -> Option<&'a str> {
-    for peer in peers {
-        if Hosts::resolve(rt.alloc(), rt, None, &[*peer]).is_err() {
-            return Some(peer.1);
+    for (node, host) in peers {
+        if Hosts::resolve(rt.alloc(), rt, None, &[(*node, *host)]).is_err() {
+            return Some(*host);
         }
     }
     None
