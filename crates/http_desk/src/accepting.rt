@@ -100,6 +100,16 @@ impl Door {
         false
     }
 
+    /// Whether the last look found that the peer of an id sends nothing more.
+    pub(crate) fn has_hung_up(&self, id: usize) -> bool {
+        for event in self.events.iter() {
+            if (event.token().0 == id) & event.is_read_closed() {
+                return true;
+            }
+        }
+        false
+    }
+
     /// The next connection.
     pub(crate) fn accept(&mut self) -> Option<Caller> {
         let Ok((mut stream, _from)) = self.listener.accept() else {

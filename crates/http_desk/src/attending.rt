@@ -3,7 +3,6 @@
 ghost use Rattle.replicated_map.specs.Entries.{held_of};
 ghost use Rattle.http_desk.specs.Replies.{AnswersValue};
 
-use crate::PATIENCE;
 use crate::changes::Change;
 use crate::client::{Client, Found, Hold, Step};
 use crate::desk::{Answer, Desk, taken};
@@ -14,6 +13,7 @@ use crate::page::page;
 use crate::reply::{Media, Reply};
 use crate::request::{Asked, Order};
 use crate::status::status;
+use crate::{PATIENCE, TOLD_CHANGES};
 use bytes::Bytes;
 use http::StatusCode;
 use replicated_map::ReplicatedMap;
@@ -23,8 +23,8 @@ use std::time::Duration;
 use tickets::{End, Place, Reach, reach_of};
 use vsync_text::Text;
 
-/// How many requests of a connection are answered before others have their turn.
-const REQUESTS: u32 = 16;
+/// How many requests of a connection are answered before others have their turn: an answer takes up to half a millisecond.
+const REQUESTS: u32 = 2;
 
 // The value of a key of the map.
 fn value_reply(alloc: Global, map: &ReplicatedMap, key: &[u8]) -> Reply
@@ -57,11 +57,6 @@ impl Desk {
             None => Reply::plain(self.alloc, StatusCode::NOT_FOUND),
         };
         self.of_copy(reply)
-    }
-
-    // Something of what is kept, whose tag is the place of the last change of the map.
-    fn of_kept(&self, body: Text) -> Reply {
-        self.of_copy(whole(Media::Json, body).since(self.alloc, self.changes.last))
     }
 
     // All that is kept, as JSON.
@@ -106,13 +101,18 @@ impl Desk {
         }
     }
 
-    // The keys of these changes, with what each has now.
+    // The keys of the first of these changes, with what each has now; its tag is the place of the last one that it tells, behind which the next answer goes on.
     fn changed(&self, changes: &[Change]) -> Reply {
+        let told = changes.get(..TOLD_CHANGES).unwrap_or(changes);
         let mut body = Text::new(self.alloc);
         if let Some(map) = self.kept.map() {
-            put_changes(&mut body, self.alloc, map, changes);
+            put_changes(&mut body, self.alloc, map, told);
         }
-        self.of_kept(body)
+        let last = match told.last() {
+            Some(change) => Some(change.tag),
+            None => self.changes.last,
+        };
+        self.of_copy(whole(Media::Json, body).since(self.alloc, last))
     }
 
     // A lock.
@@ -213,7 +213,7 @@ impl Desk {
             } else {
                 self.find(asked)
             };
-            client.give(found);
+            client.give(found, self.now);
         }
     }
 
@@ -312,7 +312,8 @@ impl Desk {
                 return Step::Over;
             }
             let hold = replace(&mut client.hold, Hold::Nothing);
-            client.give(self.await_one(hold));
+            let found = self.await_one(hold);
+            client.give(found, self.now);
             if client.is_held() {
                 return Step::Rests;
             }

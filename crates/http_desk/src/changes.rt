@@ -7,7 +7,7 @@ use tickets::Place;
 /// A change: the place behind which it stands, and its key.
 #[derive(Drop)]
 pub(crate) struct Change {
-    tag: Place,
+    pub(crate) tag: Place,
     pub(crate) key: Vec<u8>,
 }
 

@@ -121,8 +121,10 @@ pub(crate) struct Client {
     is_readable: bool,
     // Whether it was looked, since its socket was ready last, whether its peer has gone.
     is_looked_at: bool,
-    /// When something was last read.
-    pub(crate) heard: Duration,
+    /// When something was last read or written, or its peer was last given what it waited for.
+    heard: Duration,
+    // Whether its peer sends nothing more.
+    has_hung_up: bool,
     buffer: Vec<u8>,
 }
 
@@ -144,6 +146,7 @@ impl Drop for Client {
             is_readable: _,
             is_looked_at: _,
             heard: _,
+            has_hung_up: _,
             buffer: _,
         } = self;
     }
@@ -214,26 +217,28 @@ impl Client {
             is_readable: true,
             is_looked_at: false,
             heard: now,
+            has_hung_up: false,
             buffer,
         })
     }
 
-    /// Its socket is ready for something.
-    pub(crate) fn wake(&mut self) {
+    /// Its socket is ready for something; or its peer sends nothing more.
+    pub(crate) fn wake(&mut self, has_hung_up: bool) {
+        self.has_hung_up |= has_hung_up;
         self.is_due = true;
         self.is_readable = true;
         self.is_looked_at = false;
     }
 
     // Writes what waits, as much as may go in one turn; answers what is next, unless all of it went.
-    fn flush(&mut self) -> io::Result<Option<Step>> {
+    fn flush(&mut self, now: Duration) -> io::Result<Option<Step>> {
         for _ in 0..WRITES {
             if !self.server.connection.wants_write() {
                 return Ok(None);
             }
             match write_piece(&mut self.server.connection, &mut self.stream) {
                 Ok(0) => return Err(ErrorKind::WriteZero.into()),
-                Ok(_) => (),
+                Ok(_) => self.heard = now,
                 Err(error) if error.kind() == ErrorKind::WouldBlock => return Ok(Some(Step::Rests)),
                 Err(error) => return Err(error),
             }
@@ -288,7 +293,7 @@ impl Client {
 
     // One step; `None` if it goes on.
     fn step(&mut self, now: Duration) -> io::Result<Option<Step>> {
-        if let Some(step) = self.flush()? {
+        if let Some(step) = self.flush(now)? {
             return Ok(Some(step));
         }
         if self.is_last | self.server.connection.is_done() {
@@ -335,7 +340,13 @@ impl Client {
 
     /// Whether its peer has gone while it waits: there is nothing more to read, and there will not be.
     pub(crate) fn has_gone(&mut self) -> bool {
-        if !self.is_held() | !self.is_readable | self.is_looked_at {
+        if !self.is_held() {
+            return false;
+        }
+        if self.has_hung_up {
+            return true;
+        }
+        if !self.is_readable | self.is_looked_at {
             return false;
         }
         match self.stream.peek(self.buffer.as_mut_slice()) {
@@ -372,11 +383,12 @@ impl Client {
     }
 
     /// It waits for nothing, and is given what there is for it: the answer to what it asked, which `go_on` sends, or what it waits for.
-    pub(crate) fn give(&mut self, found: Found) {
+    pub(crate) fn give(&mut self, found: Found, now: Duration) {
         match found {
             Found::Hold(hold) => self.hold = hold,
             Found::Reply(reply) => {
                 if let Some(asked) = self.asked.take() {
+                    self.heard = now;
                     self.advance(Some(Answered { asked, reply }));
                 }
             }

@@ -56,6 +56,8 @@ pub(crate) struct Desk {
     /// All that is kept as JSON, at this place.
     pub(crate) rendered: Option<(Place, Bytes)>,
     last_ticket: u64,
+    /// The ticket of the command that was given to the node last, since the last turn, and of which it said nothing.
+    in_hand: Option<u64>,
     pub(crate) has_ended: bool,
     /// Whether it was asked that the node leaves.
     pub(crate) is_leaving: bool,
@@ -83,6 +85,7 @@ impl Drop for Desk {
             replies: _,
             rendered: _,
             last_ticket: _,
+            in_hand: _,
             has_ended: _,
             is_leaving: _,
             is_short: _,
@@ -151,6 +154,7 @@ impl Desk {
             replies: Vec::new(alloc),
             rendered: None,
             last_ticket: 0,
+            in_hand: None,
             has_ended: false,
             is_leaving: false,
             is_short: false,
@@ -168,6 +172,7 @@ impl Desk {
     /// Learns at a time how many messages are stable, and how many datagrams were dropped as strange.
     pub(crate) fn learn(&mut self, now: Duration, stable: Option<Place>, strange: u64) {
         self.now = now;
+        self.in_hand = None;
         self.strange = strange;
         if stable.is_some() {
             self.stable = stable;
@@ -227,6 +232,9 @@ impl Desk {
     // Another member of its node begins. What the last one sent is not heard of any more: others may have delivered it.
     fn begin_again(&mut self, member: Address) -> Result<(), AllocError> {
         self.own = member;
+        self.is_short = false;
+        self.drop_grants(None);
+        self.send_in_hand();
         self.kept = Kept::new(self.alloc, self.kept.keeps(), member)?;
         self.changes = Changes::new(self.alloc);
         self.counts.begin_again(member);
@@ -240,6 +248,7 @@ impl Desk {
     /// The node has ended: each open ticket ends, and no more is opened.
     pub(crate) fn end(&mut self) {
         self.has_ended = true;
+        self.send_in_hand();
         self.tickets.close();
         let dropped = self.drop_ended(false);
         self.note(dropped);
@@ -266,7 +275,7 @@ impl Desk {
     }
 
     /// The line of the next command that is to be sent, if there is one; an error if it ran out of memory for that, or for what it keeps.
-    pub(crate) fn next_write(&self) -> Result<Option<Vec<u8>>, AllocError> {
+    pub(crate) fn next_write(&mut self) -> Result<Option<Vec<u8>>, AllocError> {
         if self.is_short {
             return Err(AllocError);
         }
@@ -274,13 +283,25 @@ impl Desk {
             return Ok(None);
         };
         match self.orders.of(ticket) {
-            Some(order) => Ok(Some(Vec::from_slice(self.alloc, order.line.as_slice())?)),
+            Some(order) => {
+                let line = Vec::from_slice(self.alloc, order.line.as_slice())?;
+                self.in_hand = Some(ticket);
+                Ok(Some(line))
+            }
             None => Ok(None),
+        }
+    }
+
+    // What the node had in hand as it ended may have been sent.
+    fn send_in_hand(&mut self) {
+        if let Some(ticket) = self.in_hand.take() {
+            self.tickets.send(ticket);
         }
     }
 
     /// Notes that the command that `next_write` gave was sent as the message of a number; or that it says nothing that can be sent.
     pub(crate) fn wrote(&mut self, number: Option<u64>) {
+        self.in_hand = None;
         let Some(ticket) = self.tickets.next() else {
             return;
         };
@@ -438,9 +459,23 @@ impl Desk {
         false
     }
 
+    // Answers that wait grant this lock no more; or none, where none is named.
+    fn drop_grants(&mut self, name: Option<&[u8]>) {
+        for answer in self.replies.iter_mut() {
+            let is_dropped = match (&answer.grants, name) {
+                (Some(granted), Some(name)) => granted.as_slice() == name,
+                (Some(_), None) => true,
+                (None, _) => false,
+            };
+            if is_dropped {
+                answer.grants = None;
+            }
+        }
+    }
+
     // A release of its own ends a claim, and another table all of them.
     fn drop_claims(&mut self, event: &Event) -> Result<(), AllocError> {
-        if self.claims.is_empty() {
+        if self.claims.is_empty() & self.replies.is_empty() {
             return Ok(());
         }
         match event {
@@ -449,9 +484,13 @@ impl Desk {
                 if let Some(name) = self.kept.released(self.alloc, payload)? {
                     self.claims
                         .retain(|claimed| claimed.as_slice() != name.as_slice());
+                    self.drop_grants(Some(name.as_slice()));
                 }
             }
-            Event::Installed(install) if install.get().given.is_some() => self.claims.clear(),
+            Event::Installed(install) if install.get().given.is_some() => {
+                self.claims.clear();
+                self.drop_grants(None);
+            }
             _ => (),
         }
         Ok(())
@@ -537,9 +576,12 @@ impl Desk {
                     Some(name) => Vec::from_slice(self.alloc, name)?,
                     None => continue,
                 };
-                self.tickets.settle(ticket);
-                self.orders.remove(ticket);
-                self.release_unwanted(name.as_slice())?;
+                // While others of the node ask for the lock, what comes of them decides.
+                if !self.orders.is_wanted(name.as_slice()) {
+                    self.tickets.settle(ticket);
+                    self.orders.remove(ticket);
+                    self.release_unwanted(name.as_slice())?;
+                }
             }
         }
         Ok(())

@@ -53,3 +53,6 @@ pub const EVENTS: usize = 200;
 
 /// How many of the map's last changes a node remembers for those who ask what changed.
 pub const CHANGES: usize = 1_000;
+
+/// How many changes an answer tells at most: who asks goes on behind them.
+pub const TOLD_CHANGES: usize = 64;

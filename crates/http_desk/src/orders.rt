@@ -104,11 +104,6 @@ impl Orders {
         self.entries.retain(|entry| entry.ticket != ticket);
     }
 
-    /// Forgets all commands.
-    pub(crate) fn clear(&mut self) {
-        self.entries.clear();
-    }
-
     /// How many commands there are.
     pub(crate) fn len(&self) -> usize {
         self.entries.len()

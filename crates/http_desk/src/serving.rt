@@ -53,6 +53,17 @@ fn give_turns(desk: &mut Desk, clients: &mut Vec<Client>) -> bool {
     has_more
 }
 
+// How many connections are for a few requests alone.
+fn count_reserved(clients: &[Client]) -> usize {
+    let mut count = 0usize;
+    for client in clients {
+        if client.is_reserved {
+            count = count.saturating_add(1);
+        }
+    }
+    count
+}
+
 // The tickets for whose answers connections wait.
 fn tickets_of(alloc: Global, clients: &[Client]) -> Result<Vec<u64>, AllocError> {
     let mut tickets = Vec::new(alloc);
@@ -137,13 +148,13 @@ impl HttpDesk {
 
     // Takes a connection, or tells it that it is one too many.
     fn welcome(&mut self, caller: Caller) -> Result<(), AllocError> {
-        let count = self.clients.len();
-        if count >= CLIENTS + RESERVED {
+        let reserved = count_reserved(self.clients.as_slice());
+        let is_reserved = self.clients.len() - reserved.min(self.clients.len()) >= CLIENTS;
+        if is_reserved & (reserved >= RESERVED) {
             caller.turn_away();
             return Ok(());
         }
         let keeps = self.desk.kept.keeps();
-        let is_reserved = count >= CLIENTS;
         let client = Client::new(
             self.alloc,
             self.keys,
@@ -163,14 +174,17 @@ impl HttpDesk {
         if self.door.look().is_ok() {
             for client in self.clients.iter_mut() {
                 if self.door.is_ready(client.id) {
-                    client.wake();
+                    client.wake(self.door.has_hung_up(client.id));
                 }
             }
         }
         self.desk.pass_time();
         let accepted = self.accept();
         self.desk.note(accepted);
+        let before = self.clients.len();
         let has_more = give_turns(&mut self.desk, &mut self.clients);
+        // Where connections ended, one that could not be accepted may be now.
+        self.door.has_callers |= self.clients.len() < before;
         match tickets_of(self.alloc, self.clients.as_slice()) {
             Ok(tickets) => self.desk.end_turn(tickets),
             Err(error) => self.desk.note(Err(error)),

@@ -214,7 +214,7 @@ impl<'a, 'b> NodeMachine for Watched<'a, 'b> {
             }
             Notice::FoundNobody => say(
                 rt,
-                "no other node of the group was found: this node makes a new group, without anything that was kept before",
+                "no view of the group was found: this node makes a new group, without anything that was kept before",
             ),
             Notice::TooFew(members) => {
                 let quorum = self.quorum;
