@@ -5,6 +5,7 @@ import hashlib
 import http.client
 import json
 import selectors
+import signal
 import socket
 import subprocess
 import time
@@ -21,6 +22,9 @@ PLACES, KEPT_PLACES = 64, 8
 OF_THE_NODE = ("/status", "/metrics", "/")
 # A full map: keys that each node puts, with values of this many bytes; and how many clients read it at once.
 KEYS, VALUE, READERS = 760, 400, 60
+# How many changes are followed, and how many an answer tells at most (`http_desk::TOLD_CHANGES`).
+CHANGED = 400
+TOLD = 64
 TRIES = 3
 
 
@@ -284,7 +288,69 @@ def gone_waiters(group):
         expect(until(lambda: is_free(group, name), 3), f"gone waiters: {name} is free in the end")
 
 
-# Large maps.
+def gone_waiters_with_more(group):
+    """A client that sends a second request behind its first, and goes away, has gone too: its request for a lock is withdrawn."""
+    name = "gone.more"
+    expect(group.ask(1, "POST", f"/locks/{name}")[0] == 200, "gone waiters with more: the first has it")
+    waits = group.begin(2, "POST", f"/locks/{name}")
+    expect(until(lambda: json.loads(group.ask(1, "GET", f"/locks/{name}")[1])["waiting"], 3), "gone waiters with more: it waits")
+    waits.sendall(b"GET /status HTTP/1.1\r\nHost: a\r\n\r\n")
+    time.sleep(0.2)
+    waits.close()
+    expect(until(lambda: not json.loads(group.ask(1, "GET", f"/locks/{name}")[1])["waiting"], 3), "gone waiters with more: nobody waits any more")
+    expect(group.ask(1, "DELETE", f"/locks/{name}")[0] == 200, "gone waiters with more: the first releases it")
+    expect(until(lambda: is_free(group, name), 3), "gone waiters with more: it is free in the end")
+
+
+def released_at_once(group):
+    """A lock that is taken and released while the node is stopped is claimed by nobody: a later client that waits for it and goes away does not keep it."""
+    name = "at.once"
+    group.processes[2].send_signal(signal.SIGSTOP)
+    takes = group.begin(2, "POST", f"/locks/{name}")
+    time.sleep(0.05)
+    releases = group.begin(2, "DELETE", f"/locks/{name}")
+    time.sleep(0.05)
+    group.processes[2].send_signal(signal.SIGCONT)
+    came = [http_clients.answer_on(one).status for one in (takes, releases)]
+    expect(came == [200, 200], f"released at once: the answers are {came}")
+    expect(group.ask(1, "POST", f"/locks/{name}")[0] == 200, "released at once: another node takes it")
+    waits = group.begin(2, "POST", f"/locks/{name}")
+    expect(until(lambda: json.loads(group.ask(1, "GET", f"/locks/{name}")[1])["waiting"], 3), "released at once: a client waits")
+    waits.close()
+    expect(until(lambda: not json.loads(group.ask(1, "GET", f"/locks/{name}")[1])["waiting"], 3), "released at once: nobody waits when it has gone")
+    expect(group.ask(1, "DELETE", f"/locks/{name}")[0] == 200, "released at once: it is released")
+    expect(until(lambda: is_free(group, name), 3), "released at once: it is free in the end")
+
+
+# Many changes, and large maps.
+
+def many_changes(group):
+    """A client that follows the map over hundreds of changes gets each of them, some at a time; many such clients at once hold up nobody."""
+    start = changes_path(group, 1)
+    keys = [f"many.{'x' * 40}.{number}" for number in range(CHANGED)]
+    connection = group.connect(1)
+    for key in keys:
+        connection.request("PUT", f"/map/{key}", b"1")
+        expect(connection.getresponse().read() == b"done\n", f"many changes: {key} is put")
+    connection.close()
+    path, seen, most = start, {}, 0
+    while not set(keys) <= set(seen):
+        status, body, answer = group.ask(1, "GET", path)
+        told = json.loads(body)
+        expect(status == 200 and told, f"many changes: {status}, {len(told)} keys, {len(seen)} seen before")
+        if status != 200 or not told:
+            break
+        most = max(most, len(told))
+        seen.update(told)
+        path = "/map?after=" + urllib.parse.quote(answer.getheader("etag"))
+    expect(most <= TOLD, f"many changes: an answer has {most} keys")
+    before = group.status(1)["view"]
+    begun = time.monotonic()
+    came = read_all(group, 1, READERS, start)
+    took = time.monotonic() - begun
+    expect({got[0] for got in came} == {b"200"} and len({got[1:] for got in came}) == 1, f"many changes: {READERS} clients get {set(came)}")
+    expect(took < 5 and group.status(1)["view"] == before, f"many changes: {READERS} clients at once took {took:.1f} s; the view was {before}, and is {group.status(1)['view']}")
+
 
 def read_all(group, node, count, path, seconds=60):
     """Sends a request on so many connections at once, and reads the answers as they come. Returns each answer's status, and the length and hash of its body."""
